@@ -2,10 +2,11 @@
 use Rattle.fbl_base.specs.declared.trace.Note.{Note}
 use Rattle.fbl_base.specs.declared.trace.Event.TheVariants as event
 use Rattle.fbl_base.specs.declared.trace.Mark.TheVariants as mark
-use Rattle.fbl_history.proofs.Common.{◌≡◌, ◌==◌, ◌+◌, ◌<◌, ◌⊎◌, ℕ, zero, suc, Bool, true, false, cond, inl, inr, List, [], ◌∷◌, ◌++◌, map, drop, Some, slice_get, refl, ap, sym, ◌∙◌, arith, filter, At-front, At-push}
-use Rattle.fbl_history.proofs.Common.{Event, mark_of, Next, GroupRecord, marks, IsSound, mark-at, send-at, sent-before, map-At, slice_get-map, option_map}
+use Rattle.fbl_history.proofs.Common.{◌≡◌, ◌==◌, ◌<◌, ℕ, zero, suc, Bool, true, false, cond, inl, inr, List, [], ◌∷◌, ◌++◌, drop, Some, slice_get, refl, ap, sym, ◌∙◌, arith, filter, At-front, At-push}
+use Rattle.fbl_history.proofs.Common.{Event, mark_of, Next, GroupRecord, marks, IsSound, filter-passes, mark-at, send-at, sent-before, map-At, slice_get-map, option_map}
 use Rattle.fbl_history.proofs.Common.{Column, Send, Receipt, ReceiptsMade, ReceiptsFollowSends, column_then, event_column, go_on, go_on_to, is_next, is_receipt, is_standing, receipts_made, standing, trace_columns, trace_then, undo}
 use Rattle.fbl_history.proofs.Standing.{columns_stand, standing_trace}
+use Rattle.fbl_history.proofs.Undoing.{stays_or_undone}
 
 -- what stands at a place is left by a test at some place, behind what is left before it
 left-at : (p : Column → Bool) (columns : List Column) (place : ℕ) (c : Column) → slice_get columns place ≡ Some c → p c ≡ true
@@ -27,68 +28,51 @@ left-at p (x ∷ columns) (suc place) c at passes = by (p x) refl (left-at p col
     earlier (suc i) d before at = (let found = rest.2 i d (omega (arith, before)) at in (suc found.0, omega (arith, found.1), found.2))
   by false is rest = (rest.0, rw is rest.1, λ i d before at. (let found = rest.2 i d before (rw is at at) in (suc found.0, omega (arith, found.1), found.2)))
 
--- what does not stand in what a history goes on to was there, undone or not
-abbrev WasThere : List Column → ℕ → Column → Type 0
-WasThere columns place c = (old : Column) × (slice_get columns place ≡ Some old) × ((c ≡ old) ⊎ (c ≡ undo old))
-
--- a column of the history is at its place behind, undone or not
-abbrev IsThere : List Column → ℕ → Column → Type 0
-IsThere columns place c = (new : Column) × (slice_get columns place ≡ Some new) × ((new ≡ c) ⊎ (new ≡ undo c))
-
 -- each column of the list stands
 abbrev AllStand : List Column → Type 0
 AllStand trace = (i : ℕ) (c : Column) → slice_get trace i ≡ Some c → is_standing c ≡ true
-
-then-or-undo : (column : Column) (trace : List Column) → (column_then column trace ≡ column) ⊎ (column_then column trace ≡ undo column)
-then-or-undo column trace = grind arith
 
 all-then : (column : Column) (trace : List Column) → AllStand trace → AllStand (trace_then column trace)
 all-then column [] all i c at = elim (is_next column []) as (λ b. slice_get (cond b (drop 1 []) []) i ≡ Some c → is_standing c ≡ true) [ true ↦ all i c | false ↦ all i c ] at
 all-then column (x ∷ trace) all i c at =
     elim (is_next column (x ∷ trace)) as (λ b. slice_get (cond b (drop 1 (x ∷ trace)) (x ∷ trace)) i ≡ Some c → is_standing c ≡ true) [ true ↦ all (suc i) c | false ↦ all i c ] at
 
-was_there : (columns trace : List Column) → AllStand trace → (place : ℕ) (c : Column) → slice_get (go_on columns trace) place ≡ Some c → is_standing c ≡ false → WasThere columns place c
+-- what a column becomes is the same event, undone or not
+then-undo : (column : Column) (trace : List Column) → undo (column_then column trace) ≡ undo column
+then-undo column trace = elim (stays_or_undone column trace) [ inl kept ↦ ap undo kept | inr gone ↦ ap undo gone.1 ∙ twice column ] where
+  twice : (c : Column) → undo (undo c) ≡ undo c
+  twice (Send q k p u) = refl
+  twice (Receipt p r q k s u) = refl
+  twice _ = refl
+
+-- what does not stand in what a history goes on to was there before
+was_there : (columns trace : List Column) → AllStand trace → (place : ℕ) (c : Column) → slice_get (go_on columns trace) place ≡ Some c → is_standing c ≡ false
+    → (old : Column) × (slice_get columns place ≡ Some old) × (undo old ≡ undo c)
 was_there [] trace all place c at lies = (let stands = all place c at in absurd cc)
 was_there (column ∷ columns) trace all zero c at lies =
-    let same : column_then column trace ≡ c = cc in
-    elim (then-or-undo column trace) [
-      | inl kept ↦ (column, refl, inl (sym same ∙ kept))
-      | inr gone ↦ (column, refl, inr (sym same ∙ gone))
-    ]
+    (column, refl, (let same : column_then column trace ≡ c = cc in sym (then-undo column trace) ∙ ap undo same))
 was_there (column ∷ columns) trace all (suc place) c at lies = was_there columns (trace_then column trace) (all-then column trace all) place c at lies
 
-is_there : (columns trace : List Column) (place : ℕ) (c : Column) → slice_get columns place ≡ Some c → IsThere (go_on columns trace) place c
+-- and what was there is at its place behind
+is_there : (columns trace : List Column) (place : ℕ) (c : Column) → slice_get columns place ≡ Some c
+    → (new : Column) × (slice_get (go_on columns trace) place ≡ Some new) × (undo new ≡ undo c)
 is_there [] trace place c at = absurd cc
-is_there (column ∷ columns) trace zero c at =
-    let same : column ≡ c = cc in
-    elim (then-or-undo column trace) [
-      | inl kept ↦ (column_then column trace, refl, inl (kept ∙ same))
-      | inr gone ↦ (column_then column trace, refl, inr (gone ∙ ap undo same))
-    ]
+is_there (column ∷ columns) trace zero c at = (column_then column trace, refl, (let same : column ≡ c = cc in then-undo column trace ∙ ap undo same))
 is_there (column ∷ columns) trace (suc place) c at = is_there columns (trace_then column trace) place c at
 
 -- an event is of the same message whether it is undone or not
-undone-receipt : (old : Column) (to rsn from ssn state : ℕ) → (Receipt to rsn from ssn state true ≡ old) ⊎ (Receipt to rsn from ssn state true ≡ undo old)
-    → (undone : Bool) × (old ≡ Receipt to rsn from ssn state undone)
-undone-receipt old to rsn from ssn state (inl same) = (true, sym same)
-undone-receipt (Receipt p r q k s u) to rsn from ssn state (inr same) = (u, cc)
-undone-receipt (Send q k p u) to rsn from ssn state (inr same) = absurd cc
-undone-receipt _ to rsn from ssn state (inr same) = absurd cc
+is-receipt : (c : Column) (to rsn from ssn state : ℕ) → undo c ≡ Receipt to rsn from ssn state true
+    → (undone : Bool) × (c ≡ Receipt to rsn from ssn state undone)
+is-receipt (Receipt p r q k s u) to rsn from ssn state same = (u, cc)
+is-receipt (Send q k p u) to rsn from ssn state same = absurd cc
+is-receipt _ to rsn from ssn state same = absurd cc
 
-still-send : (new : Column) (from ssn to : ℕ) (gone : Bool) → (new ≡ Send from ssn to gone) ⊎ (new ≡ undo (Send from ssn to gone)) → (now : Bool) × (new ≡ Send from ssn to now)
-still-send new from ssn to gone (inl same) = (gone, same)
-still-send new from ssn to gone (inr same) = (true, same)
+is-send : (c : Column) (from ssn to : ℕ) → undo c ≡ Send from ssn to true → (undone : Bool) × (c ≡ Send from ssn to undone)
+is-send (Send q k p u) from ssn to same = (u, cc)
+is-send (Receipt p r q k s u) from ssn to same = absurd cc
+is-send _ from ssn to same = absurd cc
 
 -- ---- traces
-
-all-stand : (next : Next ℕ Note) (n : ℕ) (trace events : List (Event Note)) → AllStand (map (event_column next n trace) events)
-all-stand next n trace events i c at = stands (found.0) found.2 where
-  found : (e : Event Note) × (slice_get events i ≡ Some e) × (event_column next n trace e ≡ c)
-  found = map-At (event_column next n trace) events i c at
-
-  stands : (e : Event Note) → event_column next n trace e ≡ c → is_standing c ≡ true
-  stands (event.Send q k p note) is = ap is_standing (sym is)
-  stands (event.Receipt p r q k) is = ap is_standing (sym is)
 
 -- a receipt of a sound group's trace is behind its send
 sent-in-trace : (next : Next ℕ Note) (r : GroupRecord ℕ Note) → IsSound next r → (j to rsn from ssn state : ℕ) (undone : Bool)
@@ -128,11 +112,13 @@ follow-trace next r columns sound follow place to rsn from ssn state false at =
     (found.0, found.1, false, found.2)
 follow-trace next r columns sound follow place to rsn from ssn state true at =
     let trace = trace_columns next r in
-    let was = was_there columns trace (all-stand next r.config.members r.trace r.trace) place (Receipt to rsn from ssn state true) at refl in
-    let old = undone-receipt was.0 to rsn from ssn state was.2 in
+    let stand : standing trace ≡ trace = columns_stand next r.config.members r.trace r.trace in
+    let all : AllStand trace = λ i c here. filter-passes is_standing trace i c (ap (λ t. slice_get t i) stand ∙ here) in
+    let was = was_there columns trace all place (Receipt to rsn from ssn state true) at refl in
+    let old = is-receipt was.0 to rsn from ssn state was.2 in
     let sent = follow place to rsn from ssn state old.0 (was.1 ∙ ap (λ c. Some c) old.1) in
     let there = is_there columns trace sent.0 (Send from ssn to sent.2) sent.3 in
-    let now = still-send there.0 from ssn to sent.2 there.2 in
+    let now = is-send there.0 from ssn to there.2 in
     (sent.0, sent.1, now.0, there.1 ∙ ap (λ c. Some c) now.1)
 
 pub follow_on : (next : Next ℕ Note) (r : GroupRecord ℕ Note) (columns : List Column) → IsSound next r → ReceiptsFollowSends columns → ReceiptsFollowSends (go_on_to next columns r)

@@ -36,7 +36,7 @@ standing_trace (column ∷ columns) trace stand = at (is_next column trace) (is_
   at false false is stands later = rw (is, stands, stands) (later trace stand)
 
 -- nothing but what stands is undone, and nothing that is undone comes back
-stays_or_undone : (column : Column) (trace : List Column)
+pub stays_or_undone : (column : Column) (trace : List Column)
     → (column_then column trace ≡ column) ⊎ ((is_standing column ≡ true) × (column_then column trace ≡ undo column))
 stays_or_undone column trace = grind arith
 

@@ -1,45 +1,15 @@
 -- Each receipt of a history has its arrow, from the send of its message.
-use Rattle.fbl_base.specs.MemberSets.{member_list}
 use Rattle.fbl_history.specs.declared.column.Column.TheVariants as columns
 use Rattle.fbl_pictures.specs.declared.shape.Shape.TheVariants as shapes
 use Rattle.fbl_pictures.specs.HistoryLaws.{is_arrow_to, ComesFromItsSend, HasArrowFromItsSend, IsLastSend, IsSentAgainAt, IsSentAt}
 use Rattle.fbl_pictures.specs.HistoryPictures.{history_shapes}
-use Rattle.fbl_pictures.proofs.Common.{ℕ, ◌+◌, ◌<◌, ◌≡◌, ◌≢◌, Bool, true, false, inl, inr, List, [], ◌∷◌, ◌++◌, length, take, Option, Some, None, slice_get, filter, max, refl, ap, ◌∙◌, arith, cases_lt, lt-ltb, le-ltb}
-use Rattle.fbl_pictures.proofs.Common.{eqb-self, ne_eqb, or_left, or_right, max-eq_left, max-eq_right, Column, MessageName, ReceiptsFollowSends}
-use Rattle.fbl_pictures.proofs.Common.{drawn, arrow_between, arrow_from, arrow_kind, back_before, column_marks, is_back, is_comeback, later, marks_after, members_shapes, receipt_arrow}
-use Rattle.fbl_pictures.proofs.Common.{has_standing_receipt, receipts_made, recovery_mark, sends, sent_before, strike_mark, stub, stub_unless, stub_where}
-use Rattle.fbl_pictures.proofs.Filtering.{drawn_none, drawn_one, filter_map_none, filter_none, filter_only}
+use Rattle.fbl_pictures.proofs.Common.{ℕ, ◌+◌, ◌<◌, ◌≤◌, ◌≡◌, ◌≢◌, Bool, true, false, inl, inr, List, [], ◌∷◌, ◌++◌, Option, Some, None, slice_get, filter, max, refl, ap, ◌∙◌, arith, cases_lt, lt-ltb, le-ltb}
+use Rattle.fbl_pictures.proofs.Common.{eqb-self, ne_eqb, or_left, or_right, option_to_list, Column, MessageName, ReceiptsFollowSends}
+use Rattle.fbl_pictures.proofs.Common.{drawn, arrow_between, arrow_from, arrow_kind, back_before, column_marks, is_back, is_comeback, last_sent, later, members_shapes, receipt_arrow, sends, sent_before, stub}
+use Rattle.fbl_pictures.proofs.Filtering.{drawn_one, filter_none, filter_only}
 use Rattle.fbl_pictures.proofs.Indexing.{Decides-same_message}
 use Rattle.fbl_pictures.proofs.Lasts.{last_is, last_some, later_is}
-use Rattle.fbl_pictures.proofs.MembersApart.{members_none}
-
-module _ (place : ℕ) where
-  -- marks and stubs are no arrows
-  mark-none : (made i : ℕ) (c : Column) → filter (is_arrow_to place) (marks_after made i c) ≡ []
-  mark-none made i (columns.Strike struck) = filter_map_none (is_arrow_to place) (strike_mark i) (member_list struck) (λ q. refl)
-  mark-none made i (columns.Recovery replays) = filter_map_none (is_arrow_to place) (recovery_mark i) replays.items (λ q. refl)
-  mark-none made i (columns.Send from ssn to undone) = refl
-  mark-none made i (columns.Receipt to rsn from ssn state undone) = refl
-  mark-none made i (columns.Checkpoint member) = refl
-  mark-none made i (columns.ReceiptsMade total) = refl
-
-  unless-none : (taken : Bool) (from sent to : ℕ) (again : Bool) → filter (is_arrow_to place) (stub_unless taken from sent to again) ≡ []
-  unless-none true from sent to again = refl
-  unless-none false from sent to again = refl
-
-  stub-none : (received : MessageName → Bool) (back : ℕ → Option ℕ) (i : ℕ) (c : Column) → filter (is_arrow_to place) (stub_where received back i c) ≡ []
-  stub-none received back i (columns.Send from ssn to false) = unless-none _ from i to _
-  stub-none received back i _ = refl
-
-  -- the arrow to another column does not end here
-  between-apart : (sent back : Option ℕ) (from to end : ℕ) (undone : Bool) → end ≢ place → filter (is_arrow_to place) (arrow_between sent back from to end undone) ≡ []
-  between-apart None back from to end undone apart = refl
-  between-apart (Some s) None from to end undone apart = rw (ne_eqb end place apart) refl
-  between-apart (Some s) (Some b) from to end undone apart = rw (ne_eqb end place apart) refl
-
-  arrow-apart : (sent : MessageName → Option ℕ) (back : ℕ → Option ℕ) (i : ℕ) (c : Column) → i ≢ place → filter (is_arrow_to place) (arrow_from sent back i c) ≡ []
-  arrow-apart sent back i (columns.Receipt to rsn from ssn state undone) apart = between-apart _ _ from to i undone apart
-  arrow-apart sent back i _ apart = refl
+use Rattle.fbl_pictures.proofs.Layers.{marks_none, members_none, stubs_none}
 
 -- whether a column sends a message tells whether it is a send of it
 sends-at : (history : List Column) (from ssn k : ℕ) (o : Option Column) → slice_get history k ≡ o → sends (record { from = from; ssn = ssn }) o ≡ true → IsSentAt history from ssn k
@@ -75,19 +45,26 @@ module _ (history : List Column) (from ssn to place : ℕ) (undone : Bool) where
   -- where the message was sent the arrow starts, or where it was sent again
   abbrev Arrives : Option ℕ → Option ℕ → Type 0
   Arrives sent back = (start : ℕ) × (again : Bool) × ComesFromItsSend history from ssn to place start again
-      × (filter (is_arrow_to place) (arrow_between sent back from to place undone) ≡ shapes.Arrow from start to place (arrow_kind again undone) ∷ [])
+      × (filter (is_arrow_to place) (option_to_list (arrow_between sent back from to place undone))
+      ≡ shapes.Arrow from start to place (arrow_kind again undone) ∷ [])
 
   arrives : (s : ℕ) (b : Option ℕ) → IsLastSend history from ssn place s → ((t : ℕ) → b ≡ Some t → (t < place) × IsSentAgainAt history from to t) → Arrives (Some s) b
-  arrives s None last back = (s, false, (s, last, inl (refl, refl)), rw (eqb-self place) refl)
-  arrives s (Some t) last back = elim (cases_lt s t) [
+  arrives s b last back = elim (cases_lt s (last_sent s b)) [
     | inl behind ↦
-        let known = back t refl in
-        let top : max s t ≡ t = max-eq_right (omega (arith, behind)) in
-        (t, true, (s, last, inr (refl, behind, known.0, known.1)), rw (eqb-self place, lt-ltb s t behind, top) refl)
+        let again = sent-again s b behind back in
+        (last_sent s b, true, (s, last, inr (refl, behind, again.0, again.1)), rw (eqb-self place, lt-ltb s (last_sent s b) behind) refl)
     | inr past ↦
-        let top : max s t ≡ s = max-eq_left past in
-        (s, false, (s, last, inl (refl, refl)), rw (eqb-self place, le-ltb s t past, top) refl)
-  ]
+        let same : last_sent s b ≡ s = omega (arith, past, no-earlier s b) in
+        (s, false, (s, last, inl (refl, refl)), rw (eqb-self place, le-ltb s (last_sent s b) past, same) refl)
+  ] where
+    no-earlier : (s : ℕ) (b : Option ℕ) → s ≤ last_sent s b
+    no-earlier s None = omega arith
+    no-earlier s (Some t) = grind arith
+
+    sent-again : (s : ℕ) (b : Option ℕ) → s < last_sent s b → ((t : ℕ) → b ≡ Some t → (t < place) × IsSentAgainAt history from to t)
+        → (last_sent s b < place) × IsSentAgainAt history from to (last_sent s b)
+    sent-again s None behind back = absurd (omega (arith, behind))
+    sent-again s (Some t) behind back = (let top : t ≡ max s t = grind (arith, behind) in rw (← top) (back t refl))
 
   -- a message that is received was sent before
   was_sent : (sent : ℕ) → sent < place → IsSentAt history from ssn sent
@@ -105,23 +82,36 @@ module _ (history : List Column) (from ssn to place : ℕ) (undone : Bool) where
         ),
       )
 
+-- the arrow to another column does not end here
+arrow-apart : (place : ℕ) (sent : MessageName → Option ℕ) (back : ℕ → Option ℕ) (i : ℕ) (c : Column) → i ≢ place
+    → filter (is_arrow_to place) (option_to_list (arrow_from sent back i c)) ≡ []
+arrow-apart place sent back i (columns.Receipt to rsn from ssn state undone) apart = between (sent (record { from = from; ssn = ssn })) _ where
+  between : (s b : Option ℕ) → filter (is_arrow_to place) (option_to_list (arrow_between s b from to i undone)) ≡ []
+  between None b = refl
+  between (Some s) b = rw (ne_eqb i place apart) refl
+arrow-apart place sent back i _ apart = refl
+
 pub has_arrow_from_its_send : (members : ℕ) (history : List Column) → ReceiptsFollowSends history → HasArrowFromItsSend members history
 unfolding history_shapes
 has_arrow_from_its_send members history follow place to rsn from ssn state undone at =
+    let p = is_arrow_to place in
     let before = follow place to rsn from ssn state undone at in
     let sent = was_sent history from ssn to place undone before.0 before.1 (to, before.2, before.3) in
-    let arrow = arrives history from ssn to place undone sent.0 (later (back_before history place from) (back_before history place to)) sent.2 (again-at history from ssn to place undone) in
+    let back = later (back_before history place from) (back_before history place to) in
+    let arrow = arrives history from ssn to place undone sent.0 back sent.2 (again-at history from ssn to place undone) in
     let arrows = drawn (receipt_arrow history) 0 history in
     let stubs = drawn (stub history) 0 history in
-    let marks = drawn (column_marks history) 0 history in
     let here : place ≡ 0 + place = omega arith in (
       arrow.0,
       arrow.1,
       arrow.2,
-      filter_only (is_arrow_to place) (members_shapes members history ++ arrows ++ stubs) marks (drawn_none (is_arrow_to place) (column_marks history) 0 history (λ i c. mark-none place (receipts_made (take i history)) i c))
-          ∙ filter_only (is_arrow_to place) (members_shapes members history ++ arrows) stubs (drawn_none (is_arrow_to place) (stub history) 0 history (λ i c. stub-none place (has_standing_receipt history) (back_before history (length history)) i c))
-          ∙ filter_none (is_arrow_to place) (members_shapes members history) arrows (members_none (is_arrow_to place) (λ m s. refl) (λ i m. refl) (λ m s e k. refl) history members)
-          ∙ drawn_one (is_arrow_to place) (receipt_arrow history) place (λ i c apart. arrow-apart place (sent_before history i) (back_before history i) i c apart) 0 place history (columns.Receipt to rsn from ssn state undone) at here
-          ∙ ap (λ o. filter (is_arrow_to place) (arrow_between o (later (back_before history place from) (back_before history place to)) from to place undone)) sent.1
+      filter_only p (members_shapes members history ++ arrows ++ stubs) (drawn (column_marks history) 0 history)
+          (marks_none p history (record { strike = λ i m. refl; recovery = λ i m k. refl; checkpoint = λ i m. refl; made_and_undone = λ i k. refl })
+          (λ i f s t u. refl) (λ i d s u. refl))
+          ∙ filter_only p (members_shapes members history ++ arrows) stubs (stubs_none p history (λ f s t a. refl))
+          ∙ filter_none p (members_shapes members history) arrows (members_none p history (λ m s. refl) (λ i m. refl) (λ m s e k. refl) members)
+          ∙ drawn_one p (receipt_arrow history) place (λ i c apart. arrow-apart place (sent_before history i)
+          (back_before history i) i c apart) 0 place history (columns.Receipt to rsn from ssn state undone) at here
+          ∙ ap (λ o. filter p (option_to_list (arrow_between o back from to place undone))) sent.1
           ∙ arrow.3,
     )

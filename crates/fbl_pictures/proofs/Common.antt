@@ -1,19 +1,19 @@
 -- The names that proofs of this crate take from outside: of the standard library, of the crates below, and of the definitions here.
-pub use Rattle.std.proofs.Common.{Bool, List, None, Option, Some, [], ap, append-nil, arith, cond, drop, false, get_or, length, map, not, suc, sym, take, true, ℕ, ◌++◌, ◌+◌, ◌-◌, ◌<◌, ◌==◌, ◌||◌, ◌∙◌, ◌∷◌, ◌≡◌, Decides, Global, Vec, inl, inr, length-append, refl, rules, slice_get, vec_len, zero, ◌≤◌, ◌⊎◌, ◌≢◌, subst, ◌&&◌, max}
-pub use Rattle.std.proofs.lemmas.Bool.{not-false, cases_eq, cases_lt, false_from_ne_true, le-ltb, lt-ltb, ne_eqb, or_left, or_right}
+pub use Rattle.std.proofs.Common.{Bool, List, None, Option, Some, [], ap, append-nil, arith, cond, drop, false, get_or, length, map, not, suc, sym, take, true, ℕ, ◌++◌, ◌+◌, ◌-◌, ◌<◌, ◌==◌, ◌||◌, ◌∙◌, ◌∷◌, ◌≡◌, Decides, inl, inr, refl, rules, slice_get, vec_len, zero, ◌≤◌, ◌⊎◌, ◌≢◌, subst, ◌&&◌, ◌↔◌, max}
+pub use Rattle.std.proofs.lemmas.Bool.{not-false, cases_eq, cases_lt, le-ltb, lt-ltb, ne_eqb, or_left, or_right}
 pub use Rattle.std.proofs.lemmas.Bool.Decides.{Decides-and, Decides-eqb}
 pub use Rattle.std.proofs.lemmas.List.{append_assoc, at_drop_more, take_more}
 pub use Rattle.std.proofs.lemmas.List.Sums.{fold_push}
-pub use Rattle.std.proofs.lemmas.Option.{get_or_from_slice_get, slice_get-get_or, slice_get_cases, slice_get_past, slice_get_read, slice_get_within}
+pub use Rattle.std.proofs.lemmas.Option.{get_or_from_slice_get, slice_get-get_or}
 pub use Rattle.std.proofs.lemmas.Result.{IfOk-weaker}
 pub use Rattle.std.specs.Bool.{beq}
 pub use Rattle.std.specs.Cmp.{booleans_Decides}
 pub use Rattle.std.specs.List.{flat_map, fold, range_with_len, position_from, filter}
-pub use Rattle.std.specs.Option.{is_some, option_or}
+pub use Rattle.std.specs.Option.{is_some, option_or, option_to_list}
 pub use Rattle.std.specs.Prelude.{◌*◌, ◌/◌, ◌^◌, nat_lt}
-pub use Rattle.fbl_base.proofs.Gets.{At-push}
 pub use Rattle.fbl_base.proofs.Numbers.{rows_on}
-pub use Rattle.fbl_base.specs.Audit.{Parts, lost_determinants}
+pub use Rattle.fbl_base.specs.Audit.{lost_determinants, orphan_start_in, IsDumpOrphan}
+pub use Rattle.fbl_audit.specs.Paths.{IsOrphanPath}
 pub use Rattle.fbl_base.specs.Events.{is_message, same_message}
 pub use Rattle.fbl_base.specs.declared.trace.MessageName.{MessageName}
 pub use Rattle.fbl_history.specs.Columns.{made_after, receipts_made, ReceiptsFollowSends}
@@ -21,20 +21,18 @@ pub use Rattle.fbl_history.specs.declared.column.Column.{Column}
 pub use Rattle.fbl_input.proofs.Outputs.{puts_text}
 pub use Rattle.fbl_pictures.specs.DumpEvents.{event_arrow, event_marks}
 pub use Rattle.fbl_pictures.specs.DumpMembers.{dump_member_shapes, members_drawn, shapes_of_member}
-pub use Rattle.fbl_pictures.specs.DumpPaths.{IsPathDrawn, path_shapes, paths_drawn, places_in}
-pub use Rattle.fbl_pictures.specs.DumpPictures.{IsPicture, dump_shapes, title}
+pub use Rattle.fbl_pictures.specs.DumpPaths.{ArePathsDrawn, AreStepsTo, path_shapes}
+pub use Rattle.fbl_pictures.specs.DumpPictures.{IsPicture, title}
 pub use Rattle.fbl_pictures.specs.DumpReceipts.{receipt_place, taken_by, takes}
 pub use Rattle.fbl_pictures.specs.HistoryMarks.{column_marks, marks_after, recovery_mark, strike_mark}
-pub use Rattle.fbl_pictures.specs.HistoryMembers.{history_member_shapes, is_back, is_down, is_down_after, line_part, members_shapes, turns, line_to}
-pub use Rattle.fbl_pictures.specs.HistoryMessages.{arrow_from, back_before, has_standing_receipt, receipt_arrow, sent_before, stub, stub_where, taken_by_column, arrow_between, arrow_kind, brings_back, is_comeback, sends, stub_unless}
+pub use Rattle.fbl_pictures.specs.HistoryMembers.{brings_back, history_member_shapes, is_back, is_down_after, line_parts, members_shapes, strikes}
+pub use Rattle.fbl_pictures.specs.HistoryMessages.{arrow_from, back_before, has_standing_receipt, last_sent, receipt_arrow, sent_before, stub, stub_where, taken_by_column, arrow_between, arrow_kind, is_comeback, sends}
 pub use Rattle.fbl_pictures.specs.HistoryPlaces.{last_before, later}
 pub use Rattle.fbl_pictures.specs.Pictures.{picture}
 pub use Rattle.fbl_pictures.specs.Places.{drawn}
 pub use Rattle.fbl_pictures.specs.Words.{line_kind_of}
 pub use Rattle.fbl_pictures.specs.declared.shape.Legend.TheVariants.{Dump}
 pub use Rattle.fbl_pictures.specs.declared.shape.Shape.{Shape}
-pub use Rattle.fbl_pictures.specs.declared.shape.Shape.TheVariants.{Line}
 pub use Rattle.std.proofs.lemmas.List.Elements.{filter-append}
-pub use Rattle.std.proofs.Math.Nat.{max-eq_left, max-eq_right}
 pub use Rattle.fbl_base.proofs.RulesLaws.{eqb-self}
-pub use Rattle.fbl_pictures.specs.Names.{names}
+pub use Rattle.fbl_pictures.specs.Names.{label_and_names}

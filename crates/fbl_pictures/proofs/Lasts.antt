@@ -1,5 +1,5 @@
 -- The last place that passes a test.
-use Rattle.fbl_pictures.proofs.Common.{ℕ, zero, suc, ◌<◌, ◌≤◌, ◌≡◌, ◌⊎◌, Bool, true, false, cond, inl, inr, Option, Some, None, max, refl, sym, ap, ◌∙◌, arith, cases_lt, last_before, later, max-eq_left, max-eq_right}
+use Rattle.fbl_pictures.proofs.Common.{ℕ, zero, suc, ◌<◌, ◌≤◌, ◌≡◌, ◌⊎◌, Bool, true, false, cond, inl, inr, Option, Some, None, refl, sym, ap, ◌∙◌, arith, cases_lt, last_before, later}
 
 -- it passes the test, and none behind it does
 pub last_is : (test : ℕ → Bool) (place t : ℕ) → last_before test place ≡ Some t
@@ -38,7 +38,4 @@ last_some test (suc place) k below passes = at (test place) refl (last_some test
 pub later_is : (a b : Option ℕ) (t : ℕ) → later a b ≡ Some t → (a ≡ Some t) ⊎ (b ≡ Some t)
 later_is None b t is = inr is
 later_is (Some i) None t is = inl is
-later_is (Some i) (Some k) t is = elim (cases_lt i k) [
-  | inl below ↦ (let e : max i k ≡ k = max-eq_right (omega (arith, below)) in inr (ap Some (sym e) ∙ is))
-  | inr past ↦ (let e : max i k ≡ i = max-eq_left past in inl (ap Some (sym e) ∙ is))
-]
+later_is (Some i) (Some k) t is = elim (cases_lt i k) [ inl below ↦ grind (arith, below, is) | inr past ↦ grind (arith, past, is) ]

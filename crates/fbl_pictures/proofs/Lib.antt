@@ -1,10 +1,9 @@
 pub mod Common
 pub mod Steps
 pub mod Indexing
-pub mod Rows
 pub mod Filtering
 pub mod Lasts
-pub mod MembersApart
+pub mod Layers
 pub mod EventLaws
 pub mod ArrowLaws
 pub mod LineLaws

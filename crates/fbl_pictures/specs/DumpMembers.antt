@@ -5,10 +5,10 @@ use Rattle.std.specs.FinSet as set
 use Rattle.fbl_base.specs.Audit.{Parts, orphan_start_in}
 use Rattle.fbl_pictures.specs.declared.shape.LineKind.TheVariants as line_kind
 use Rattle.fbl_pictures.specs.declared.shape.Shape.{Shape}
-use Rattle.fbl_pictures.specs.declared.shape.Shape.TheVariants.{Label, Line}
+use Rattle.fbl_pictures.specs.declared.shape.Shape.TheVariants.{Line}
 use Rattle.fbl_pictures.specs.declared.shape.Status.{Status}
 use Rattle.fbl_pictures.specs.declared.shape.Status.TheVariants.{Struck, Orphan, Up}
-use Rattle.fbl_pictures.specs.Names.{names}
+use Rattle.fbl_pictures.specs.Names.{label_and_names}
 use Rattle.fbl_pictures.specs.Words.{line_kind_of}
 
 -- whether a member is struck, and else whether it is an orphan from some place on
@@ -25,7 +25,7 @@ orphan_line columns member (Some place) = Line member (Some place) columns line_
 -- a member's label, its number again in a wide picture, and its line, which goes by all columns; a struck member is down
 abbrev pub dump_member_shapes : ℕ → ℕ → Bool → Option ℕ → List Shape
 dump_member_shapes columns member struck start =
-    Label member (Some (dump_status struck start)) ∷ [] ++ names columns member ++ Line member None columns (line_kind_of struck) ∷ [] ++ orphan_line columns member start
+    label_and_names columns member (Some (dump_status struck start)) ++ Line member None columns (line_kind_of struck) ∷ [] ++ orphan_line columns member start
 
 -- the shapes of one member of a dump, where each orphan starts at a place
 abbrev pub shapes_of_member : Parts → List (Option ℕ) → ℕ → List Shape

@@ -1,6 +1,6 @@
 -- The shapes of paths: why each orphan is one.
-use Rattle.std.specs.Prelude.{ℕ, ◌≡◌, ◌==◌, ◌⊎◌, List, [], ◌∷◌, ◌++◌, Option, Some, None, slice_get, Vec, if◌then◌else◌}
-use Rattle.std.specs.List.{flat_map, range_with_len}
+use Rattle.std.specs.Prelude.{ℕ, ◌≡◌, ◌==◌, ◌⊎◌, List, [], ◌∷◌, ◌++◌, Option, Some, None, slice_get, if◌then◌else◌}
+use Rattle.std.specs.Option.{option_to_list}
 use Rattle.fbl_base.specs.declared.trace.Mark.{Mark}
 use Rattle.fbl_base.specs.Audit.{Parts, IsDumpOrphan}
 use Rattle.fbl_base.specs.Events.{member_of}
@@ -16,29 +16,26 @@ step_shape a start b end =
     if member_of a == member_of b then Line (member_of a) (Some start) end line_kind.Path else Arrow (member_of a) start (member_of b) end arrow_kind.Path
 
 -- the same, if the trace has both places
-abbrev pub step_between : Option Mark → ℕ → Option Mark → ℕ → List Shape
-step_between (Some a) start (Some b) end = step_shape a start b end ∷ []
-step_between (Some a) start None end = []
-step_between None start b end = []
+abbrev pub step_between : Option Mark → ℕ → Option Mark → ℕ → Option Shape
+step_between (Some a) start (Some b) end = Some (step_shape a start b end)
+step_between (Some a) start None end = None
+step_between None start b end = None
 
 -- the steps of a path by these places
 abbrev pub path_shapes : List Mark → List ℕ → List Shape
 path_shapes events [] = []
 path_shapes events (start ∷ []) = []
-path_shapes events (start ∷ end ∷ places) = step_between (slice_get events start) start (slice_get events end) end ++ path_shapes events (end ∷ places)
+path_shapes events (start ∷ end ∷ places) = option_to_list (step_between (slice_get events start) start (slice_get events end) end)
+    ++ path_shapes events (end ∷ places)
 
--- the places of a path from a lost receipt to the member, if it is an orphan, and else none
-abbrev pub IsPathDrawn : Parts → ℕ → List ℕ → Type 0
-IsPathDrawn dump member path = (¬ (IsDumpOrphan dump member) × (path ≡ [])) ⊎ (IsDumpOrphan dump member × IsOrphanPath dump member path)
+-- the steps of a path from a lost receipt to the member, if it is an orphan, and else none
+abbrev pub AreStepsTo : Parts → ℕ → List Shape → Type 0
+AreStepsTo dump member steps =
+    (¬ (IsDumpOrphan dump member) × (steps ≡ []))
+    ⊎ ((path : List ℕ) × IsDumpOrphan dump member × IsOrphanPath dump member path × (steps ≡ path_shapes dump.events path))
 
--- the places that a list of paths has for a member, if it has any
-abbrev pub places_of : {A : Type 0} → Option (Vec ℕ A) → List ℕ
-places_of None = []
-places_of (Some path) = path.items
-
-abbrev pub places_in : {A : Type 0} → List (Vec ℕ A) → ℕ → List ℕ
-places_in paths member = places_of (slice_get paths member)
-
--- the members' paths
-abbrev pub paths_drawn : Parts → (ℕ → List ℕ) → List Shape
-paths_drawn dump paths = flat_map (λ member. path_shapes dump.events (paths member)) (range_with_len 0 dump.members)
+-- the steps of the path to each of these members, in their order
+abbrev pub ArePathsDrawn : Parts → List ℕ → List Shape → Type 0
+ArePathsDrawn dump [] shapes = shapes ≡ []
+ArePathsDrawn dump (member ∷ members) shapes =
+    (steps : List Shape) × AreStepsTo dump member steps × (rest : List Shape) × ArePathsDrawn dump members rest × (shapes ≡ steps ++ rest)

@@ -1,5 +1,5 @@
 -- The last place that passes a test, and the later one of two.
-use Rattle.std.specs.Prelude.{ℕ, zero, suc, Bool, false, max, nat_lt, Option, Some, None, if◌then◌else◌}
+use Rattle.std.specs.Prelude.{ℕ, zero, suc, Bool, max, Option, Some, None, if◌then◌else◌}
 
 -- the last place before this one that passes the test
 abbrev pub last_before : (ℕ → Bool) → ℕ → Option ℕ
@@ -11,8 +11,3 @@ abbrev pub later : Option ℕ → Option ℕ → Option ℕ
 later None second = second
 later (Some first) None = Some first
 later (Some first) (Some second) = Some (max first second)
-
--- whether there is a place, and it is behind this one
-abbrev pub is_behind : ℕ → Option ℕ → Bool
-is_behind place None = false
-is_behind place (Some other) = nat_lt place other

@@ -8,7 +8,7 @@ use Rattle.fbl_texts.specs.Sets.{set_words}
 use Rattle.fbl_pictures.specs.declared.shape.Kind.{Kind}
 use Rattle.fbl_pictures.specs.declared.shape.Kind.TheVariants.{Stable, Recorded, Lost}
 use Rattle.fbl_pictures.specs.Places.{below, x, y}
-use Rattle.fbl_pictures.specs.Words.{gone_class, kind_class, receipts_word, undone_class, undone_words}
+use Rattle.fbl_pictures.specs.Words.{kind_class, receipts_word, words_if}
 
 -- the pieces one after another
 abbrev pub joined : List (List ℕ) → List ℕ
@@ -26,7 +26,8 @@ stroke x y true characters =
 unfoldable pub number : ℕ → ℕ → Bool → List ℕ → List ℕ
 number x y undone words =
     stroke x y undone (length words)
-    ++ line (codes "<text class='at" ∷ gone_class undone ∷ codes "' x='" ∷ decimal x ∷ codes "' y='" ∷ decimal y ∷ codes "'>" ∷ words ∷ codes "</text>" ∷ [])
+    ++ line (codes "<text class='at" ∷ words_if undone (codes " gone") ∷ codes "' x='" ∷ decimal x ∷ codes "' y='" ∷ decimal y ∷ codes "'>" ∷ words
+    ∷ codes "</text>" ∷ [])
 
 -- the cross over the mark of an undone event
 unfoldable pub cross : ℕ → ℕ → Bool → List ℕ
@@ -37,10 +38,10 @@ cross column member true =
 -- a send: a circle on its sender's line, with its number above
 unfoldable pub drawn_send : ℕ → ℕ → ℕ → ℕ → Bool → List ℕ
 drawn_send column from ssn to undone =
-    joined (codes "<circle class='send" ∷ undone_class undone ∷ codes "' cx='" ∷ decimal (x column) ∷ codes "' cy='" ∷ decimal (y from) ∷ codes "' r='5'><title>" ∷ [])
-    ++ line (codes "member " ∷ decimal from ∷ codes " sends its message " ∷ decimal ssn ∷ codes " to " ∷ decimal to ∷ undone_words undone ∷ codes "</title></circle>" ∷ [])
-    ++ cross column from undone
-    ++ number (x column) (y from - 11) undone (decimal ssn)
+    joined (codes "<circle class='send" ∷ words_if undone (codes " undone") ∷ codes "' cx='" ∷ decimal (x column) ∷ codes "' cy='" ∷ decimal (y from)
+    ∷ codes "' r='5'><title>member " ∷ decimal from ∷ codes " sends its message " ∷ decimal ssn ∷ codes " to " ∷ decimal to ∷ [])
+    ++ joined (words_if undone (codes ", undone") ∷ codes "</title></circle>\n" ∷ cross column from undone
+    ∷ number (x column) (y from - 11) undone (decimal ssn) ∷ [])
 
 -- what names a receipt, in a title
 unfoldable pub receipt_words : Determinant → List ℕ
@@ -54,12 +55,11 @@ is_long state = nat_lt 9999 state
 -- a receipt of a history: a square on its receiver's line, below it its number, and under that the state after it
 unfoldable pub drawn_receipt : ℕ → Determinant → ℕ → Bool → List ℕ
 drawn_receipt column d state undone =
-    joined (codes "<rect class='receipt" ∷ undone_class undone ∷ codes "' x='" ∷ decimal (x column - 7) ∷ codes "' y='" ∷ decimal (y d.to - 7) ∷ codes "' width='14' height='14'>" ∷ [])
-    ++ receipt_words d
-    ++ line (codes ", state " ∷ decimal state ∷ undone_words undone ∷ codes "</title></rect>" ∷ [])
-    ++ cross column d.to undone
-    ++ number (x column) (y d.to + 20) undone (decimal d.rsn)
-    ++ number (x column) (below column d.to (is_long state)) undone (decimal state)
+    joined (codes "<rect class='receipt" ∷ words_if undone (codes " undone") ∷ codes "' x='" ∷ decimal (x column - 7) ∷ codes "' y='" ∷ decimal (y d.to - 7)
+    ∷ codes "' width='14' height='14'>" ∷ receipt_words d ∷ codes ", state " ∷ decimal state ∷ words_if undone (codes ", undone")
+    ∷ codes "</title></rect>\n" ∷ [])
+    ++ joined (cross column d.to undone ∷ number (x column) (y d.to + 20) undone (decimal d.rsn)
+    ∷ number (x column) (below column d.to (is_long state)) undone (decimal state) ∷ [])
 
 -- the outline of the mark of a receipt of a dump: a square where it is stable, a rhomb where it is recorded, and else two
 -- strokes, one across the other
@@ -71,9 +71,9 @@ drawn_outline Lost = codes "m-7 -7l14 14m0 -14l-14 14"
 -- a receipt of a dump: its outline on its receiver's line, with its number below
 unfoldable pub drawn_held_receipt : ℕ → Determinant → Kind → set.FinSet nat_cmp → List ℕ
 drawn_held_receipt column d kind holders =
-    joined (codes "<path class='" ∷ kind_class kind ∷ codes "' d='M" ∷ decimal (x column) ∷ codes " " ∷ decimal (y d.to) ∷ drawn_outline kind ∷ codes "'>" ∷ [])
-    ++ receipt_words d
-    ++ line (codes ", held by " ∷ set_words holders ∷ codes "</title></path>" ∷ [])
+    joined (codes "<path class='" ∷ kind_class kind ∷ codes "' d='M" ∷ decimal (x column) ∷ codes " " ∷ decimal (y d.to) ∷ drawn_outline kind ∷ codes "'>"
+    ∷ receipt_words d
+    ∷ codes ", held by " ∷ set_words holders ∷ codes "</title></path>\n" ∷ [])
     ++ number (x column) (y d.to + 20) false (decimal d.rsn)
 
 -- a strike: a bolt on the line of a member that it strikes
@@ -84,9 +84,10 @@ drawn_strike column member =
 -- a recovery: a triangle on the line of a member that it brings back, with how many receipts were replayed below
 unfoldable pub drawn_recovery : ℕ → ℕ → ℕ → List ℕ
 drawn_recovery column member receipts =
-    joined (codes "<path class='recovery' d='M" ∷ decimal (x column) ∷ codes " " ∷ decimal (y member - 9) ∷ codes "l9 16h-18z'><title>member " ∷ decimal member ∷ codes " is recovered, " ∷ [])
-    ++ line (decimal receipts ∷ codes " " ∷ receipts_word receipts ∷ codes " replayed</title></path>" ∷ [])
-    ++ number (x column) (below column member true) false (joined (codes "replays " ∷ decimal receipts ∷ []))
+    joined (codes "<path class='recovery' d='M" ∷ decimal (x column) ∷ codes " " ∷ decimal (y member - 9) ∷ codes "l9 16h-18z'><title>member "
+    ∷ decimal member ∷ codes " is recovered, "
+    ∷ decimal receipts ∷ codes " " ∷ receipts_word receipts ∷ codes " replayed</title></path>\n"
+    ∷ number (x column) (below column member true) false (joined (codes "replays " ∷ decimal receipts ∷ [])) ∷ [])
 
 -- a checkpoint: a bar across its member's line
 unfoldable pub drawn_checkpoint : ℕ → ℕ → List ℕ

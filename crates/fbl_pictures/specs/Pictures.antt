@@ -1,14 +1,13 @@
 -- A picture: a frame with a heading and a legend, and in it the texts of shapes.
 use Rattle.std.specs.Prelude.{ℕ, ◌-◌, List, [], ◌∷◌, ◌++◌, codes, decimal}
 use Rattle.std.specs.List.{flat_map}
-use Rattle.fbl_texts.specs.Lines.{line}
 use Rattle.fbl_pictures.specs.declared.look.TheConstants.{DUMP_LEGEND, HISTORY_LEGEND, LOOK}
 use Rattle.fbl_pictures.specs.declared.shape.Legend.{Legend}
 use Rattle.fbl_pictures.specs.declared.shape.Legend.TheVariants as legend
 use Rattle.fbl_pictures.specs.declared.shape.Shape.{Shape}
 use Rattle.fbl_pictures.specs.declared.shape.Shape.TheVariants.{Label, Name, Line, Arrow, InFlight, Send, Receipt, Held, Strike, Recovery, Checkpoint, MadeAndUndone}
 use Rattle.fbl_pictures.specs.Lines.{drawn_arrow, drawn_in_flight, drawn_label, drawn_line, drawn_name}
-use Rattle.fbl_pictures.specs.Marks.{drawn_checkpoint, drawn_held_receipt, drawn_made_and_undone, drawn_receipt, drawn_recovery, drawn_send, drawn_strike}
+use Rattle.fbl_pictures.specs.Marks.{drawn_checkpoint, drawn_held_receipt, drawn_made_and_undone, drawn_receipt, drawn_recovery, drawn_send, drawn_strike, joined}
 use Rattle.fbl_pictures.specs.Places.{height, width, y}
 
 -- the text of a shape
@@ -30,18 +29,14 @@ text_of (MadeAndUndone column receipts) = drawn_made_and_undone column receipts
 unfoldable pub look : List ℕ
 look = LOOK.now
 
--- the start of a picture, as wide and as high as this
-unfoldable pub opening : ℕ → ℕ → List ℕ
-opening width height =
-    line (codes "<svg class='fbl' xmlns='http://www.w3.org/2000/svg' viewBox='0 0 " ∷ decimal width ∷ codes " " ∷ decimal height ∷ codes "' width='" ∷ decimal width ∷ codes "' height='" ∷ decimal height ∷ codes "' role='img'>" ∷ [])
-
--- the title for those who can't see the picture, its look, its background and its heading
-unfoldable pub drawn_heading : List ℕ → ℕ → ℕ → List ℕ
-drawn_heading title width height =
-    line (codes "<title>" ∷ title ∷ codes "</title>" ∷ [])
-    ++ look
-    ++ line (codes "<rect class='back' width='" ∷ decimal width ∷ codes "' height='" ∷ decimal height ∷ codes "'/>" ∷ [])
-    ++ line (codes "<text class='head' x='16' y='28'>" ∷ title ∷ codes "</text>" ∷ [])
+-- the start of a picture, as wide and as high as this: the title for those who can't see it, its look, its background and its heading
+unfoldable pub opening : List ℕ → ℕ → ℕ → List ℕ
+opening title width height =
+    joined (codes "<svg class='fbl' xmlns='http://www.w3.org/2000/svg' viewBox='0 0 " ∷ decimal width ∷ codes " " ∷ decimal height ∷ codes "' width='"
+    ∷ decimal width
+    ∷ codes "' height='" ∷ decimal height ∷ codes "' role='img'>\n<title>" ∷ title ∷ codes "</title>\n" ∷ look ∷ [])
+    ++ joined (codes "<rect class='back' width='" ∷ decimal width ∷ codes "' height='" ∷ decimal height ∷ codes "'/>\n<text class='head' x='16' y='28'>" ∷ title
+    ∷ codes "</text>\n" ∷ [])
 
 -- what the marks mean
 unfoldable pub drawn_legend : Legend → List ℕ
@@ -50,11 +45,8 @@ drawn_legend legend.Dump = DUMP_LEGEND.now
 
 -- the legend, below the members' lines, and the end of the picture
 unfoldable pub ending : ℕ → Legend → List ℕ
-ending members legend =
-    line (codes "<g transform='translate(0 " ∷ decimal (y members - 4) ∷ codes ")'>" ∷ [])
-    ++ drawn_legend legend
-    ++ line (codes "</g>" ∷ [])
-    ++ line (codes "</svg>" ∷ [])
+ending members legend = joined (codes "<g transform='translate(0 " ∷ decimal (y members - 4) ∷ codes ")'>\n" ∷ drawn_legend legend ∷ codes "</g>\n</svg>\n"
+    ∷ [])
 
 -- the texts of shapes, one after another
 abbrev pub texts_of : List Shape → List ℕ
@@ -63,6 +55,4 @@ texts_of shapes = flat_map text_of shapes
 -- the picture of shapes on the lines of so many members, in so many columns, under a title
 unfoldable pub picture : List ℕ → ℕ → ℕ → Legend → List Shape → List ℕ
 picture title members columns legend shapes =
-    let wide = width columns in
-    let high = height members in
-    opening wide high ++ drawn_heading title wide high ++ texts_of shapes ++ ending members legend
+    opening title (width columns) (height members) ++ texts_of shapes ++ ending members legend

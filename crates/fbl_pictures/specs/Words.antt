@@ -9,6 +9,11 @@ use Rattle.fbl_pictures.specs.declared.shape.ArrowKind.TheVariants as arrow_kind
 use Rattle.fbl_pictures.specs.declared.shape.Kind.{Kind}
 use Rattle.fbl_pictures.specs.declared.shape.Kind.TheVariants as kind
 
+-- these words, if so
+abbrev pub words_if : Bool → List ℕ → List ℕ
+words_if true words = words
+words_if false words = []
+
 -- what a label says behind a member's number
 abbrev pub status_words : Option Status → List ℕ
 status_words None = []
@@ -40,21 +45,6 @@ arrow_class arrow_kind.Path = codes "path"
 abbrev pub in_flight_class : Bool → List ℕ
 in_flight_class true = codes "message in-flight again"
 in_flight_class false = codes "message in-flight"
-
--- what the class of an event has beside its sort
-abbrev pub undone_class : Bool → List ℕ
-undone_class true = codes " undone"
-undone_class false = []
-
--- what the title of an event ends with
-abbrev pub undone_words : Bool → List ℕ
-undone_words true = codes ", undone"
-undone_words false = []
-
--- what the class of a number beside a mark has: that of an undone event is struck out
-abbrev pub gone_class : Bool → List ℕ
-gone_class true = codes " gone"
-gone_class false = []
 
 -- the class of a receipt of a dump
 abbrev pub kind_class : Kind → List ℕ

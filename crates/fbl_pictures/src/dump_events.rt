@@ -1,15 +1,60 @@
 //! The marks of events and the arrows of messages.
 
-ghost use Rattle.std.specs.Prelude.{◌≡◌, ◌++◌, OnOk};
+ghost use Rattle.std.specs.Prelude.{◌≡◌, ◌++◌, IfOk, OnOk};
 ghost use Rattle.fbl_pictures.specs.DumpEvents.{event_arrow, event_mark, event_marks, message_arrow};
-ghost use Rattle.fbl_pictures.specs.DumpReceipts.{IsPlacesOf};
+ghost use Rattle.fbl_pictures.specs.DumpReceipts.{IsPlacesOf, kind_of, taken_by};
 ghost use Rattle.fbl_pictures.specs.Places.{drawn};
 
-use crate::dump_receipts::{ReceiptPlaces, place_of, receipt_kind, receipt_places};
-use crate::shape::{ArrowKind, Shape};
+use crate::shape::{ArrowKind, Kind, Shape};
 use fbl_base::audit::{Audit, Dump};
-use fbl_base::{Determinant, Mark, Member};
+use fbl_base::{Determinant, Mark, Member, MessageName};
 use std::alloc::{AllocError, Global};
+use std::collections::HashMap;
+use std::hash::{BuildHasherDefault, FoldHasher};
+
+/// For each message that is received, the place of its receipt.
+type ReceiptPlaces = HashMap<MessageName, usize, BuildHasherDefault<FoldHasher>>;
+
+/// The kind of the receipt with the determinant.
+fn receipt_kind(audit: &Audit, determinant: &Determinant) -> Kind
+    ensures { result ≡ kind_of audit.now determinant.now }
+{
+    if audit.is_lost(determinant) {
+        return Kind::Lost;
+    }
+    let holders = audit.holders(determinant);
+    if u32::from(audit.dump().f()) < holders.count() {
+        Kind::Stable
+    } else {
+        Kind::Recorded
+    }
+}
+
+/// The message that a receipt takes.
+fn message_taken(event: Mark) -> Option<MessageName>
+    ensures { result ≡ taken_by event }
+{
+    match event {
+        Mark::Send { .. } => None,
+        Mark::Receipt { from, ssn, .. } => Some(MessageName { from, ssn }),
+    }
+}
+
+/// The place of each message's receipt.
+fn receipt_places(alloc: Global, dump: &Dump) -> Result<ReceiptPlaces, AllocError>
+    ensures { IfOk result (IsPlacesOf dump.now.events) }
+{
+    let events = dump.events();
+    let mut places = HashMap::new(alloc);
+    for place in 0..events.len() {
+        if let Some(message) = message_taken(events[place]) {
+            if !places.contains_key(&message) {
+                places.insert(message, place)?;
+            }
+        }
+    }
+    Ok(places)
+}
 
 /// The mark of an event of the dump.
 fn mark(audit: &Audit, place: usize, event: Mark) -> Shape
@@ -81,7 +126,8 @@ fn push_arrow(
     // the contract alone names the events, as those that the places are of
     let _events = events;
     if let Mark::Send { from, ssn, to } = event {
-        shapes.push(arrow(place, from, to, place_of(places, from, ssn)))?;
+        let end = places.get(&MessageName { from, ssn }).copied();
+        shapes.push(arrow(place, from, to, end))?;
     }
     Ok(())
 }

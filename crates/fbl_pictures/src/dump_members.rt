@@ -1,7 +1,6 @@
 //! The labels and the lines of members.
 
-ghost use Rattle.std.specs.Prelude.{◌≡◌, ◌<◌, ◌++◌, ℕ, OnOk, length};
-ghost use Rattle.fbl_base.specs.Audit.{orphan_start_in};
+ghost use Rattle.std.specs.Prelude.{◌≡◌, ◌++◌, OnOk, length};
 ghost use Rattle.fbl_pictures.specs.DumpMembers.{dump_member_shapes, members_drawn, dump_status};
 
 use crate::names::push_names;
@@ -31,11 +30,7 @@ fn push_member(
 ) -> Result<(), AllocError>
     ensures { OnOk result (shapes.new.items ≡ shapes.old.items ++ dump_member_shapes columns member is_struck start) }
 {
-    shapes.push(Shape::Label {
-        member,
-        status: Some(status(is_struck, start)),
-    })?;
-    push_names(shapes, columns, member)?;
+    push_names(shapes, columns, member, Some(status(is_struck, start)))?;
     shapes.push(Shape::Line {
         member,
         start: None,
@@ -53,14 +48,6 @@ fn push_member(
     Ok(())
 }
 
-/// The place at which the member with this number starts to be an orphan, if it is one.
-fn start_in(starts: &[Option<usize>], member: u8) -> Option<usize>
-    requires { member < length starts.now }
-    ensures { result ≡ orphan_start_in starts.now member }
-{
-    starts[member as usize]
-}
-
 /// Adds the labels and the lines of the members, in their order, by the places at which orphans start.
 pub(crate) fn push_members(
     shapes: &mut Vec<Shape>,
@@ -74,7 +61,7 @@ pub(crate) fn push_members(
     let columns = dump.events().len();
     for number in 0..dump.members() {
         let member = Member::at(number);
-        let start = start_in(starts, number);
+        let start = starts[number as usize];
         push_member(shapes, columns, member, strike.has(member), start)?;
     }
     Ok(())

@@ -1,19 +1,21 @@
-//! The whole picture.
+//! The picture of a dump.
 
-ghost use Rattle.std.specs.Prelude.{◌≡◌, ◌<◌, ℕ, IfOk, length, string_bytes};
-ghost use Rattle.fbl_pictures.specs.DumpPaths.{places_in};
-ghost use Rattle.fbl_pictures.specs.DumpPictures.{IsPicture, dump_shapes, title};
+ghost use Rattle.std.specs.Prelude.{◌≡◌, IfOk, string_bytes};
+ghost use Rattle.fbl_input.specs.Faults.{PutsOut};
+ghost use Rattle.fbl_pictures.specs.DumpPictures.{AreShapesOf, IsPicture, title};
 
 use crate::dump_events::{push_arrows, push_marks};
 use crate::dump_members::push_members;
-use crate::dump_paths::{paths_of, push_paths};
+use crate::dump_paths::push_paths;
 use crate::picture::picture_text;
 use crate::shape::{Legend, Shape};
 use fbl_audit::orphan_starts;
 use fbl_base::MemberSet;
 use fbl_base::audit::{Audit, Dump};
+use fbl_input::{OutputFault, put};
 use fbl_texts::set_text;
 use std::alloc::{AllocError, Global};
+use std::io::Write;
 
 /// The numbers of the dump, and those that its audit prints.
 fn title_text(
@@ -34,44 +36,47 @@ fn title_text(
     )
 }
 
-/// The shapes of a dump, by where its orphans start and by the paths to them.
+/// The shapes of a dump.
 #[tactic(auto, unfolding(crate::specs::DumpPictures::dump_shapes))]
-fn shapes(
-    alloc: Global,
-    audit: &Audit,
-    starts: &[Option<usize>],
-    paths: &[Vec<usize>],
-) -> Result<Vec<Shape>, AllocError>
-    requires starts { length starts.now ≡ 16 }
-    requires paths { length paths.now ≡ 16 }
-    ensures { IfOk result (λ shapes. shapes.items ≡ dump_shapes audit.now starts.now (places_in paths.now)) }
+fn shapes(alloc: Global, audit: &Audit) -> Result<Vec<Shape>, AllocError>
+    ensures { IfOk result (λ shapes. AreShapesOf audit.now shapes.items) }
 {
     let dump = audit.dump();
     let mut shapes = Vec::new(alloc);
-    push_members(&mut shapes, dump, starts)?;
+    push_members(&mut shapes, dump, &orphan_starts(audit))?;
     push_arrows(&mut shapes, alloc, dump)?;
-    push_paths(&mut shapes, dump, paths)?;
+    push_paths(&mut shapes, alloc, audit)?;
     push_marks(&mut shapes, audit)?;
     Ok(shapes)
 }
 
 /// The picture of the dump.
-pub(crate) fn dump_picture(alloc: Global, dump: &Dump) -> Result<String, AllocError>
+fn dump_picture(alloc: Global, dump: &Dump) -> Result<String, AllocError>
     ensures { IfOk result (λ text. IsPicture dump.now (string_bytes text)) }
 {
     let audit = Audit::of(alloc, dump)?;
     let lost = audit.lost(alloc)?;
     let title = title_text(alloc, dump, lost.len(), audit.orphans())?;
-    let starts = orphan_starts(&audit);
-    let paths = paths_of(alloc, &audit)?;
-    let shapes = shapes(alloc, &audit, &starts, paths.as_slice())?;
-    let columns = dump.events().len();
+    let shapes = shapes(alloc, &audit)?;
     picture_text(
         alloc,
         title.as_str(),
         dump.members(),
-        columns,
+        dump.events().len(),
         Legend::Dump,
         shapes.as_slice(),
     )
+}
+
+/// Draws the dump, and writes the picture as SVG: a line for each member, a mark for each event and an arrow for each message.
+/// The time taken is nearly linear in the events and the held pairs.
+pub fn write_picture<W: Write>(
+    alloc: Global,
+    dump: &Dump,
+    writer: &mut W,
+) -> Result<(), OutputFault>
+    ensures { PutsOut (λ _. IsPicture dump.now) (W.contents writer.old) (W.contents writer.new) result }
+{
+    let text = dump_picture(alloc, dump)?;
+    put(writer, text.as_bytes())
 }

@@ -1,8 +1,7 @@
 //! The lines of the members.
 
-ghost use Rattle.std.specs.Prelude.{◌≡◌, ◌++◌, ◌≤◌, OnOk, length, ◌∷◌, []};
-ghost use Rattle.fbl_pictures.specs.HistoryMembers.{is_back, is_down_after, line_part, line_to, history_member_shapes, members_shapes};
-ghost use Rattle.fbl_pictures.specs.Places.{drawn};
+ghost use Rattle.std.specs.Prelude.{◌≡◌, ◌++◌, ◌≤◌, OnOk, false};
+ghost use Rattle.fbl_pictures.specs.HistoryMembers.{is_back, is_down_after, line_parts, members_shapes};
 
 use crate::names::push_names;
 use crate::shape::{LineKind, Shape};
@@ -30,7 +29,7 @@ fn after(member: Member, was_down: bool, column: &Column) -> bool
 
 /// Draws a member's line, dashed where the member is down.
 fn push_line(shapes: &mut Vec<Shape>, member: Member, columns: &[Column]) -> Result<(), AllocError>
-    ensures { OnOk result (shapes.new.items ≡ shapes.old.items ++ drawn (line_part columns.now member) 0 columns.now ++ line_to columns.now member (length columns.now) ∷ []) }
+    ensures { OnOk result (shapes.new.items ≡ shapes.old.items ++ line_parts member None false 0 columns.now) }
 {
     let mut is_down = false;
     let mut start = None;
@@ -59,23 +58,7 @@ fn push_line(shapes: &mut Vec<Shape>, member: Member, columns: &[Column]) -> Res
     Ok(())
 }
 
-/// Draws what there is of a member: its name, its number again, and its line.
-fn push_member(
-    shapes: &mut Vec<Shape>,
-    member: Member,
-    columns: &[Column],
-) -> Result<(), AllocError>
-    ensures { OnOk result (shapes.new.items ≡ shapes.old.items ++ history_member_shapes columns.now member) }
-{
-    shapes.push(Shape::Label {
-        member,
-        status: None,
-    })?;
-    push_names(shapes, columns.len(), member)?;
-    push_line(shapes, member, columns)
-}
-
-/// Draws what there is of each of the members, of whom there are 16 at most.
+/// Draws what there is of each of the members, of whom there are 16 at most: its names and its line.
 pub(crate) fn push_members(
     shapes: &mut Vec<Shape>,
     members: u8,
@@ -85,7 +68,9 @@ pub(crate) fn push_members(
     ensures { OnOk result (shapes.new.items ≡ shapes.old.items ++ members_shapes members columns.now) }
 {
     for number in 0..members {
-        push_member(shapes, Member::at(number), columns)?;
+        let member = Member::at(number);
+        push_names(shapes, columns.len(), member, None)?;
+        push_line(shapes, member, columns)?;
     }
     Ok(())
 }

@@ -1,16 +1,18 @@
 //! The arrows of messages, and the messages in flight.
 
-ghost use Rattle.std.specs.Prelude.{◌≡◌, ◌==◌, ◌++◌, ◌+◌, ◌<◌, IfOk, OnOk, length, slice_get, Some};
+ghost use Rattle.std.specs.Prelude.{◌≡◌, ◌==◌, ◌++◌, ◌+◌, ◌<◌, ℕ, IfOk, OnOk, Some, length, if◌then◌else◌};
 ghost use Rattle.std.specs.HashMap as hash_map;
 ghost use Rattle.std.specs.HashSet as hash_set;
 ghost use Rattle.fbl_base.specs.Events.{same_message};
-ghost use Rattle.fbl_pictures.specs.HistoryMessages.{receipt_arrow, arrow_between, arrow_from, arrow_kind, has_standing_receipt, sent_before, sent_by_column, stub, stub_unless, stub_where, taken_by_column};
+ghost use Rattle.fbl_pictures.specs.HistoryMessages.{receipt_arrow, arrow_from, arrow_kind, back_before, has_standing_receipt, last_sent as last_sent_of, sent_before, sent_by_column, stub as stub_in, stub_where, taken_by_column};
+ghost use Rattle.fbl_pictures.specs.HistoryMembers.{is_back};
+ghost use Rattle.fbl_pictures.specs.HistoryPlaces.{later};
 ghost use Rattle.fbl_pictures.specs.Places.{drawn};
 
-use crate::history_recoveries::{Comebacks, comeback_of, comebacks_in, is_behind, note_comebacks};
+use crate::names::push_any;
 use crate::shape::{ArrowKind, Shape};
 use fbl_base::{Member, MessageName};
-use fbl_history::Column;
+use fbl_history::{Column, Replay};
 use std::alloc::{AllocError, Global};
 use std::collections::{HashMap, HashSet};
 use std::hash::{BuildHasherDefault, FoldHasher};
@@ -20,6 +22,9 @@ type SendPlaces = HashMap<MessageName, usize, BuildHasherDefault<FoldHasher>>;
 
 /// The messages of which a receipt stands.
 type Received = HashSet<MessageName, BuildHasherDefault<FoldHasher>>;
+
+/// For each member that came back, the place of the last recovery that brought it back.
+type Comebacks = HashMap<Member, usize, BuildHasherDefault<FoldHasher>>;
 
 /// The message that a column sends, undone or not.
 fn message_sent(column: &Column) -> Option<MessageName>
@@ -52,6 +57,56 @@ fn message_taken(column: &Column) -> Option<MessageName>
     }
 }
 
+/// The place of the last recovery that brought back the sender or the receiver of a message, if one did.
+fn comeback_of(comebacks: &Comebacks, from: Member, to: Member) -> Option<usize>
+    ensures { result ≡ later (hash_map.get ◌==◌ comebacks.now from) (hash_map.get ◌==◌ comebacks.now to) }
+{
+    let sender = comebacks.get(&from).copied();
+    let receiver = comebacks.get(&to).copied();
+    sender.max(receiver)
+}
+
+/// Notes that these members came back at this place.
+fn note_replays(
+    comebacks: &mut Comebacks,
+    replays: &[Replay],
+    place: usize,
+) -> Result<(), AllocError>
+    ensures { OnOk result ((q : ℕ) → hash_map.get ◌==◌ comebacks.new q ≡ if is_back q replays.now then Some place else hash_map.get ◌==◌ comebacks.old q) }
+{
+    for replay in replays {
+        comebacks.insert(replay.member, place)?;
+    }
+    Ok(())
+}
+
+/// Notes who comes back at the column at this place, if it is a recovery.
+fn note_comebacks(
+    comebacks: &mut Comebacks,
+    columns: &[Column],
+    place: usize,
+) -> Result<(), AllocError>
+    requires within { place < length columns.now }
+    requires before { (q : ℕ) → hash_map.get ◌==◌ comebacks.old q ≡ back_before columns.now place q }
+    ensures { OnOk result ((q : ℕ) → hash_map.get ◌==◌ comebacks.new q ≡ back_before columns.now (place + 1) q) }
+{
+    if let Column::Recovery(replays) = &columns[place] {
+        note_replays(comebacks, replays.as_slice(), place)?;
+    }
+    Ok(())
+}
+
+/// The last places at which members came back.
+fn comebacks_in(alloc: Global, columns: &[Column]) -> Result<Comebacks, AllocError>
+    ensures { IfOk result (λ comebacks. (q : ℕ) → hash_map.get ◌==◌ comebacks q ≡ back_before columns.now (length columns.now) q) }
+{
+    let mut comebacks = HashMap::new(alloc);
+    for place in 0..columns.len() {
+        note_comebacks(&mut comebacks, columns, place)?;
+    }
+    Ok(comebacks)
+}
+
 /// How the arrow to a receipt is drawn.
 fn kind_of_arrow(again: bool, undone: bool) -> ArrowKind
     ensures { result ≡ arrow_kind again undone }
@@ -64,51 +119,16 @@ fn kind_of_arrow(again: bool, undone: bool) -> ArrowKind
     }
 }
 
-/// The last place at which the message was sent, if it was.
-fn place_of(places: &SendPlaces, from: Member, ssn: u32) -> Option<usize>
-    ensures { result ≡ hash_map.get same_message places.now (record { from = from; ssn = ssn }) }
+/// Where a message is sent last, by where it was sent and where a recovery may have sent it again.
+fn last_sent(sent: usize, back: Option<usize>) -> usize
+    ensures { result ≡ last_sent_of sent back }
 {
-    let message = MessageName { from, ssn };
-    places.get(&message).copied()
+    back.map_or(sent, |back| sent.max(back))
 }
 
-/// Draws the arrow to a receipt from where its message was sent, if it was, or from where a recovery sent it again.
-fn push_arrow_between(
-    shapes: &mut Vec<Shape>,
-    sent: Option<usize>,
-    back: Option<usize>,
-    from: Member,
-    to: Member,
-    received: usize,
-    undone: bool,
-) -> Result<(), AllocError>
-    ensures { OnOk result (shapes.new.items ≡ shapes.old.items ++ arrow_between sent back from to received undone) }
-{
-    if let Some(first) = sent {
-        let (start, again) = match back {
-            Some(back) => (first.max(back), first < back),
-            None => (first, false),
-        };
-        shapes.push(Shape::Arrow {
-            from,
-            sent: start,
-            to,
-            received,
-            kind: kind_of_arrow(again, undone),
-        })?;
-    }
-    Ok(())
-}
-
-/// Draws the arrow to a column at this place, if it is a receipt.
-fn push_arrow(
-    shapes: &mut Vec<Shape>,
-    places: &SendPlaces,
-    comebacks: &Comebacks,
-    place: usize,
-    column: &Column,
-) -> Result<(), AllocError>
-    ensures { OnOk result (shapes.new.items ≡ shapes.old.items ++ arrow_from (λ m. hash_map.get same_message places.now m) (λ q. hash_map.get ◌==◌ comebacks.now q) place column.now) }
+/// The arrow to a column at this place, if it is a receipt of a message that was sent.
+fn arrow(places: &SendPlaces, comebacks: &Comebacks, place: usize, column: &Column) -> Option<Shape>
+    ensures { result ≡ arrow_from (λ m. hash_map.get same_message places.now m) (λ q. hash_map.get ◌==◌ comebacks.now q) place column.now }
 {
     match column {
         Column::Receipt {
@@ -118,11 +138,18 @@ fn push_arrow(
             undone,
             ..
         } => {
-            let sent = place_of(places, *from, *ssn);
-            let back = comeback_of(comebacks, *from, *to);
-            push_arrow_between(shapes, sent, back, *from, *to, place, *undone)
+            let (from, ssn, to) = (*from, *ssn, *to);
+            let sent = places.get(&MessageName { from, ssn }).copied()?;
+            let start = last_sent(sent, comeback_of(comebacks, from, to));
+            Some(Shape::Arrow {
+                from,
+                sent: start,
+                to,
+                received: place,
+                kind: kind_of_arrow(sent < start, *undone),
+            })
         }
-        _ => Ok(()),
+        _ => None,
     }
 }
 
@@ -138,7 +165,7 @@ fn note_send(places: &mut SendPlaces, columns: &[Column], place: usize) -> Resul
     Ok(())
 }
 
-/// Draws an arrow to each receipt, undone or not, from where its message was sent.
+/// Draws an arrow to each receipt, undone or not, from where its message was sent or sent again.
 pub(crate) fn push_arrows(
     shapes: &mut Vec<Shape>,
     alloc: Global,
@@ -149,7 +176,7 @@ pub(crate) fn push_arrows(
     let mut places = HashMap::new(alloc);
     let mut comebacks = HashMap::new(alloc);
     for (place, column) in columns.iter().enumerate() {
-        push_arrow(shapes, &places, &comebacks, place, column)?;
+        push_any(shapes, arrow(&places, &comebacks, place, column))?;
         note_send(&mut places, columns, place)?;
         note_comebacks(&mut comebacks, columns, place)?;
     }
@@ -169,58 +196,29 @@ fn received_in(alloc: Global, columns: &[Column]) -> Result<Received, AllocError
     Ok(received)
 }
 
-/// Whether a receipt of the message stands.
-fn is_taken(received: &Received, from: Member, ssn: u32) -> bool
-    ensures { result ≡ hash_set.contains same_message received.now (record { from = from; ssn = ssn }) }
-{
-    let message = MessageName { from, ssn };
-    received.contains(&message)
-}
-
-/// Draws the stub of a message that was sent at this place, if no receipt of it stands.
-fn push_stub_unless(
-    shapes: &mut Vec<Shape>,
-    taken: bool,
-    from: Member,
-    sent: usize,
-    to: Member,
-    again: bool,
-) -> Result<(), AllocError>
-    ensures { OnOk result (shapes.new.items ≡ shapes.old.items ++ stub_unless taken from sent to again) }
-{
-    if !taken {
-        shapes.push(Shape::InFlight {
-            from,
-            sent,
-            to,
-            again,
-        })?;
-    }
-    Ok(())
-}
-
-/// Draws the stub of a column at this place, if it is a send of a message in flight.
-fn push_stub(
-    shapes: &mut Vec<Shape>,
-    received: &Received,
-    comebacks: &Comebacks,
-    place: usize,
-    column: &Column,
-) -> Result<(), AllocError>
-    ensures { OnOk result (shapes.new.items ≡ shapes.old.items ++ stub_where (λ m. hash_set.contains same_message received.now m) (λ q. hash_map.get ◌==◌ comebacks.now q) place column.now) }
+/// The stub of a column at this place, if it is a send of a message in flight.
+fn stub(received: &Received, comebacks: &Comebacks, place: usize, column: &Column) -> Option<Shape>
+    ensures { result ≡ stub_where (λ m. hash_set.contains same_message received.now m) (λ q. hash_map.get ◌==◌ comebacks.now q) place column.now }
 {
     match column {
         Column::Send {
             from,
             ssn,
             to,
-            undone: false,
+            undone,
         } => {
-            let taken = is_taken(received, *from, *ssn);
-            let again = is_behind(place, comeback_of(comebacks, *from, *to));
-            push_stub_unless(shapes, taken, *from, place, *to, again)
+            let (from, ssn, to) = (*from, *ssn, *to);
+            if *undone || received.contains(&MessageName { from, ssn }) {
+                return None;
+            }
+            Some(Shape::InFlight {
+                from,
+                sent: place,
+                to,
+                again: place < last_sent(place, comeback_of(comebacks, from, to)),
+            })
         }
-        _ => Ok(()),
+        _ => None,
     }
 }
 
@@ -230,12 +228,12 @@ pub(crate) fn push_stubs(
     alloc: Global,
     columns: &[Column],
 ) -> Result<(), AllocError>
-    ensures { OnOk result (shapes.new.items ≡ shapes.old.items ++ drawn (stub columns.now) 0 columns.now) }
+    ensures { OnOk result (shapes.new.items ≡ shapes.old.items ++ drawn (stub_in columns.now) 0 columns.now) }
 {
     let received = received_in(alloc, columns)?;
     let comebacks = comebacks_in(alloc, columns)?;
     for (place, column) in columns.iter().enumerate() {
-        push_stub(shapes, &received, &comebacks, place, column)?;
+        push_any(shapes, stub(&received, &comebacks, place, column))?;
     }
     Ok(())
 }

@@ -2,17 +2,14 @@
 //! heading and a legend.
 #![tactic(auto)]
 
-mod drawing;
 mod dump_events;
 mod dump_members;
 mod dump_paths;
 mod dump_picture;
-mod dump_receipts;
 mod history_marks;
 mod history_members;
 mod history_messages;
 mod history_picture;
-mod history_recoveries;
 pub mod laws;
 mod lines;
 mod look;
@@ -23,5 +20,5 @@ mod places;
 mod shape;
 mod words;
 
-pub use drawing::write_picture;
+pub use dump_picture::write_picture;
 pub use history_picture::show_text;

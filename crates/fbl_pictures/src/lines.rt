@@ -110,10 +110,9 @@ pub(crate) fn in_flight_text(
         x: left + towards(from, to, 0, 18) as u128,
         y: towards(from, to, low - 12, line - 20),
     };
-    let mut text = segment_text(alloc, in_flight_class(again), start, end)?;
+    let stub = segment_text(alloc, in_flight_class(again), start, end)?;
     let x = left + towards(from, to, 0, 26) as u128;
     let y = towards(from, to, low, line - 22);
     let to = to.number();
-    write!(text, "<text class='at' x='{x}' y='{y}'>to {to}</text>\n")?;
-    Ok(text)
+    format!(in alloc; "{stub}<text class='at' x='{x}' y='{y}'>to {to}</text>\n")
 }

@@ -5,7 +5,7 @@ ghost use Rattle.fbl_pictures.specs.Marks.{drawn_checkpoint, cross, drawn_held_r
 
 use crate::places::{below, x, y};
 use crate::shape::Kind;
-use crate::words::{gone_class, receipts_word, undone_class, undone_words};
+use crate::words::{receipts_word, words_if};
 use fbl_base::{Determinant, Member, MemberSet};
 use fbl_texts::set_text;
 use std::alloc::{AllocError, Global};
@@ -44,13 +44,9 @@ fn number_text(
     requires { y < 30000 }
     ensures { IfOk result (λ text. string_bytes text ≡ number x y undone words.now) }
 {
-    let gone = gone_class(undone);
-    let mut text = stroke_text(alloc, x, y, undone, words.len())?;
-    write!(
-        text,
-        "<text class='at{gone}' x='{x}' y='{y}'>{words}</text>\n"
-    )?;
-    Ok(text)
+    let gone = words_if(undone, " gone");
+    let stroke = stroke_text(alloc, x, y, undone, words.len())?;
+    format!(in alloc; "{stroke}<text class='at{gone}' x='{x}' y='{y}'>{words}</text>\n")
 }
 
 /// The text of the cross over the mark of an undone event.
@@ -87,21 +83,16 @@ pub(crate) fn send_text(
     let receiver = to.number();
     let x = x(column);
     let y = y(sender);
-    let class = undone_class(undone);
-    let end = undone_words(undone);
-    let mut text = format!(in alloc;
-        "<circle class='send{class}' cx='{x}' cy='{y}' r='5'><title>"
-    )?;
-    write!(
-        text,
-        "member {sender} sends its message {ssn} to {receiver}{end}</title></circle>\n"
-    )?;
+    let class = words_if(undone, " undone");
+    let end = words_if(undone, ", undone");
     let cross = cross_text(alloc, column, from, undone)?;
-    text.push_str(cross.as_str())?;
     let words = format!(in alloc; "{ssn}")?;
     let number = number_text(alloc, x, y - 11, undone, words.as_str())?;
-    text.push_str(number.as_str())?;
-    Ok(text)
+    format!(in alloc;
+        "<circle class='send{class}' cx='{x}' cy='{y}' r='5'>\
+         <title>member {sender} sends its message {ssn} to {receiver}{end}</title></circle>\n\
+         {cross}{number}"
+    )
 }
 
 /// The start of the title of a receipt.
@@ -130,26 +121,22 @@ pub(crate) fn receipt_text(
     let rsn = determinant.rsn;
     let x = x(column);
     let y = y(determinant.to.number());
-    let class = undone_class(undone);
-    let end = undone_words(undone);
+    let class = words_if(undone, " undone");
+    let end = words_if(undone, ", undone");
     let left = x - 7;
     let top = y - 7;
-    let mut text = format!(in alloc;
-        "<rect class='receipt{class}' x='{left}' y='{top}' width='14' height='14'>"
-    )?;
     let title = receipt_title_text(alloc, determinant)?;
-    text.push_str(title.as_str())?;
-    write!(text, ", state {state}{end}</title></rect>\n")?;
     let cross = cross_text(alloc, column, determinant.to, undone)?;
-    text.push_str(cross.as_str())?;
     let words = format!(in alloc; "{rsn}")?;
     let number = number_text(alloc, x, y + 20, undone, words.as_str())?;
-    text.push_str(number.as_str())?;
     let low = below(column, determinant.to.number(), 9999 < state);
     let words = format!(in alloc; "{state}")?;
-    let number = number_text(alloc, x, low, undone, words.as_str())?;
-    text.push_str(number.as_str())?;
-    Ok(text)
+    let after = number_text(alloc, x, low, undone, words.as_str())?;
+    format!(in alloc;
+        "<rect class='receipt{class}' x='{left}' y='{top}' width='14' height='14'>\
+         {title}, state {state}{end}</title></rect>\n\
+         {cross}{number}{after}"
+    )
 }
 
 /// The text of a receipt of a dump.
@@ -168,15 +155,13 @@ pub(crate) fn held_text(
     let y = y(determinant.to.number());
     let class = kind.class();
     let outline = kind.outline();
-    let mut text = format!(in alloc; "<path class='{class}' d='M{x} {y}{outline}'>")?;
     let title = receipt_title_text(alloc, determinant)?;
-    text.push_str(title.as_str())?;
     let holders = set_text(alloc, holders)?;
-    write!(text, ", held by {holders}</title></path>\n")?;
     let words = format!(in alloc; "{rsn}")?;
     let number = number_text(alloc, x, y + 20, false, words.as_str())?;
-    text.push_str(number.as_str())?;
-    Ok(text)
+    format!(in alloc;
+        "<path class='{class}' d='M{x} {y}{outline}'>{title}, held by {holders}</title></path>\n{number}"
+    )
 }
 
 /// The text of a strike.
@@ -211,15 +196,14 @@ pub(crate) fn recovery_text(
     let y = y(member);
     let top = y - 9;
     let word = receipts_word(u128::from(receipts));
-    let mut text = format!(in alloc;
-        "<path class='recovery' d='M{x} {top}l9 16h-18z'><title>member {member} is recovered, "
-    )?;
-    write!(text, "{receipts} {word} replayed</title></path>\n")?;
     let words = format!(in alloc; "replays {receipts}")?;
     let low = below(column, member, true);
     let number = number_text(alloc, x, low, false, words.as_str())?;
-    text.push_str(number.as_str())?;
-    Ok(text)
+    format!(in alloc;
+        "<path class='recovery' d='M{x} {top}l9 16h-18z'>\
+         <title>member {member} is recovered, {receipts} {word} replayed</title></path>\n\
+         {number}"
+    )
 }
 
 /// The text of a checkpoint.

@@ -1,20 +1,33 @@
-//! Names that stand again, so that a wide picture can be read far from its left end.
+//! What both pictures draw alike: the names of members, and what may be drawn or not.
 
 ghost use Rattle.std.specs.Prelude.{◌≡◌, ◌++◌, OnOk};
-ghost use Rattle.fbl_pictures.specs.Names.{names};
+ghost use Rattle.std.specs.Option.{option_to_list};
+ghost use Rattle.fbl_pictures.specs.Names.{label_and_names};
 
-use crate::shape::Shape;
+use crate::shape::{Shape, Status};
 use fbl_base::Member;
 use std::alloc::AllocError;
 
-/// Adds the member's name behind each 24 columns. `Err` comes only where there is no memory for more shapes.
+/// Adds the shape, if there is one.
+pub(crate) fn push_any(shapes: &mut Vec<Shape>, shape: Option<Shape>) -> Result<(), AllocError>
+    ensures { OnOk result (shapes.new.items ≡ shapes.old.items ++ option_to_list shape) }
+{
+    if let Some(shape) = shape {
+        shapes.push(shape)?;
+    }
+    Ok(())
+}
+
+/// Adds the member's label, and its name behind each 24 columns, so that a wide picture can be read far from its left end.
 pub(crate) fn push_names(
     shapes: &mut Vec<Shape>,
     columns: usize,
     member: Member,
+    status: Option<Status>,
 ) -> Result<(), AllocError>
-    ensures { OnOk result (shapes.new.items ≡ shapes.old.items ++ names columns member) }
+    ensures { OnOk result (shapes.new.items ≡ shapes.old.items ++ label_and_names columns member status) }
 {
+    shapes.push(Shape::Label { member, status })?;
     for group in 0..columns / 24 {
         let column = 24 * (group + 1);
         shapes.push(Shape::Name { column, member })?;

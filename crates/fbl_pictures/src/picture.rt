@@ -1,7 +1,7 @@
 //! Pictures: a frame with a heading and a legend, and in it the texts of shapes.
 
 ghost use Rattle.std.specs.Prelude.{◌≡◌, ◌++◌, IfOk, OnOk, string_bytes};
-ghost use Rattle.fbl_pictures.specs.Pictures.{ending, drawn_heading, opening, picture, text_of, texts_of};
+ghost use Rattle.fbl_pictures.specs.Pictures.{ending, opening, picture, text_of, texts_of};
 
 use crate::lines::{arrow_text, in_flight_text, label_text, line_text, name_text};
 use crate::look::{entries, look};
@@ -80,29 +80,20 @@ fn push_shapes(text: &mut String, alloc: Global, shapes: &[Shape]) -> Result<(),
     Ok(())
 }
 
-/// The start of a picture, as wide and as high as this.
+/// The start of a picture, as wide and as high as this: its title, its look, the background and the heading.
 #[tactic(auto, unfolding(crate::specs::Pictures::opening))]
-fn opening_text(alloc: Global, width: u128, height: u32) -> Result<String, AllocError>
-    ensures { IfOk result (λ text. string_bytes text ≡ opening width height) }
+fn opening_text(alloc: Global, title: &str, width: u128, height: u32) -> Result<String, AllocError>
+    ensures { IfOk result (λ text. string_bytes text ≡ opening title.now width height) }
 {
+    let look = look();
     format!(in alloc;
-        "<svg class='fbl' xmlns='http://www.w3.org/2000/svg' viewBox='0 0 {width} {height}' width='{width}' height='{height}' role='img'>\n"
+        "<svg class='fbl' xmlns='http://www.w3.org/2000/svg' viewBox='0 0 {width} {height}' \
+         width='{width}' height='{height}' role='img'>\n\
+         <title>{title}</title>\n\
+         {look}\
+         <rect class='back' width='{width}' height='{height}'/>\n\
+         <text class='head' x='16' y='28'>{title}</text>\n"
     )
-}
-
-/// The title, the look, the background and the heading.
-#[tactic(auto, unfolding(crate::specs::Pictures::drawn_heading))]
-fn heading_text(alloc: Global, title: &str, width: u128, height: u32) -> Result<String, AllocError>
-    ensures { IfOk result (λ text. string_bytes text ≡ drawn_heading title.now width height) }
-{
-    let mut text = format!(in alloc; "<title>{title}</title>\n")?;
-    text.push_str(look())?;
-    write!(
-        text,
-        "<rect class='back' width='{width}' height='{height}'/>\n"
-    )?;
-    write!(text, "<text class='head' x='16' y='28'>{title}</text>\n")?;
-    Ok(text)
 }
 
 /// The legend, and the end of the picture.
@@ -111,10 +102,8 @@ fn ending_text(alloc: Global, members: u8, legend: Legend) -> Result<String, All
     ensures { IfOk result (λ text. string_bytes text ≡ ending members legend) }
 {
     let y = y(members) - 4;
-    let mut text = format!(in alloc; "<g transform='translate(0 {y})'>\n")?;
-    text.push_str(entries(legend))?;
-    text.push_str("</g>\n</svg>\n")?;
-    Ok(text)
+    let entries = entries(legend);
+    format!(in alloc; "<g transform='translate(0 {y})'>\n{entries}</g>\n</svg>\n")
 }
 
 /// The picture of the shapes, as SVG, under a title: so many members have a line in it, and so many columns have room. The
@@ -133,11 +122,7 @@ pub(crate) fn picture_text(
 ) -> Result<String, AllocError>
     ensures { IfOk result (λ text. string_bytes text ≡ picture title.now members columns legend shapes.now) }
 {
-    let width = width(columns);
-    let height = height(members);
-    let mut text = opening_text(alloc, width, height)?;
-    let heading = heading_text(alloc, title, width, height)?;
-    text.push_str(heading.as_str())?;
+    let mut text = opening_text(alloc, title, width(columns), height(members))?;
     push_shapes(&mut text, alloc, shapes)?;
     let ending = ending_text(alloc, members, legend)?;
     text.push_str(ending.as_str())?;

@@ -3,7 +3,7 @@
 use fbl_base::{Determinant, Member, MemberSet};
 
 /// What a label says of a member of a dump.
-#[derive(Clone, Copy, PartialEq, Eq, Debug)]
+#[derive(Clone, Copy)]
 pub enum Status {
     /// It is in the strike set.
     Struck,
@@ -14,7 +14,7 @@ pub enum Status {
 }
 
 /// How a part of a member's line is drawn.
-#[derive(Clone, Copy, PartialEq, Eq, Debug)]
+#[derive(Clone, Copy)]
 pub enum LineKind {
     /// The member is up: drawn through.
     Up,
@@ -27,7 +27,7 @@ pub enum LineKind {
 }
 
 /// How an arrow from a send to a receipt is drawn.
-#[derive(Clone, Copy, PartialEq, Eq, Debug)]
+#[derive(Clone, Copy)]
 pub enum ArrowKind {
     /// A message that was received: drawn through.
     Message,
@@ -42,7 +42,7 @@ pub enum ArrowKind {
 }
 
 /// How safe a receipt of a dump is.
-#[derive(Clone, Copy, PartialEq, Eq, Debug)]
+#[derive(Clone, Copy)]
 pub enum Kind {
     /// More than f members hold it, and one of them is not struck.
     Stable,
@@ -53,7 +53,7 @@ pub enum Kind {
 }
 
 /// Which legend a picture has.
-#[derive(Clone, Copy, PartialEq, Eq, Debug)]
+#[derive(Clone, Copy)]
 pub enum Legend {
     /// That of a picture of a history.
     History,
@@ -62,7 +62,7 @@ pub enum Legend {
 }
 
 /// A part of a picture. Columns count from 0, from the left; each member has a line, the first one at the top.
-#[derive(Clone, Copy, PartialEq, Eq, Debug)]
+#[derive(Clone, Copy)]
 pub enum Shape {
     /// A member's name at the left end of its line, with its status where there is one to tell.
     Label {

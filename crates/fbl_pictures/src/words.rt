@@ -2,9 +2,16 @@
 
 ghost use Rattle.std.specs.Prelude.{◌≡◌};
 ghost use Rattle.fbl_pictures.specs.Marks.{drawn_outline};
-ghost use Rattle.fbl_pictures.specs.Words.{arrow_class, gone_class as gone_class_of, in_flight_class as in_flight_class_of, kind_class, line_class, line_kind_of, receipts_word as receipts_word_of, status_words as status_words_of, undone_class as undone_class_of, undone_words as undone_words_of};
+ghost use Rattle.fbl_pictures.specs.Words.{arrow_class, in_flight_class as in_flight_class_of, kind_class, line_class, line_kind_of, receipts_word as receipts_word_of, status_words as status_words_of, words_if as words_if_of};
 
 use crate::shape::{ArrowKind, Kind, LineKind, Status};
+
+/// These words, if so.
+pub(crate) fn words_if(condition: bool, words: &'static str) -> &'static str
+    ensures { result.now ≡ words_if_of condition words.now }
+{
+    if condition { words } else { "" }
+}
 
 /// What a label says behind a member's number.
 pub(crate) fn status_words(status: Option<Status>) -> &'static str
@@ -91,27 +98,6 @@ pub(crate) fn in_flight_class(again: bool) -> &'static str
     } else {
         "message in-flight"
     }
-}
-
-/// What the class of an event has beside its sort.
-pub(crate) fn undone_class(undone: bool) -> &'static str
-    ensures { result.now ≡ undone_class_of undone }
-{
-    if undone { " undone" } else { "" }
-}
-
-/// What the title of an event ends with.
-pub(crate) fn undone_words(undone: bool) -> &'static str
-    ensures { result.now ≡ undone_words_of undone }
-{
-    if undone { ", undone" } else { "" }
-}
-
-/// What the class of a number beside a mark has.
-pub(crate) fn gone_class(undone: bool) -> &'static str
-    ensures { result.now ≡ gone_class_of undone }
-{
-    if undone { " gone" } else { "" }
 }
 
 /// The word for so many receipts.

@@ -1,4 +1,4 @@
-use Rattle.fbl_history.proofs.Common.{◌<◌, ◌+◌, ◌∙◌, sym, ap, arith, drop, length, fold, at_drop_more, made_after}
+use Rattle.fbl_history.proofs.Common.{◌+◌, ◌∙◌, sym, ap, arith, drop, fold, at_drop_more, made_after}
 use Rattle.fbl_history.proofs.counts.receipts_made.Goals as goal
 
 pub loop-column-preserved : goal.loop-column-preserved

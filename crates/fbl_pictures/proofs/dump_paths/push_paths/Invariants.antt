@@ -1,7 +1,8 @@
-use Rattle.fbl_pictures.proofs.Common.{◌≡◌, ◌++◌, ◌-◌, flat_map, range_with_len, path_shapes, paths_drawn, places_in}
+-- the paths so far, and those to the members to come, are the paths to all
+use Rattle.fbl_pictures.proofs.Common.{List, ◌≡◌, ◌++◌, ◌-◌, range_with_len, ArePathsDrawn, Shape}
 use Rattle.fbl_pictures.proofs.dump_paths.push_paths.Given as goal
 
 abbrev pub invariant-loop-number : goal.invariant-loop-number
 invariant-loop-number l =
-    l.shapes.items ++ flat_map (λ m. path_shapes l.dump.events (places_in l.paths m)) (range_with_len l.number (l.dump.members - l.number))
-    ≡ l.fn.shapes.items ++ paths_drawn l.dump (places_in l.paths)
+    (rest : List Shape) → ArePathsDrawn l.audit (range_with_len l.number (l.audit.members - l.number)) rest
+    → (paths : List Shape) × ArePathsDrawn l.audit (range_with_len 0 l.audit.members) paths × (l.shapes.items ++ rest ≡ l.initial.shapes.items ++ paths)

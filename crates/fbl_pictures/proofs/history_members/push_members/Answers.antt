@@ -1,7 +1,13 @@
-use Rattle.fbl_pictures.proofs.Common.{◌++◌, ◌∙◌, ap, arith, rows_on, history_member_shapes}
+use Rattle.fbl_pictures.proofs.Common.{None, ◌++◌, ◌∙◌, ap, append_assoc, arith, false, length, rows_on, history_member_shapes, label_and_names, line_parts}
 use Rattle.fbl_pictures.proofs.history_members.push_members.Goals as goal
 
 pub loop-number-preserved : goal.loop-number-preserved
 loop-number-preserved c =
-    let pushed = c.in_ok-push_member.ensures ∙ ap (λ m. c.loop-number.shapes.items ++ history_member_shapes c.args.columns.now m) c.at.ensures in
-    rw pushed (rows_on (history_member_shapes c.args.columns.now) c.args.members c.loop-number.number _ _ (omega arith) c.loop-number.invariant)
+    let columns = c.args.columns.now in
+    let shapes = c.loop-number.shapes.items in
+    let m = c.at-member.result in
+    let pushed =
+    c.in_ok-push_line.ensures ∙ ap (λ s. s ++ line_parts m None false 0 columns) c.in_ok-push_names.ensures
+    ∙ append_assoc shapes (label_and_names (length columns) m None) (line_parts m None false 0 columns)
+    ∙ ap (λ m. shapes ++ history_member_shapes columns m) c.at-member.ensures in
+    rw pushed (rows_on (history_member_shapes columns) c.args.members c.loop-number.number _ _ (omega arith) c.loop-number.invariant)

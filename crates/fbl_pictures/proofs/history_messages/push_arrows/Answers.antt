@@ -1,4 +1,4 @@
-use Rattle.fbl_pictures.proofs.Common.{◌≡◌, ◌<◌, ◌++◌, ◌+◌, drop, ◌∙◌, ap, arith, length, arrow_from, receipt_arrow, drawn}
+use Rattle.fbl_pictures.proofs.Common.{◌≡◌, ◌<◌, ◌++◌, ◌+◌, drop, ◌∙◌, ap, arith, length, arrow_from, option_to_list, receipt_arrow, drawn}
 use Rattle.fbl_pictures.proofs.Steps.{drawn_on}
 use Rattle.fbl_pictures.proofs.history_messages.push_arrows.Goals as goal
 
@@ -9,8 +9,9 @@ loop-place-preserved c =
     let x = c.index-columns-place.result in
     let within : i < length columns = omega arith in
     let known = c.loop-place.invariant in
-    let pushed : c.push_arrow.new.shapes.items ≡ c.loop-place.shapes.items ++ receipt_arrow columns i x =
-    c.in_ok-push_arrow.ensures ∙ (λ j. c.loop-place.shapes.items ++ arrow_from (λ m. known.0 m j) (λ q. known.1 q j) i x) in (
+    let pushed : c.push_any.new.shapes.items ≡ c.loop-place.shapes.items ++ receipt_arrow columns i x =
+    c.in_ok-push_any.ensures
+    ∙ ap (λ o. c.loop-place.shapes.items ++ option_to_list o) (c.arrow.ensures ∙ (λ j. arrow_from (λ m. known.0 m j) (λ q. known.1 q j) i x)) in (
       c.in_ok-note_send.ensures,
       c.in_ok-note_comebacks.ensures,
       ap (λ s. s ++ drawn (receipt_arrow columns) (i + 1) (drop (i + 1) columns)) pushed

@@ -1,4 +1,4 @@
-use Rattle.fbl_pictures.proofs.Common.{◌<◌, ◌++◌, ◌+◌, drop, ◌∙◌, ap, arith, length, stub, stub_where, drawn}
+use Rattle.fbl_pictures.proofs.Common.{◌<◌, ◌++◌, ◌+◌, drop, ◌∙◌, ap, arith, length, option_to_list, stub, stub_where, drawn}
 use Rattle.fbl_pictures.proofs.Steps.{drawn_on}
 use Rattle.fbl_pictures.proofs.history_messages.push_stubs.Goals as goal
 
@@ -8,6 +8,7 @@ loop-place-preserved c =
     let i = c.loop-place.place in
     let x = c.index-columns-place.result in
     let within : i < length columns = omega arith in
-    ap (λ s. s ++ drawn (stub columns) (i + 1) (drop (i + 1) columns))
-    (c.in_ok-push_stub.ensures ∙ (λ j. c.loop-place.shapes.items ++ stub_where (λ m. c.in_ok-received.ensures m j) (λ q. c.in_ok-comebacks.ensures q j) i x))
+    ap (λ s. s ++ drawn (stub columns) (i + 1) (drop (i + 1) columns)) (c.in_ok-push_any.ensures
+    ∙ ap (λ o. c.loop-place.shapes.items ++ option_to_list o)
+    (c.stub.ensures ∙ (λ j. stub_where (λ m. c.in_ok-received.ensures m j) (λ q. c.in_ok-comebacks.ensures q j) i x)))
     ∙ drawn_on columns i x within c.index-columns-place.is (stub columns) c.loop-place.shapes.items _ c.loop-place.invariant

@@ -9,4 +9,4 @@ loop-group-preserved c =
     let name : ℕ → Shape = λ group. Name (24 * (group + 1)) c.args.member in
     let k = c.loop-group.group in
     let here : 0 + k ≡ k = omega arith in
-    rw (c.in_ok-push.ensures.items, c.loop-group.invariant, map-range_with_len_more name 0 k k here, append_assoc)
+    rw (c.in_ok-push-2.ensures.items, c.loop-group.invariant, map-range_with_len_more name 0 k k here, append_assoc)

@@ -4,4 +4,4 @@ use Rattle.fbl_pictures.specs.declared.shape.Shape.TheVariants.{Name}
 use Rattle.fbl_pictures.proofs.names.push_names.Given as goal
 
 abbrev pub invariant-loop-group : goal.invariant-loop-group
-invariant-loop-group l = l.shapes.items ≡ l.fn.shapes.items ++ map (λ group. Name (24 * (group + 1)) l.member) (range_with_len 0 l.group)
+invariant-loop-group l = l.shapes.items ≡ l.initial.shapes.items ++ map (λ group. Name (24 * (group + 1)) l.member) (range_with_len 0 l.group)

@@ -1,5 +1,5 @@
 use Rattle.fbl_pictures.proofs.Common.{◌≡◌, ◌==◌, ◌||◌, ◌+◌, ◌∙◌, ◌∷◌, sym, ap, drop, arith, at_drop_more, is_back}
-use Rattle.fbl_pictures.proofs.history_recoveries.note_replays.Goals as goal
+use Rattle.fbl_pictures.proofs.history_messages.note_replays.Goals as goal
 
 pub loop-replay-preserved : goal.loop-replay-preserved
 loop-replay-preserved c q =

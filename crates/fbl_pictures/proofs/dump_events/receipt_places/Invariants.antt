@@ -1,6 +1,6 @@
 use Rattle.fbl_pictures.proofs.Common.{◌≡◌, drop, position_from, option_or, same_message, MessageName, receipt_place, takes}
 use Rattle.std.specs.HashMap as hash_map
-use Rattle.fbl_pictures.proofs.dump_receipts.receipt_places.Given as goal
+use Rattle.fbl_pictures.proofs.dump_events.receipt_places.Given as goal
 
 abbrev pub invariant-loop-place : goal.invariant-loop-place
 invariant-loop-place l = (m : MessageName)

@@ -1,5 +1,5 @@
 use Rattle.fbl_pictures.proofs.Common.{puts_text, IsPicture}
-use Rattle.fbl_pictures.proofs.drawing.write_picture.Goals as goal
+use Rattle.fbl_pictures.proofs.dump_picture.write_picture.Goals as goal
 
 pub returns : goal.returns
 returns g c =
