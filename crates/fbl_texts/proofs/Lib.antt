@@ -5,6 +5,4 @@ pub mod Newlines
 pub mod DumpValues
 pub mod DumpTexts
 pub mod DumpFaults
-pub mod Verdicts
-pub mod WordsCommon
 pub mod Whys

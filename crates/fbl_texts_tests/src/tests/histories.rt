@@ -57,8 +57,8 @@ fn has_columns<T: Threads + Wait + Sync>(
     columns: &[Column],
 ) -> Result<bool, Fail> {
     let script = read_script(alloc, &mut script.as_bytes())?;
-    let answer = history_of_script(rt, alloc, script, 2, &mut NoObserver)?;
-    Ok(answer.history.columns() == columns)
+    let history = history_of_script(rt, alloc, script, 2, &mut NoObserver)?;
+    Ok(history.columns() == columns)
 }
 
 #[test]
