@@ -1,8 +1,10 @@
 -- Which receipts are lost, and which of them a strike loses.
 use Rattle.fbl_base.specs.declared.trace.Note.{Note}
-use Rattle.fbl_play.proofs.Common.{◌≡◌, ℕ, ◌∙◌, ◌<◌, ◌≤◌, ◌+◌, Bool, true, false, not, cond, suc, List, [], ◌∷◌, ◌++◌, append-nil, map, filter, take, drop, length, get_or, get_or_default, take_all, take_more, drop_more, length-drop, filter-append, filter_passes}
-use Rattle.fbl_play.proofs.Common.{refl, sym, ap, subst, inl, inr, arith, Determinant, Event, mark_of, receipt_of, receipts, same_determinant, Decides-same_determinant, Has, Members}
-use Rattle.fbl_play.proofs.Common.{Next, MemberRecord, GroupRecord, marks, knowledge, is_recorded, IsRecorded, IsUp, Names, IsSound, IsStrike, lost_receipts, recorded_test, was_up, up_if_none, no_orphan, itself, true_from_ne_false, false≢true}
+use Rattle.fbl_play.proofs.Common.{◌≡◌, ℕ, ◌∙◌, ◌<◌, ◌≤◌, ◌+◌, Bool, true, false, not, cond, suc, List, [], ◌∷◌, ◌++◌, append-nil, map, filter, take, drop}
+use Rattle.fbl_play.proofs.Common.{length, get_or, get_or_default, take_all, take_more, drop_more, length-drop, filter-append, filter_passes, refl, sym, ap}
+use Rattle.fbl_play.proofs.Common.{subst, inl, inr, arith, Determinant, Event, mark_of, receipt_of, receipts, same_determinant, Decides-same_determinant, Has}
+use Rattle.fbl_play.proofs.Common.{Members, Next, MemberRecord, GroupRecord, marks, knowledge, is_recorded, IsRecorded, IsUp, Names, IsSound, IsStrike}
+use Rattle.fbl_play.proofs.Common.{lost_receipts, recorded_test, was_up, up_if_none, no_orphan, itself, true_from_ne_false, false≢true}
 use Rattle.std.specs.FinSet as sets
 use Rattle.fbl_base.specs.declared.trace.Event.TheVariants as event
 

@@ -1,6 +1,5 @@
 pub mod Texts
 pub mod Reasons
-pub mod RunSteps
-pub mod Runs
+pub mod Steps
 pub mod Transcripts
 pub mod Plays

@@ -7,10 +7,6 @@ use Rattle.fbl_base.specs.MemberSets.{Members}
 use Rattle.fbl_base.specs.Plans.{IsFirstBad, IsPlanFault}
 use Rattle.fbl_base.specs.declared.fault.PlanFault.{PlanFault}
 use Rattle.fbl_base.specs.declared.strike.Strike.{Strike}
-use Rattle.fbl_texts.specs.declared.account.CommandAccount.{CommandAccount}
-use Rattle.fbl_texts.specs.declared.account.CommandAccount.TheVariants.{Refused}
-use Rattle.fbl_texts.specs.declared.reason.Reason.{Reason}
-use Rattle.fbl_texts.specs.declared.reason.Reason.TheVariants as reasons
 use Rattle.fbl_group.specs.declared.refusals.CheckpointRefusal.{CheckpointRefusal}
 use Rattle.fbl_group.specs.declared.refusals.CheckpointRefusal.TheVariants as checkpoint
 use Rattle.fbl_group.specs.declared.refusals.DeliverRefusal.{DeliverRefusal}
@@ -20,6 +16,8 @@ use Rattle.fbl_group.specs.declared.refusals.StrikeRefusal.TheVariants as strike
 use Rattle.fbl_law.specs.Groups.{GroupRecord}
 use Rattle.fbl_threads.specs.declared.draining.DrainRefusal.{DrainRefusal}
 use Rattle.fbl_threads.specs.declared.draining.DrainRefusal.TheVariants as drain
+use Rattle.fbl_play.specs.declared.reason.Reason.{Reason}
+use Rattle.fbl_play.specs.declared.reason.Reason.TheVariants as reasons
 
 -- the command names these members, of which the group has not all
 abbrev pub no_such_member : GroupRecord ℕ Note → Members → Reason
@@ -51,11 +49,6 @@ IsRunReason plan r drain.BadWorkers reason = reason ≡ reasons.BadWorkers
 IsRunReason plan r drain.NoThread reason = reason ≡ reasons.NoThread
 IsRunReason plan r drain.Uneven reason = reason ≡ reasons.Uneven
 IsRunReason plan r _ reason = reason ≡ reasons.NoTable
-
--- the account is that of workers with this plan who were refused so
-abbrev pub IsRunRefusal : List Strike → GroupRecord ℕ Note → DrainRefusal → CommandAccount → Type 0
-IsRunRefusal plan r refusal (Refused reason) = IsRunReason plan r refusal reason
-IsRunRefusal plan r refusal _ = ⊥
 
 -- where the plan was refused it has a bad entry
 abbrev pub IsPlanRefused : List Strike → Settings Note → DrainRefusal → Type 0

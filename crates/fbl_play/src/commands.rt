@@ -1,21 +1,27 @@
-//! The commands of a script, each with what it prints and what it did beside that.
+//! The commands of a script.
 
-ghost use Rattle.std.specs.Prelude.{◌≡◌, Bool, IfOk, not};
+ghost use Rattle.std.specs.Prelude.{◌≡◌, Bool, IfErr, IfOk, not};
 ghost use Rattle.std.specs.List.{filter};
 ghost use Rattle.fbl_base.specs.declared.trace.Determinant.{Determinant};
 ghost use Rattle.fbl_group.specs.Strikes.{lost_receipts};
 ghost use Rattle.fbl_law.specs.Sound.{IsSound};
-ghost use Rattle.fbl_play.specs.Runs.{CheckpointStep, DeliverStep, HasMembers, IsDumped, RecoverStep, Step, StrikeStep};
+ghost use Rattle.fbl_play.specs.Reasons.{IsPlanRefused};
+ghost use Rattle.fbl_play.specs.Steps.{CheckpointStep, DeliverStep, HasMembers, IsDumped, IsRunAnswer, RecoverStep, RunStep, Step, StrikeStep};
 
-use crate::output::{Answer, Output, Refusal};
-use crate::reasons::{checkpoint_reason, deliver_reason, no_such_member, strike_reason};
-use crate::runs::run_plan;
-use fbl_base::{Behaviour, Determinant, Member, MemberSet, Note};
+use crate::answer::Answer;
+use crate::reason::{
+    Reason, checkpoint_reason, deliver_reason, no_such_member, run_reason, strike_reason,
+};
+use fbl_base::{Behaviour, Determinant, Member, MemberSet, Note, Strike};
 use fbl_group::{CheckpointRefusal, DeliverRefusal, DumpGroupRefusal, Group, RecoverRefusal};
-use fbl_texts::{Command, CommandAccount, Reason};
+use fbl_texts::{Command, Plan};
+use fbl_threads::{DrainRefusal, Drained, NoGate, drain};
 use std::alloc::{AllocError, Global};
 use std::sync::Wait;
 use std::thread::Threads;
+
+/// How many turns each worker may take.
+const TURNS: u32 = 1_000_000;
 
 /// Delivers.
 fn run_deliver<B: Behaviour<State = u64, Note = Note>>(
@@ -23,18 +29,16 @@ fn run_deliver<B: Behaviour<State = u64, Note = Note>>(
     to: Member,
     from: Member,
 ) -> Result<Answer, AllocError>
-    ensures step { IfOk result (λ answer. DeliverStep B.next group.old to from group.new answer.output answer.account) }
-    ensures within { IfOk result (λ answer. HasMembers group.new answer.output) }
+    ensures step { IfOk result (DeliverStep B.next group.old to from group.new) }
+    ensures within { IfOk result (HasMembers group.new) }
 {
     match group.deliver(to, from) {
-        Ok(answer) => Ok(Answer {
-            output: Output::Delivery { to, from, answer },
-            account: CommandAccount::Done,
-        }),
+        Ok(receipt) => Ok(Answer::Delivery { to, from, receipt }),
         Err(DeliverRefusal::Memory) => Err(AllocError),
-        Err(refusal) => Ok(Answer {
-            output: Output::Refusal(Refusal::Deliver(refusal)),
-            account: CommandAccount::Refused(deliver_reason(group, to, from, refusal)),
+        Err(refusal) => Ok(Answer::Refusal {
+            command: "deliver",
+            refusal: refusal.name(),
+            reason: deliver_reason(group, to, from, refusal),
         }),
     }
 }
@@ -79,28 +83,28 @@ fn newly_lost(
 fn run_strike<B: Behaviour<State = u64, Note = Note>>(
     alloc: Global,
     group: &mut Group<B>,
-    struck: MemberSet,
+    members: MemberSet,
 ) -> Result<Answer, AllocError>
-    ensures step { IfOk result (λ answer. StrikeStep B.next group.old struck group.new answer.output answer.account) }
-    ensures within { IfOk result (λ answer. HasMembers group.new answer.output) }
+    ensures step { IfOk result (StrikeStep B.next group.old members group.new) }
+    ensures within { IfOk result (HasMembers group.new) }
 {
     let lost_before = lost_of(alloc, group)?;
     let before = lost_before.as_slice();
-    match group.strike(struck) {
-        Ok(answer) => {
+    match group.strike(members) {
+        Ok(struck) => {
             let after = lost_of(alloc, group)?;
             let receipts = newly_lost(alloc, before, after.as_slice())?;
-            Ok(Answer {
-                output: Output::Strike { struck, answer },
-                account: CommandAccount::Lost {
-                    receipts,
-                    before: before.len(),
-                },
+            Ok(Answer::Strike {
+                members,
+                struck,
+                receipts,
+                before: before.len(),
             })
         }
-        Err(refusal) => Ok(Answer {
-            output: Output::Refusal(Refusal::Strike(refusal)),
-            account: CommandAccount::Refused(strike_reason(group, struck, refusal)),
+        Err(refusal) => Ok(Answer::Refusal {
+            command: "strike",
+            refusal: refusal.name(),
+            reason: strike_reason(group, members, refusal),
         }),
     }
 }
@@ -110,20 +114,22 @@ fn run_recover<B: Behaviour<State = u64, Note = Note>>(
     alloc: Global,
     group: &mut Group<B>,
 ) -> Result<Answer, AllocError>
-    ensures step { IfOk result (λ answer. RecoverStep B.next group.old group.new answer.output answer.account) }
-    ensures within { IfOk result (λ answer. HasMembers group.new answer.output) }
+    ensures step { IfOk result (RecoverStep B.next group.old group.new) }
+    ensures within { IfOk result (HasMembers group.new) }
 {
-    let down = group.down();
+    let members = group.down();
     let undone = lost_of(alloc, group)?;
     match group.recover() {
-        Ok(answer) => Ok(Answer {
-            output: Output::Recovery { down, answer },
-            account: CommandAccount::Undone(undone),
+        Ok(recovered) => Ok(Answer::Recovery {
+            members,
+            recovered,
+            undone,
         }),
         Err(RecoverRefusal::Memory) => Err(AllocError),
-        Err(refusal) => Ok(Answer {
-            output: Output::Refusal(Refusal::Recover(refusal)),
-            account: CommandAccount::Refused(Reason::NotDown),
+        Err(refusal) => Ok(Answer::Refusal {
+            command: "recover",
+            refusal: refusal.name(),
+            reason: Reason::NotDown,
         }),
     }
 }
@@ -133,21 +139,19 @@ fn run_checkpoint<B: Behaviour<State = u64, Note = Note>>(
     group: &mut Group<B>,
     member: Member,
 ) -> Result<Answer, AllocError>
-    ensures step { IfOk result (λ answer. CheckpointStep group.old member group.new answer.output answer.account) }
-    ensures within { IfOk result (λ answer. HasMembers group.new answer.output) }
+    ensures step { IfOk result (CheckpointStep group.old member group.new) }
+    ensures within { IfOk result (HasMembers group.new) }
 {
     match group.checkpoint(member) {
-        Ok(()) => Ok(Answer {
-            output: Output::Checkpoint {
-                member,
-                received: group.checkpoint_received(member),
-            },
-            account: CommandAccount::Done,
+        Ok(()) => Ok(Answer::Checkpoint {
+            member,
+            received: group.checkpoint_received(member),
         }),
         Err(CheckpointRefusal::Memory) => Err(AllocError),
-        Err(refusal) => Ok(Answer {
-            output: Output::Refusal(Refusal::Checkpoint(refusal)),
-            account: CommandAccount::Refused(checkpoint_reason(group, member, refusal)),
+        Err(refusal) => Ok(Answer::Refusal {
+            command: "checkpoint",
+            refusal: refusal.name(),
+            reason: checkpoint_reason(group, member, refusal),
         }),
     }
 }
@@ -157,20 +161,72 @@ fn run_dump<B: Behaviour<State = u64, Note = Note>>(
     group: &Group<B>,
     strike: MemberSet,
 ) -> Result<Answer, AllocError>
-    ensures step { IfOk result (λ answer. IsDumped group.now strike answer.output answer.account) }
-    ensures within { IfOk result (λ answer. HasMembers group.now answer.output) }
+    ensures step { IfOk result (IsDumped group.now strike) }
+    ensures within { IfOk result (HasMembers group.now) }
 {
     match group.dump(strike) {
-        Ok(dump) => Ok(Answer {
-            output: Output::Dump(dump),
-            account: CommandAccount::Done,
-        }),
+        Ok(dump) => Ok(Answer::Dump(dump)),
         Err(DumpGroupRefusal::Memory) => Err(AllocError),
-        Err(refusal) => Ok(Answer {
-            output: Output::Refusal(Refusal::Dump(refusal)),
-            account: CommandAccount::Refused(no_such_member(group, strike)),
+        Err(refusal) => Ok(Answer::Refusal {
+            command: "dump",
+            refusal: refusal.name(),
+            reason: no_such_member(group, strike),
         }),
     }
+}
+
+/// What a run answers whose workers' drain answered this. There is nothing where it was refused, or a worker ended, for lack of
+/// memory.
+fn run_answer<B: Behaviour<State = u64, Note = Note>>(
+    group: &Group<B>,
+    plan: &[Strike],
+    made_before: u64,
+    undone_before: u64,
+    drained: Result<Drained, DrainRefusal>,
+) -> Result<Answer, AllocError>
+    requires { IfErr drained (IsPlanRefused plan.now group.now.config) }
+    ensures step { IfOk result (IsRunAnswer plan.now made_before undone_before group.now drained) }
+    ensures within { IfOk result (HasMembers group.now) }
+{
+    match drained {
+        Ok(drained) => {
+            if drained.memory {
+                return Err(AllocError);
+            }
+            Ok(Answer::Run {
+                drained,
+                made_before,
+                made_after: group.receipts_ever(),
+                undone_before,
+                undone_after: group.undone_ever(),
+            })
+        }
+        Err(DrainRefusal::Memory) => Err(AllocError),
+        Err(refusal) => Ok(Answer::Refusal {
+            command: "run",
+            refusal: refusal.name(),
+            reason: run_reason(group, plan, &refusal),
+        }),
+    }
+}
+
+/// Lets workers deliver, strike and recover. The group comes back.
+fn run_plan<B: Behaviour<State = u64, Note = Note> + Send + Sync, T: Threads + Wait + Sync>(
+    rt: &T,
+    alloc: Global,
+    workers: u8,
+    group: Group<B>,
+    plan: &Plan,
+) -> (Group<B>, Result<Answer, AllocError>)
+    ensures step { IfOk result.1 (RunStep B.next workers plan.now group result.0) }
+    ensures within { IfOk result.1 (HasMembers result.0) }
+{
+    let made = group.receipts_ever();
+    let undone = group.undone_ever();
+    let strikes = plan.strikes();
+    let (group, drained) = drain(rt, alloc, group, strikes, workers, TURNS, &NoGate);
+    let answer = run_answer(&group, strikes, made, undone, drained);
+    (group, answer)
 }
 
 /// Runs one command. The group comes back. `Err` comes only where there is no memory.
@@ -184,20 +240,14 @@ pub(crate) fn run_command<
     mut group: Group<B>,
     command: &Command,
 ) -> (Group<B>, Result<Answer, AllocError>)
-    ensures step { IfOk result.1 (λ answer. Step B.next workers group command.now result.0 answer.output answer.account) }
-    ensures within { IfOk result.1 (λ answer. HasMembers result.0 answer.output) }
+    ensures step { IfOk result.1 (Step B.next workers group command.now result.0) }
+    ensures within { IfOk result.1 (HasMembers result.0) }
 {
     let answer = match command {
         Command::Deliver { to, from } => run_deliver(&mut group, *to, *from),
-        Command::States => Ok(Answer {
-            output: Output::States,
-            account: CommandAccount::Done,
-        }),
-        Command::Report => Ok(Answer {
-            output: Output::Report,
-            account: CommandAccount::Done,
-        }),
-        Command::Strike(struck) => run_strike(alloc, &mut group, *struck),
+        Command::States => Ok(Answer::States),
+        Command::Report => Ok(Answer::Report),
+        Command::Strike(members) => run_strike(alloc, &mut group, *members),
         Command::Recover => run_recover(alloc, &mut group),
         Command::Dump(strike) => run_dump(&group, *strike),
         Command::Checkpoint(member) => run_checkpoint(&mut group, *member),

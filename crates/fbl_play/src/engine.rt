@@ -8,7 +8,6 @@ ghost use Rattle.fbl_texts.specs.Scripts.{outline};
 
 use crate::commands::run_command;
 use crate::observer::{NoObserver, Observer};
-use crate::output::Answer;
 use crate::transcript::{HistorySoFar, Transcriber};
 use fbl_base::{Behaviour, Config, Mix, Note, Relay};
 use fbl_group::Group;
@@ -20,7 +19,7 @@ use std::io::{Read, Write};
 use std::sync::Wait;
 use std::thread::Threads;
 
-/// Runs the commands on a new group, and adds each to the transcript when it ends. The observer is told of each.
+/// Runs the commands on a new group, and adds each to the transcript when it ends. The observer is called for each.
 fn run_commands<
     B: Behaviour<State = u64, Note = Note> + Send + Sync,
     T: Threads + Wait + Sync,
@@ -35,7 +34,7 @@ fn run_commands<
     transcript: &mut K,
     observer: &mut O,
 ) -> Result<(), OutputFault>
-    ensures { IsPlay O.hears_before O.hears_after B.next workers config commands.now (K.transcript transcript.old) (K.transcript transcript.new) observer.old observer.new result }
+    ensures { IsPlay O.observes_before O.observes_after B.next workers config commands.now (K.transcript transcript.old) (K.transcript transcript.new) observer.old observer.new result }
 {
     let mut group: Group<B> = Group::new(alloc, config)?;
     // the group is sound
@@ -47,9 +46,9 @@ fn run_commands<
         group = after;
         // and so it is after each command
         group.recoverable();
-        let Answer { output, account } = answer?;
-        transcript.add(alloc, &group, &output)?;
-        observer.after(command, &account, &group, transcript);
+        let answer = answer?;
+        transcript.add(alloc, &group, &answer)?;
+        observer.after(command, &answer, &group, transcript);
     }
     Ok(())
 }
@@ -63,7 +62,7 @@ fn run_script<T: Threads + Wait + Sync, K: Transcriber, O: Observer>(
     transcript: &mut K,
     observer: &mut O,
 ) -> Result<(), OutputFault>
-    ensures { PlaysScript O.hears_before O.hears_after workers (outline script) (K.transcript transcript.old) (K.transcript transcript.new) observer.old observer.new result }
+    ensures { PlaysScript O.observes_before O.observes_after workers (outline script) (K.transcript transcript.old) (K.transcript transcript.new) observer.old observer.new result }
 {
     let Script {
         behaviour,
@@ -87,9 +86,9 @@ fn run_script<T: Threads + Wait + Sync, K: Transcriber, O: Observer>(
 /// nothing. After `Write` the lines of the commands before are written, and a proper prefix of the last one's. A `run` is
 /// made by `workers` workers, and refused where they are not 1 to 8.
 ///
-/// The observer is told of each command in turn, before it is run and after its lines are written, and sees the group and
-/// what the writer has as they are then. Where the play ends early it is told of the commands whose lines are written, and
-/// that the next one is to be run. What it does with that is no part of the play.
+/// The observer is called for each command in turn, before it is run and after its lines are written, and sees the group and
+/// what the writer has as they are then. Where the play ends early it was called for the commands whose lines are written, and
+/// before the next one. What it does with that is no part of the play.
 pub fn play_script<T: Threads + Wait + Sync, W: Write, O: Observer>(
     rt: &T,
     alloc: Global,
@@ -98,27 +97,14 @@ pub fn play_script<T: Threads + Wait + Sync, W: Write, O: Observer>(
     workers: u8,
     observer: &mut O,
 ) -> Result<(), OutputFault>
-    ensures { PlaysScript O.hears_before O.hears_after workers (outline script) (text (W.contents writer.old)) (text (W.contents writer.new)) observer.old observer.new result }
+    ensures { PlaysScript O.observes_before O.observes_after workers (outline script) (text (W.contents writer.old)) (text (W.contents writer.new)) observer.old observer.new result }
 {
     run_script(rt, alloc, script, workers, writer, observer)
 }
 
-/// The history of a script's run, with what the script says of its group.
-#[derive(Drop, Debug)]
-pub struct RunHistory {
-    /// How many members the group has, 2 to 16.
-    pub members: u8,
-    /// How many of them may be lost at once, from 1 to one less than there are.
-    pub f: u8,
-    /// What each member does with a message.
-    pub behaviour: BehaviourName,
-    /// What came, from the starts' sends on.
-    pub history: History,
-}
-
 /// Runs the script, and answers its history: what came, in the order in which it came. No lines are made.
 ///
-/// A refused command adds nothing to the history, and the run goes on; lack of memory ends it. The observer is told of each
+/// A refused command adds nothing to the history, and the run goes on; lack of memory ends it. The observer is called for each
 /// command as by `play_script`, and sees the history so far.
 pub fn history_of_script<T: Threads + Wait + Sync, O: Observer>(
     rt: &T,
@@ -126,28 +112,20 @@ pub fn history_of_script<T: Threads + Wait + Sync, O: Observer>(
     script: Script,
     workers: u8,
     observer: &mut O,
-) -> Result<RunHistory, AllocError>
-    ensures { IsHistoryPlay O.hears_before O.hears_after workers (outline script) observer.old observer.new result }
+) -> Result<History, AllocError>
+    ensures { IsHistoryPlay O.observes_before O.observes_after workers (outline script) observer.old observer.new result }
 {
-    let members = script.config.members();
-    let f = script.config.f();
-    let behaviour = script.behaviour;
     let mut so_far = HistorySoFar { history: None };
     match run_script(rt, alloc, script, workers, &mut so_far, observer) {
         Ok(()) => match so_far.history.take() {
-            Some(history) => Ok(RunHistory {
-                members,
-                f,
-                behaviour,
-                history,
-            }),
+            Some(history) => Ok(history),
             None => unreachable!(),
         },
         Err(_) => Err(AllocError),
     }
 }
 
-/// Plays the script that the reader has, as `play_script` does, with nobody told of it.
+/// Plays the script that the reader has, as `play_script` does, observed by nobody.
 ///
 /// The script is read whole and checked before anything is run: nothing is written where a read fails, or where the fault
 /// is one of the script. A `run` is made by `workers` workers, 1 to 8.

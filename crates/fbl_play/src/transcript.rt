@@ -2,9 +2,9 @@
 
 ghost use Rattle.std.specs.Prelude.{◌≡◌, IfErr, IfOk, OnErr, OnOk};
 ghost use Rattle.fbl_play.specs.Transcripts.{GoesOn, IsAdded, IsBegun, IsCut};
-ghost use Rattle.fbl_play.specs.Runs.{HasMembers};
+ghost use Rattle.fbl_play.specs.Steps.{HasMembers};
 
-use crate::output::Output;
+use crate::answer::Answer;
 use fbl_base::{Behaviour, Note};
 use fbl_group::Group;
 use fbl_history::History;
@@ -49,16 +49,16 @@ pub(crate) trait Transcriber: Transcribed {
         ensures begun { OnOk result (IsBegun B.next group.now (Self.transcript self.old) (Self.transcript self.new)) }
         ensures unchanged { OnErr result (Self.transcript self.new ≡ Self.transcript self.old) };
 
-    /// Adds a command with this output, which left the group like this.
+    /// Adds a command with this answer, which left the group like this.
     fn add<B: Behaviour<State = u64, Note = Note>>(
         &mut self,
         alloc: Global,
         group: &Group<B>,
-        output: &Output,
+        answer: &Answer,
     ) -> Result<(), OutputFault>
-        requires { HasMembers group.now output.now }
-        ensures added { OnOk result (IsAdded B.next group.now output.now (Self.transcript self.old) (Self.transcript self.new)) }
-        ensures cut { IfErr result (λ fault. IsCut group.now output.now fault (Self.transcript self.old) (Self.transcript self.new)) };
+        requires { HasMembers group.now answer.now }
+        ensures added { OnOk result (IsAdded B.next group.now answer.now (Self.transcript self.old) (Self.transcript self.new)) }
+        ensures cut { IfErr result (λ fault. IsCut group.now answer.now fault (Self.transcript self.old) (Self.transcript self.new)) };
 }
 
 impl<W: Write> Transcriber for W {
@@ -74,9 +74,9 @@ impl<W: Write> Transcriber for W {
         &mut self,
         alloc: Global,
         group: &Group<B>,
-        output: &Output,
+        answer: &Answer,
     ) -> Result<(), OutputFault> {
-        let text = output.text(alloc, group)?;
+        let text = answer.text(alloc, group)?;
         put(self, text.as_bytes())
     }
 }
@@ -95,31 +95,31 @@ impl Transcriber for HistorySoFar {
         &mut self,
         alloc: Global,
         group: &Group<B>,
-        output: &Output,
+        answer: &Answer,
     ) -> Result<(), OutputFault> {
         let Some(history) = self.history.take() else {
             return Err(OutputFault::Memory);
         };
-        self.history = Some(history_after(alloc, history, group, output)?);
+        self.history = Some(history_after(alloc, history, group, answer)?);
         Ok(())
     }
 }
 
-/// The history after a command with this output, which left the group like this.
+/// The history after a command with this answer, which left the group like this.
 fn history_after<B: Behaviour<State = u64, Note = Note>>(
     alloc: Global,
     history: History,
     group: &Group<B>,
-    output: &Output,
+    answer: &Answer,
 ) -> Result<History, AllocError>
-    requires { HasMembers group.now output.now }
-    ensures { IfOk result (GoesOn B.next group.now output.now history) }
+    requires { HasMembers group.now answer.now }
+    ensures { IfOk result (GoesOn B.next group.now answer.now history) }
 {
-    match output {
-        Output::Delivery { .. } | Output::Run(_) => history.go_on(alloc, group),
-        Output::Strike { struck, .. } => history.strike(*struck),
-        Output::Recovery { down, .. } => history.recover(alloc, group, *down),
-        Output::Checkpoint { member, .. } => history.checkpoint(*member),
-        Output::States | Output::Report | Output::Dump(_) | Output::Refusal(_) => Ok(history),
+    match answer {
+        Answer::Delivery { .. } | Answer::Run { .. } => history.go_on(alloc, group),
+        Answer::Strike { members, .. } => history.strike(*members),
+        Answer::Recovery { members, .. } => history.recover(alloc, group, *members),
+        Answer::Checkpoint { member, .. } => history.checkpoint(*member),
+        _ => Ok(history),
     }
 }

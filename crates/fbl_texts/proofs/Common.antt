@@ -1,40 +1,39 @@
 -- The names that proofs of this crate take from outside: of the standard library, of the crates below, and of the definitions here.
-pub use Rattle.std.proofs.Common.{Bool, Err, IfSome, List, None, Ok, Option, Result, Some, [], ap, arith, cond, drop, false, get_or, length, length-append, map, nat_cmp, nat_eq, nat_lt, not}
-pub use Rattle.std.proofs.Common.{option_and_then, option_map, refl, string_bytes, subst, suc, sym, take, true, zero, ℕ, ◌&&◌, ◌++◌, ◌+◌, ◌-◌, ◌<◌, ◌==◌, ◌↔◌}
-pub use Rattle.std.proofs.Common.{◌∙◌, ◌∷◌, ◌≡◌, ◌≤◌, ◌⊎◌}
+pub use Rattle.std.proofs.Common.{Bool, Err, List, None, Ok, Option, Result, Some, [], ap, arith, cond, drop, false, get_or, length, length-append, map}
+pub use Rattle.std.proofs.Common.{nat_cmp, nat_eq, nat_lt, not, option_and_then, option_map, refl, string_bytes, subst, suc, sym, take, true, zero, ℕ, ◌&&◌}
+pub use Rattle.std.proofs.Common.{◌++◌, ◌+◌, ◌-◌, ◌<◌, ◌==◌, ◌↔◌, ◌∙◌, ◌∷◌, ◌≡◌, ◌≤◌, append-nil, append_assoc, inl, inr}
 pub use Rattle.std.proofs.Math.Bool.{and-false}
-pub use Rattle.std.proofs.lemmas.Bool.{eqb-true, le-leb, le-ltb}
+pub use Rattle.std.proofs.lemmas.Bool.{eqb-true, le-leb, le-ltb, cases_eq, false≢true}
 pub use Rattle.std.proofs.lemmas.List.{drop-append-le, map_push, take-append-le, take_all, take_more}
 pub use Rattle.std.proofs.lemmas.List.Elements.{All-push}
 pub use Rattle.std.proofs.lemmas.List.Sums.{prefix_len-le-length}
 pub use Rattle.std.proofs.lemmas.Map.Views.{any-filter_same}
-pub use Rattle.std.proofs.lemmas.Result.{IfErr-weaker, IfOk-weaker}
-pub use Rattle.std.specs.Result.{IsErrAnd}
+pub use Rattle.std.proofs.lemmas.Result.{IfOk-weaker}
 pub use Rattle.std.proofs.lemmas.Str.{IsUtf8-append}
 pub use Rattle.std.specs.Char.{is_ascii_digit}
 pub use Rattle.std.specs.Cmp.{nat_cmp_total}
-pub use Rattle.std.specs.List.{All, filter, list_all, list_any, prefix_len, range_with_len, starts_with}
+pub use Rattle.std.specs.List.{All, filter, list_all, list_any, prefix_len, range_with_len, starts_with, AllZip}
 pub use Rattle.std.specs.Str.{IsUtf8}
-pub use Rattle.fbl_audit.specs.Checking.{IsSafe, SaysUnsafe}
+pub use Rattle.fbl_audit.specs.Checking.{IsSafe, SaysUnsafe, IsLeftOrphan}
 pub use Rattle.fbl_audit.specs.declared.checking.UnsafeReceipt.{UnsafeReceipt}
 pub use Rattle.fbl_base.specs.Audit.{IsDump, Parts, RefusesDump, lost_determinants}
-pub use Rattle.fbl_base.specs.Events.{receipts}
-pub use Rattle.fbl_base.specs.MemberSets.{AllBelow, member_list}
+pub use Rattle.fbl_base.specs.Events.{receipts, At, receipt_of}
+pub use Rattle.fbl_base.specs.MemberSets.{AllBelow, member_list, Members}
 pub use Rattle.fbl_base.specs.declared.trace.Determinant.{Determinant}
 pub use Rattle.fbl_base.specs.declared.trace.Mark.{Mark}
 pub use Rattle.fbl_base.specs.declared.trace.Mark.TheVariants.{Receipt, Send}
 pub use Rattle.fbl_input.proofs.Faults.{refused}
-pub use Rattle.fbl_input.proofs.Inputs.{over_fault, over_input}
+pub use Rattle.fbl_input.proofs.Inputs.{over_input}
 pub use Rattle.fbl_input.proofs.Lists.{elements_of, json_read}
 pub use Rattle.fbl_input.proofs.Outputs.{puts_front, puts_text}
 pub use Rattle.fbl_input.specs.Faults.{IsFirstFault, PutsOut}
 pub use Rattle.fbl_input.specs.Misfits.{IsOfParts, run_fault}
 pub use Rattle.fbl_input.specs.Shapes.{all_shaped, json_of, list_of, longest, member_shape, number_within, or_fault, set_shape, ◌>>=◌}
 pub use Rattle.fbl_input.specs.declared.fault.RunFault.{RunFault}
-pub use Rattle.fbl_texts.specs.Lines.{audit_lines}
 pub use Rattle.json.specs.Ascii.{false_text, null_text, true_text}
 pub use Rattle.json.specs.Json.{if_last, value}
-pub use Rattle.json.specs.Lex.{Class, Lexeme, Mode, between, class, fresh, in_escape, in_string, in_word, lex_byte, other, punctuate, quote, string_token, token}
+pub use Rattle.json.specs.Lex.{Class, Lexeme, Mode, between, class, fresh, in_escape, in_string, in_word, lex_byte, other, punctuate, quote, string_token}
+pub use Rattle.json.specs.Lex.{token}
 pub use Rattle.json.specs.Text.{Within, after_backslash, after_high, after_u, is_high_surrogate, is_low_surrogate, plain, prepend, surrogate_pair}
 pub use Rattle.json.specs.Token.{Token, bad, boolean, null}
 pub use Rattle.json.specs.Word.{after_digits, after_exponent, after_fraction, after_minus, after_sign, after_whole, ends_word, head, literal, number_before}
@@ -44,9 +43,18 @@ pub use Rattle.serde_json.specs.Read.{max_depth, of_json, read}
 pub use Rattle.serde_json.specs.View.{items_of, view}
 pub use Rattle.serde_json.specs.Written.{compact_text, has_float, items_have_float}
 pub use Rattle.serde_json.specs.declared.value.Value.{Value}
-pub use Rattle.fbl_texts.specs.Auditing.{IsAuditText}
-pub use Rattle.fbl_texts.specs.Checking.{IsChecked, IsVerdict, check_lines, unsafe_lines}
+pub use Rattle.fbl_texts.specs.Auditing.{IsAuditText, IsChecked, IsVerdict, check_lines, unsafe_lines}
 pub use Rattle.fbl_texts.specs.DumpLines.{ReadsBack, dump_object, event_data, list_data, number_data, pair_data}
 pub use Rattle.fbl_texts.specs.Dumps.{IsDumpFault, IsDumpOf, RefusesParts, event_shape, pair_shape, parts_of_data, parts_of_input}
-pub use Rattle.fbl_texts.specs.declared.checking.Verdict.{Verdict}
-pub use Rattle.fbl_texts.specs.declared.checking.Verdict.TheVariants.{Safe, Unsafe}
+pub use Rattle.fbl_texts.specs.declared.auditing.Verdict.{Verdict}
+pub use Rattle.fbl_texts.specs.declared.auditing.Verdict.TheVariants.{Safe, Unsafe}
+pub use Rattle.fbl_base.proofs.ClockLaws.{member_within}
+pub use Rattle.fbl_audit.specs.Paths.{IsPathTo}
+pub use Rattle.fbl_base.proofs.PlacesAndEvents.{depends-from_places, places-from_depends}
+pub use Rattle.fbl_base.proofs.PrecedenceLaws.{Has-first, Has-last}
+pub use Rattle.fbl_base.specs.Places.{DependsOnPlace}
+pub use Rattle.fbl_base.specs.Precedence.{Has}
+pub use Rattle.fbl_base.specs.Rules.{WellFormed}
+pub use Rattle.fbl_texts.specs.Whys.{ArePathsFrom, IsPathFrom, IsLossReason}
+pub use Rattle.fbl_texts.specs.declared.why.LossReason.{LossReason}
+pub use Rattle.fbl_texts.specs.declared.why.OrphanPath.{OrphanPath}

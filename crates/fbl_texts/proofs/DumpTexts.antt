@@ -1,7 +1,8 @@
 -- The text of a dump: it has no float, and its brackets nest to a depth of three.
-use Rattle.fbl_texts.proofs.Common.{◌≡◌, ℕ, ◌≤◌, List, [], ◌∷◌, ◌++◌, map, length, false, refl, ap, sym, subst, ◌∙◌, arith, cond, nat_lt, Some, Ok, Err, le-ltb, IsUtf8}
-use Rattle.fbl_texts.proofs.Common.{Data, depth, items_depth, read, max_depth, items_of, has_float, items_have_float, compact_text, Mark, Send, Receipt, Parts, member_list, json_of, longest, or_fault}
-use Rattle.fbl_texts.proofs.Common.{◌>>=◌, parts_of_data, parts_of_input, ReadsBack, event_data, number_data, pair_data}
+use Rattle.fbl_texts.proofs.Common.{◌≡◌, ℕ, ◌≤◌, List, [], ◌∷◌, ◌++◌, map, length, false, refl, ap, sym, subst, ◌∙◌, arith, cond, nat_lt, Some, Ok, Err}
+use Rattle.fbl_texts.proofs.Common.{le-ltb, IsUtf8, Data, depth, items_depth, read, max_depth, items_of, has_float, items_have_float, compact_text, Mark}
+use Rattle.fbl_texts.proofs.Common.{Send, Receipt, Parts, member_list, json_of, longest, or_fault, ◌>>=◌, parts_of_data, parts_of_input, ReadsBack}
+use Rattle.fbl_texts.proofs.Common.{event_data, number_data, pair_data}
 use Rattle.fbl_input.specs.declared.fault.RunFault.TheVariants as faults
 use Rattle.fbl_texts.specs.DumpLines.{dump_data}
 use Rattle.fbl_texts.proofs.Newlines.{read_newline}

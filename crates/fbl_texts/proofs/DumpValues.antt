@@ -1,8 +1,9 @@
 -- The values of a dump, and how they are read back.
-use Rattle.fbl_texts.proofs.Common.{◌≡◌, ℕ, ◌+◌, ◌<◌, ◌≤◌, List, [], ◌∷◌, ◌++◌, map, take, get_or, length, suc, zero, refl, sym, ap, subst, ◌∙◌, arith, Bool, true}
-use Rattle.fbl_texts.proofs.Common.{Option, Some, option_map, Ok, nat_cmp, nat_eq, take_more, map_push, All-push, any-filter_same, eqb-true, le-leb, All, filter, list_any, range_with_len}
-use Rattle.fbl_texts.proofs.Common.{nat_cmp_total, Data, view, Value, AllBelow, Parts, IsDump, all_shaped, number_within, list_of, member_shape, set_shape, dump_object, event_data, pair_data}
-use Rattle.fbl_texts.proofs.Common.{list_data, number_data, event_shape, pair_shape, elements_of}
+use Rattle.fbl_texts.proofs.Common.{◌≡◌, ℕ, ◌+◌, ◌<◌, ◌≤◌, List, [], ◌∷◌, ◌++◌, map, take, get_or, length, suc, zero, refl, sym, ap, subst, ◌∙◌, arith, Bool}
+use Rattle.fbl_texts.proofs.Common.{true, Option, Some, option_map, Ok, nat_cmp, nat_eq, take_more, map_push, All-push, any-filter_same, eqb-true, le-leb}
+use Rattle.fbl_texts.proofs.Common.{All, filter, list_any, range_with_len, nat_cmp_total, Data, view, Value, AllBelow, Parts, IsDump, all_shaped}
+use Rattle.fbl_texts.proofs.Common.{number_within, list_of, member_shape, set_shape, dump_object, event_data, pair_data, list_data, number_data, event_shape}
+use Rattle.fbl_texts.proofs.Common.{pair_shape, elements_of}
 use Rattle.std.specs.FinSet as set
 use Rattle.fbl_base.specs.MemberSets.{member_list}
 use Rattle.fbl_texts.specs.DumpLines.{dump_data}

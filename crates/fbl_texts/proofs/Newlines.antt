@@ -1,10 +1,11 @@
 -- A newline behind a text changes nothing of what JSON reads in it.
-use Rattle.fbl_texts.proofs.Common.{◌≡◌, ℕ, ◌+◌, ◌-◌, true, false, cond, ◌&&◌, ◌==◌, nat_lt, List, [], ◌∷◌, ◌++◌, length, drop, Option, Some, None, option_map}
-use Rattle.fbl_texts.proofs.Common.{option_and_then, refl, ap, ◌∙◌, arith, length-append, nat_eq, not, and-false, take-append-le, drop-append-le, prefix_len-le-length, IsUtf8-append}
-use Rattle.fbl_texts.proofs.Common.{is_ascii_digit, list_all, prefix_len, starts_with, false_text, null_text, true_text, if_last, value, Class, Lexeme, Mode, between, class, in_escape, in_string}
-use Rattle.fbl_texts.proofs.Common.{in_word, lex_byte, fresh, other, punctuate, quote, string_token, token, Within, after_backslash, after_high, after_u, is_high_surrogate, is_low_surrogate, plain}
-use Rattle.fbl_texts.proofs.Common.{prepend, surrogate_pair, Token, bad, boolean, null, after_digits, after_exponent, after_fraction, after_minus, after_sign, after_whole, ends_word, head, literal}
-use Rattle.fbl_texts.proofs.Common.{number_before, Data, max_depth, of_json, read, json_of, json_read}
+use Rattle.fbl_texts.proofs.Common.{◌≡◌, ℕ, ◌+◌, ◌-◌, true, false, cond, ◌&&◌, ◌==◌, nat_lt, List, [], ◌∷◌, ◌++◌, length, drop, Option, Some, None}
+use Rattle.fbl_texts.proofs.Common.{option_map, option_and_then, refl, ap, ◌∙◌, arith, length-append, nat_eq, not, and-false, take-append-le, drop-append-le}
+use Rattle.fbl_texts.proofs.Common.{prefix_len-le-length, IsUtf8-append, is_ascii_digit, list_all, prefix_len, starts_with, false_text, null_text, true_text}
+use Rattle.fbl_texts.proofs.Common.{if_last, value, Class, Lexeme, Mode, between, class, in_escape, in_string, in_word, lex_byte, fresh, other, punctuate}
+use Rattle.fbl_texts.proofs.Common.{quote, string_token, token, Within, after_backslash, after_high, after_u, is_high_surrogate, is_low_surrogate, plain}
+use Rattle.fbl_texts.proofs.Common.{prepend, surrogate_pair, Token, bad, boolean, null, after_digits, after_exponent, after_fraction, after_minus, after_sign}
+use Rattle.fbl_texts.proofs.Common.{after_whole, ends_word, head, literal, number_before, Data, max_depth, of_json, read, json_of, json_read}
 use Rattle.std.proofs.Common.{IsUtf8}
 use Rattle.std.specs.Char.{encode_utf8}
 use Rattle.json.specs.Lex.{lex}

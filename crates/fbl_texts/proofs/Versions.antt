@@ -2,7 +2,7 @@
 use Rattle.std.proofs.Common.{◌≡◌, ℕ, List, zero, suc, arith, refl, ap, Bool, true, false, cond, Option, Some, None, option_and_then, Result, Ok, Err}
 use Rattle.std.proofs.lemmas.Bool.Decides.{nat_tests}
 use Rattle.std.specs.Prelude.{nat_le, ◌&&◌}
-use Rattle.serde_json.specs.Data.{Data, Members}
+use Rattle.serde_json.specs.Data.{Data}
 use Rattle.serde_json.specs.Find.{get, as_number, as_object, as_u64}
 use Rattle.fbl_input.specs.declared.fault.Key.TheVariants as keys
 use Rattle.fbl_input.specs.declared.fault.RunFault.{RunFault}
@@ -10,7 +10,7 @@ use Rattle.fbl_input.specs.declared.fault.RunFault.TheVariants as faults
 use Rattle.fbl_texts.specs.declared.script.Version.{Version}
 use Rattle.fbl_texts.specs.declared.script.Version.TheVariants.{First}
 use Rattle.fbl_input.specs.Shapes.{◌>>=◌, or_fault, count_shape, field, name_of, number_within, value_of_input}
-use Rattle.fbl_texts.specs.Scripts.{Outline, IsOfVersion, first_outline_of, first_outline_of_input, outline_of, outline_of_input, version_from, version_shape}
+use Rattle.fbl_texts.specs.Scripts.{Outline, IsOfVersion, first_outline_of, first_outline_of_input, outline_by, outline_of, outline_of_input, version_from, version_shape, versioned_shape}
 
 -- a number that is no version, in reach or out of it
 no_version : (e : RunFault) (n : ℕ) (b c : Bool) (rest : Version → Result Outline RunFault) → version_from n ≡ None → c ≡ false
@@ -19,40 +19,28 @@ no_version e n b true rest p q = absurd cc
 no_version e n false false rest p q = refl
 no_version e n true false rest p q = ap (λ v. or_fault e v >>= rest) p
 
-no_number : (n : ℕ) → version_from (suc (suc (suc n))) ≡ None
-no_number n = grind (arith, nat_tests)
-
-not_one : (n : ℕ) → (nat_le 1 (suc (suc (suc n))) && nat_le (suc (suc (suc n))) 1) ≡ false
-not_one n = grind (arith, nat_tests)
-
--- by the value at the key
-of_value : (e : RunFault) (v : Data) (rest : Version → Result Outline RunFault) → ¬ (or_fault e (count_shape v) ≡ Ok 2)
-    → (or_fault e (version_shape v) >>= rest) ≡ (or_fault e (number_within 1 1 v) >>= λ _. rest First)
-of_value e v rest h = by_number (option_and_then as_u64 (as_number v)) h
-  where
-    by_number : (u : Option ℕ) → ¬ (or_fault e (option_and_then (λ n. cond (nat_le 0 n && nat_le n 4294967295) (Some n) None) u) ≡ Ok 2)
-        → (or_fault e (option_and_then version_from (option_and_then (λ n. cond (nat_le 0 n && nat_le n 4294967295) (Some n) None) u)) >>= rest)
-        ≡ (or_fault e (option_and_then (λ n. cond (nat_le 1 n && nat_le n 1) (Some n) None) u) >>= λ _. rest First)
-    by_number None h = refl
-    by_number (Some zero) h = refl
-    by_number (Some (suc zero)) h = refl
-    by_number (Some (suc (suc zero))) h = absurd (h refl)
-    by_number (Some (suc (suc (suc n)))) h = no_version e (suc (suc (suc n))) _ _ rest (no_number n) (not_one n)
+-- by the number at the key, if there is one
+by_number : (e : RunFault) (rest : Version → Result Outline RunFault) (u : Option ℕ) → ¬ (or_fault e (option_and_then (λ n. cond (nat_le 0 n && nat_le n 4294967295) (Some n) None) u) ≡ Ok 2)
+    → (or_fault e (option_and_then version_from (option_and_then (λ n. cond (nat_le 0 n && nat_le n 4294967295) (Some n) None) u)) >>= rest)
+    ≡ (or_fault e (option_and_then (λ n. cond (nat_le 1 n && nat_le n 1) (Some n) None) u) >>= λ _. rest First)
+by_number e rest None h = refl
+by_number e rest (Some zero) h = refl
+by_number e rest (Some (suc zero)) h = refl
+by_number e rest (Some (suc (suc zero))) h = absurd (h refl)
+by_number e rest (Some (suc (suc (suc n)))) h =
+    let none : version_from (suc (suc (suc n))) ≡ None = grind (arith, nat_tests) in
+    let not_one : (nat_le 1 (suc (suc (suc n))) && nat_le (suc (suc (suc n))) 1) ≡ false = grind (arith, nat_tests) in
+    no_version e (suc (suc (suc n))) _ _ rest none not_one
 
 -- by whether there is such a value
 of_found : (e : RunFault) (found : Option Data) (rest : Version → Result Outline RunFault) → ¬ (or_fault e (option_and_then count_shape found) ≡ Ok 2)
     → (or_fault e (option_and_then version_shape found) >>= rest) ≡ (or_fault e (option_and_then (number_within 1 1) found) >>= λ _. rest First)
 of_found e None rest h = refl
-of_found e (Some v) rest h = of_value e v rest h
-
--- the same of what needs an object
-with_object : (o : Option Members) (a b : Members → Result Outline RunFault) → ((ms : Members) → a ms ≡ b ms) → (or_fault faults.NotObject o >>= a) ≡ (or_fault faults.NotObject o >>= b)
-with_object None a b h = refl
-with_object (Some ms) a b h = h ms
+of_found e (Some v) rest h = by_number e rest (option_and_then as_u64 (as_number v)) h
 
 of_data : (d : Data) → ¬ (field keys.Version count_shape d ≡ Ok 2) → outline_of d ≡ first_outline_of d
 unfolding outline_of first_outline_of
-of_data d h = with_object (as_object d) _ _ (λ ms. of_found (faults.BadField keys.Version) (get (name_of keys.Version) d) _ h)
+of_data d h = λ i. or_fault faults.NotObject (as_object d) >>= λ ms. of_found (faults.BadField keys.Version) (get (name_of keys.Version) d) (λ version. outline_by (versioned_shape version) ms d) h i
 
 of_read : (read : Result Data RunFault) → ¬ ((read >>= field keys.Version count_shape) ≡ Ok 2) → (read >>= outline_of) ≡ (read >>= first_outline_of)
 of_read (Err e) h = refl

@@ -4,8 +4,6 @@ pub mod Commands
 pub mod Dumps
 pub mod DumpLines
 pub mod Auditing
-pub mod Checking
 pub mod Sets
 pub mod Lines
-pub mod Accounts
 pub mod Whys

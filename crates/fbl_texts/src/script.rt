@@ -4,6 +4,7 @@ ghost use Rattle.std.specs.Prelude.{◌≡◌};
 ghost use Rattle.fbl_texts.specs.Scripts.{behaviour_word};
 
 use fbl_base::{Config, Member, MemberSet, Strike};
+use std::fmt;
 use std::marker::Model;
 
 /// The version of a script, which says what commands it may have.
@@ -72,6 +73,21 @@ impl Plan {
     }
 }
 
+/// As a script has it, as in `[[2,[1]],[5,[0,3]]]`.
+impl fmt::Display for Plan {
+    fn fmt<W: fmt::Write>(&self, f: &mut fmt::Formatter<W>) -> fmt::Result {
+        f.write_str("[")?;
+        let mut end = "";
+        for strike in &self.strikes {
+            let at = strike.at;
+            let members = strike.set;
+            write!(f, "{end}[{at},{members}]")?;
+            end = ",";
+        }
+        f.write_str("]")
+    }
+}
+
 /// A command of a script.
 #[derive(Debug, Drop)]
 pub enum Command {
@@ -91,6 +107,22 @@ pub enum Command {
     Run(Plan),
     /// Take a checkpoint of the member. Only scripts of version 2 have it.
     Checkpoint(Member),
+}
+
+/// Its name with its arguments as a script has them, as in `deliver to 1 from 2` and `strike [1,2]`.
+impl fmt::Display for Command {
+    fn fmt<W: fmt::Write>(&self, f: &mut fmt::Formatter<W>) -> fmt::Result {
+        match self {
+            Command::Deliver { to, from } => write!(f, "deliver to {to} from {from}"),
+            Command::States => f.write_str("states"),
+            Command::Report => f.write_str("report"),
+            Command::Strike(set) => write!(f, "strike {set}"),
+            Command::Recover => f.write_str("recover"),
+            Command::Dump(set) => write!(f, "dump {set}"),
+            Command::Run(plan) => write!(f, "run {plan}"),
+            Command::Checkpoint(member) => write!(f, "checkpoint {member}"),
+        }
+    }
 }
 
 /// What a script asks for.

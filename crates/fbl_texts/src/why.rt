@@ -127,32 +127,11 @@ pub fn why_unsafe<'a>(alloc: Global, dump: &'a Dump) -> Result<Why<'a>, AllocErr
     Ok(Why { dump, receipts })
 }
 
-/// An event by its number and its member, as in `receipt 1 of member 2`.
-#[derive(Clone, Copy)]
-struct EventName(Mark);
-
-impl fmt::Display for EventName {
-    fn fmt<W: fmt::Write>(&self, f: &mut fmt::Formatter<W>) -> fmt::Result {
-        match self.0 {
-            Mark::Send { from, ssn, .. } => {
-                let from = from.number();
-                write!(f, "send {ssn} of member {from}")
-            }
-            Mark::Receipt { to, rsn, .. } => {
-                let to = to.number();
-                write!(f, "receipt {rsn} of member {to}")
-            }
-        }
-    }
-}
-
 /// Writes who holds the receipt.
 fn write_holders<W: fmt::Write>(f: &mut fmt::Formatter<W>, reason: &LossReason) -> fmt::Result {
     let Determinant { from, ssn, to, rsn } = reason.determinant;
-    let from = from.number();
-    let to = to.number();
     write!(f, "determinant {from} {ssn} {to} {rsn} is held by ")?;
-    if reason.holders.count() == 0 {
+    if reason.holders.is_empty() {
         return f.write_str("nobody");
     }
     let holders = reason.holders;
@@ -160,21 +139,26 @@ fn write_holders<W: fmt::Write>(f: &mut fmt::Formatter<W>, reason: &LossReason) 
     write!(f, "{holders}, and a strike of {strike} loses it")
 }
 
-/// Writes the orphan, and the events of the path to it.
+/// Writes the orphan, and the events of the path to it, as in `orphan 2 depends on it: receipt 1 of member 1, send 1 of member 1`.
 fn write_path<W: fmt::Write>(
     f: &mut fmt::Formatter<W>,
     events: &[Mark],
     path: &OrphanPath,
 ) -> fmt::Result {
-    let orphan = path.orphan.number();
+    let orphan = path.orphan;
     write!(f, "orphan {orphan} depends on it")?;
     let mut before = ":";
     for place in &path.places {
-        if let Some(event) = events.get(*place) {
-            let name = EventName(*event);
-            write!(f, "{before} {name}")?;
-            before = ",";
+        match events.get(*place) {
+            Some(Mark::Send { from, ssn, .. }) => {
+                write!(f, "{before} send {ssn} of member {from}")?;
+            }
+            Some(Mark::Receipt { to, rsn, .. }) => {
+                write!(f, "{before} receipt {rsn} of member {to}")?;
+            }
+            None => {}
         }
+        before = ",";
     }
     f.write_str("\n")
 }

@@ -1,6 +1,7 @@
 -- The names that proofs of this crate take from outside: of the standard library, of the crates below, and of the definitions here.
-pub use Rattle.std.proofs.Common.{Bool, Err, IfErr, IfSome, List, None, Ok, Option, Result, Some, [], ap, arith, codes, decimal, drop, false, inl, inr, length, map, not, option_map, refl, rules}
-pub use Rattle.std.proofs.Common.{option_and_then, string_bytes, subst, suc, sym, true, unwrap_or, zero, ℕ, ◌&&◌, ◌++◌, ◌+◌, ◌<◌, ◌||◌, ◌∙◌, ◌∷◌, ◌≡◌, ◌≤◌, ◌⊎◌}
+pub use Rattle.std.proofs.Common.{Bool, Err, IfErr, IfSome, List, None, Ok, Option, Result, Some, [], ap, arith, codes, decimal, drop, false, map, not}
+pub use Rattle.std.proofs.Common.{option_map, refl, rules, option_and_then, string_bytes, subst, suc, sym, true, unwrap_or, zero, ℕ, ◌&&◌, ◌+◌, ◌<◌, ◌||◌}
+pub use Rattle.std.proofs.Common.{◌∙◌, ◌∷◌, ◌≡◌, ◌++◌}
 pub use Rattle.std.proofs.lemmas.Fmt.{decimal_digit, parse-decimal}
 pub use Rattle.std.specs.Borrow.{Bor}
 pub use Rattle.std.specs.Box.{box_value}
@@ -12,7 +13,8 @@ pub use Rattle.clap.proofs.WalkLemmas.{first_value-rows, one_text-rows}
 pub use Rattle.clap.specs.Simple.{built, entered, is_simple, names_of}
 pub use Rattle.clap.specs.Takes.{built_takes, takes}
 pub use Rattle.clap.specs.Walk.{nothing_held, stop_after}
-pub use Rattle.clap.specs.Words.{App, HasMatchesOf, ReadsOne, Row, Rule, Text, first_of, found_of, kind_of, new_rule, one_of, rule_of, subcommand_name_of, subcommand_of, subcommand_rows, subcommand_rows_of}
+pub use Rattle.clap.specs.Words.{App, HasMatchesOf, ReadsOne, Row, Rule, Text, first_of, found_of, kind_of, new_rule, one_of, rule_of, subcommand_name_of}
+pub use Rattle.clap.specs.Words.{subcommand_of, subcommand_rows, subcommand_rows_of}
 pub use Rattle.clap.specs.declared.builder.ArgAction.TheVariants.{Set}
 pub use Rattle.clap.specs.declared.error.Error.{Error}
 pub use Rattle.clap.specs.declared.error.kind.ErrorKind.TheVariants.{OutOfMemory}
@@ -21,43 +23,35 @@ pub use Rattle.clap.specs.declared.parser.matches.ArgMatches.TheViews.{out-ArgMa
 pub use Rattle.clap.specs.declared.parser.matches.SubCommand.{SubCommand}
 pub use Rattle.fbl_base.proofs.Recorded.{or_false}
 pub use Rattle.fbl_base.specs.Configs.{WorkersAllowed}
-pub use Rattle.fbl_texts.specs.Accounts.{is_refusal}
-pub use Rattle.fbl_texts.specs.declared.account.CommandAccount.{CommandAccount}
+pub use Rattle.fbl_play.specs.Steps.{is_refusal}
+pub use Rattle.fbl_play.specs.declared.answer.Answer.{Answer}
 pub use Rattle.fbl_pictures.specs.HistoryPictures.{history_picture}
-pub use Rattle.fblrun.specs.CommandLines.{IsRefusedFor, IsRequestAt, IsRequestOf, Names, given_in, input_rule, output_rule}
-pub use Rattle.fblrun.specs.CommandLines.{IsCommandLine, IsOrderAt, audit_line, check_line, draw_line, flag_text, is_audit, is_check, is_draw, is_play, is_show, is_show_workers, is_workers}
-pub use Rattle.fblrun.specs.CommandLines.{order_for, play_line, program, show_line, with_explain, with_strict}
+pub use Rattle.fblrun.specs.CommandLines.{IsRefusedFor, IsRequestOf, Names, given_in, IsCommandLine, IsOrderAt, flag_text, is_play, is_show, order_for}
+pub use Rattle.fblrun.specs.CommandLines.{program, with_explain, with_strict, IsRequestAt, audit_line, check_line, draw_line, is_audit, is_check, is_draw}
+pub use Rattle.fblrun.specs.CommandLines.{is_show_workers, is_workers, play_line, show_line}
 pub use Rattle.fblrun.specs.Statuses.{status_after}
 pub use Rattle.fblrun.specs.declared.Order.{Order}
 pub use Rattle.fblrun.specs.declared.command_line.Misuse.{Misuse}
 pub use Rattle.fblrun.specs.declared.command_line.Misuse.TheVariants.{Words}
 pub use Rattle.fblrun.specs.declared.command_line.Request.{Request}
-pub use Rattle.fbl_base.specs.Configs.{Settings}
-pub use Rattle.fbl_base.specs.Fold.{Next}
 pub use Rattle.fbl_texts.specs.Dumps.{IsDumpFault, IsDumpOf}
-pub use Rattle.fbl_history.specs.declared.column.Column.{Column}
 pub use Rattle.fbl_input.proofs.Inputs.{over_fault, over_input}
 pub use Rattle.fbl_input.proofs.Outputs.{puts_as, puts_text}
-pub use Rattle.fbl_input.specs.Faults.{PutsOut}
+pub use Rattle.fbl_input.specs.Faults.{PutsOut, run_result}
 pub use Rattle.fbl_input.specs.declared.fault.RunFault.{RunFault}
 pub use Rattle.fbl_input.specs.declared.output.OutputFault.{OutputFault}
 pub use Rattle.fbl_law.specs.Groups.{GroupRecord}
-pub use Rattle.fbl_play.specs.Plays.{Along, Moment, PlaysScript, PlaysUnheard, next_of}
-pub use Rattle.fbl_play.proofs.Moments.{play_unheard, run_unheard}
+pub use Rattle.fbl_play.specs.Plays.{Observes, PlaysScript, Ran, next_of}
+pub use Rattle.fbl_play.proofs.Moments.{unobserved}
 pub use Rattle.fbl_play.specs.Transcripts.{Transcript, history, text}
-pub use Rattle.fbl_play.specs.declared.engine.RunHistory.{RunHistory}
 pub use Rattle.fbl_texts.specs.Scripts.{IsScriptFault, IsScriptOf, Outline, behaviour_word, outline}
 pub use Rattle.fbl_texts.specs.declared.script.Command.{Command}
 pub use Rattle.fblrun.specs.Orders.{DoesScript, DoesTask, IsDumpAnswer, IsShown, PlaysWell}
 pub use Rattle.fbl_base.specs.Audit.{Parts}
 pub use Rattle.fbl_pictures.specs.DumpPictures.{IsPicture}
-pub use Rattle.fbl_texts.specs.Auditing.{IsAuditText}
-pub use Rattle.fbl_texts.specs.Checking.{IsChecked}
-pub use Rattle.fbl_texts.specs.declared.checking.Verdict.{Verdict}
-pub use Rattle.fbl_texts.specs.declared.checking.Verdict.TheVariants.{Safe, Unsafe}
-pub use Rattle.fbl_input.specs.Faults.{run_result}
+pub use Rattle.fbl_texts.specs.Auditing.{IsAuditText, IsChecked}
+pub use Rattle.fbl_texts.specs.declared.auditing.Verdict.{Verdict}
+pub use Rattle.fbl_texts.specs.declared.auditing.Verdict.TheVariants.{Safe, Unsafe}
 pub use Rattle.fblrun.specs.declared.DumpTask.TheVariants.{Audit, Check, Draw}
-pub use Rattle.fblrun.specs.declared.ScriptTask.TheVariants.{Play, Show}
-pub use Rattle.fblrun.specs.declared.Task.TheVariants.{Dump, Script}
 pub use Rattle.std.proofs.lemmas.Option.{IfSome_then}
 pub use Rattle.fbl_input.specs.Misfits.{run_fault}

@@ -3,16 +3,15 @@ use Rattle.std.specs.Prelude.{◌≡◌, ℕ, ◌&&◌, not, Bool, true, false, 
 use Rattle.std.specs.List.{list_any}
 use Rattle.fbl_base.specs.Audit.{Parts}
 use Rattle.fbl_pictures.specs.DumpPictures.{IsPicture}
-use Rattle.fbl_texts.specs.Auditing.{IsAuditText}
-use Rattle.fbl_texts.specs.Checking.{IsChecked}
+use Rattle.fbl_texts.specs.Auditing.{IsAuditText, IsChecked}
 use Rattle.fbl_texts.specs.Dumps.{IsDumpFault, IsDumpOf}
-use Rattle.fbl_texts.specs.declared.checking.Verdict.TheVariants.{Safe, Unsafe}
-use Rattle.fbl_texts.specs.Accounts.{is_refusal}
+use Rattle.fbl_texts.specs.declared.auditing.Verdict.TheVariants.{Safe, Unsafe}
 use Rattle.fbl_history.specs.declared.column.Column.{Column}
 use Rattle.fbl_input.specs.Faults.{OverInput, PutsOut}
 use Rattle.fbl_input.specs.declared.fault.RunFault.{RunFault}
 use Rattle.fbl_input.specs.declared.output.OutputFault.{OutputFault}
-use Rattle.fbl_play.specs.Plays.{PlaysUnheard}
+use Rattle.fbl_play.specs.Plays.{PlaysUnobserved}
+use Rattle.fbl_play.specs.Steps.{is_refusal}
 use Rattle.fbl_play.specs.Transcripts.{history, text}
 use Rattle.fbl_texts.specs.Scripts.{Outline, IsScriptFault, IsScriptOf, behaviour_word}
 use Rattle.fbl_pictures.specs.HistoryPictures.{history_picture}
@@ -27,13 +26,13 @@ use Rattle.fblrun.specs.Statuses.{status_after}
 
 -- a play, after which all is well but where it is strict and some command was refused
 abbrev pub PlaysWell : ℕ → Bool → Outline → Option (List ℕ) → Option (List ℕ) → Result Bool OutputFault → Type 0
-PlaysWell workers strict s before after (Ok is_well) = (played : PlaysUnheard workers s (text before) (text after) (Ok tt)) × (is_well ≡ not (strict && list_any is_refusal played.0))
-PlaysWell workers strict s before after (Err fault) = PlaysUnheard workers s (text before) (text after) (Err fault)
+PlaysWell workers strict s before after (Ok is_well) = (played : PlaysUnobserved workers s (text before) (text after) (Ok tt)) × (is_well ≡ not (strict && list_any (λ r. is_refusal r.answer) played.0))
+PlaysWell workers strict s before after (Err fault) = PlaysUnobserved workers s (text before) (text after) (Err fault)
 
 -- the text is the picture of a history of the script, where so many workers make its runs
 abbrev pub IsShown : ℕ → Outline → List ℕ → Type 0
 IsShown workers s shown =
-    (columns : List Column) × PlaysUnheard workers s (history None) (history (Some columns)) (Ok tt)
+    (columns : List Column) × PlaysUnobserved workers s (history None) (history (Some columns)) (Ok tt)
     × (shown ≡ history_picture s.config.members s.config.f (behaviour_word s.behaviour) columns)
 
 -- what is done with the script, and whether all is well

@@ -2,9 +2,8 @@
 
 ghost use Rattle.std.specs.Prelude.{◌≡◌, ◌≤◌, IfSome};
 ghost use Rattle.fbl_input.specs.Faults.{PutsOut};
-ghost use Rattle.fbl_texts.specs.Scripts.{behaviour_word, outline};
-ghost use Rattle.fbl_pictures.specs.HistoryPictures.{history_picture};
-ghost use Rattle.fblrun.specs.Orders.{DoesScript, IsDumpAnswer, Obeys};
+ghost use Rattle.fbl_texts.specs.Scripts.{outline};
+ghost use Rattle.fblrun.specs.Orders.{DoesScript, IsDumpAnswer, IsShown, Obeys};
 
 use crate::streams::Named;
 use crate::telling::{Teller, refuse_input, tell_why};
@@ -12,25 +11,29 @@ use crate::{DumpTask, Order, ScriptTask, Task, end};
 use fbl_base::audit::Dump;
 use fbl_input::{OutputFault, put};
 use fbl_pictures::{show_text, write_picture};
-use fbl_play::{RunHistory, history_of_script, play_script};
+use fbl_play::{history_of_script, play_script};
 use fbl_texts::{Script, Verdict, read_dump, read_script, write_audit, write_check};
 use std::alloc::Global;
 use std::io::{Read, Write};
 use std::sync::Wait;
 use std::thread::Threads;
 
-/// Writes the picture of the history of a group, which has 16 members at most.
-fn write_history<W: Write>(
+/// Plays the script, and writes the picture of its history.
+fn show<R: Eprint + Threads + Wait + Sync, W: Write>(
     alloc: Global,
-    played: &RunHistory,
+    script: Script,
+    workers: u8,
+    teller: &mut Teller<'_, R>,
     writer: &mut W,
 ) -> Result<(), OutputFault>
-    requires { played.now.members ≤ 16 }
-    ensures { PutsOut (λ _ text. text ≡ history_picture played.now.members played.now.f (behaviour_word played.now.behaviour) played.now.history) (W.contents writer.old) (W.contents writer.new) result }
+    requires { script.config.members ≤ 16 }
+    ensures { PutsOut (λ _. IsShown workers (outline script)) (W.contents writer.old) (W.contents writer.new) result }
 {
-    let name = played.behaviour.name();
-    let columns = played.history.columns();
-    let text = show_text(alloc, played.members, played.f, name, columns)?;
+    let members = script.config.members();
+    let f = script.config.f();
+    let name = script.behaviour.name();
+    let history = history_of_script(teller.rt, alloc, script, workers, teller)?;
+    let text = show_text(alloc, members, f, name, history.columns())?;
     put(writer, text.as_bytes())
 }
 
@@ -51,12 +54,11 @@ fn do_script<T: Eprint + Threads + Wait + Sync, W: Write>(
     match task {
         ScriptTask::Play { workers, strict } => {
             play_script(rt, alloc, script, writer, workers, &mut teller)?;
-            let is_refused = strict && teller.has_refused();
+            let is_refused = strict && teller.has_refused;
             Ok(!is_refused)
         }
         ScriptTask::Show { workers } => {
-            let played = history_of_script(rt, alloc, script, workers, &mut teller)?;
-            write_history(alloc, &played, writer)?;
+            show(alloc, script, workers, &mut teller, writer)?;
             Ok(true)
         }
     }

@@ -6,7 +6,6 @@ ghost use Rattle.std.specs.Prelude.{◌≡◌, ◌<◌};
 use crate::command_line::Request;
 use crate::doing::obey;
 use crate::streams::{Failure, Named};
-use crate::telling::FaultLine;
 use crate::{NOT_WELL, fail};
 use fbl_input::RunFault;
 use std::alloc::Global;
@@ -46,13 +45,13 @@ fn file_name(name: Option<&str>) -> Option<&str> {
 /// Prints that a call on the file failed, and answers the exit status of that: lack of memory has its own.
 fn fail_on<R: Eprint>(rt: &R, fault: RunFault, name: &str, error: io::Error) -> u8 {
     if error.kind() == ErrorKind::OutOfMemory {
-        return fail(rt, FaultLine::of(RunFault::Memory));
+        return fail(rt, RunFault::Memory, None);
     }
     let failure = Failure {
         name,
         error: Some(error),
     };
-    fail(rt, FaultLine::on(fault, Some(failure)))
+    fail(rt, fault, Some(failure))
 }
 
 /// A new file beside the one that is to be at the place. It has the first name of some that no file has.
@@ -148,14 +147,14 @@ where
 {
     match target_of(rt, alloc, name) {
         Ok(Target::Itself(file)) => {
-            let mut writer = Named::file(file, name);
+            let mut writer = Named::new(file, Some(name));
             obey(rt, alloc, request.order, reader, &mut writer)
         }
         Ok(Target::Beside(beside)) => {
             let Beside { file, own, place } = beside;
-            let mut writer = Named::file(file, name);
+            let mut writer = Named::new(file, Some(name));
             let status = obey(rt, alloc, request.order, reader, &mut writer);
-            let file = writer.into_inner();
+            let file = writer.stream;
             settle(rt, Beside { file, own, place }, name, status)
         }
         Err(error) => fail_on(rt, RunFault::Write, name, error),
@@ -171,7 +170,7 @@ where
     match file_name(request.output) {
         Some(name) => obey_into(rt, alloc, request, name, reader),
         None => {
-            let mut writer = Named::standard(io::writer(rt));
+            let mut writer = Named::new(io::writer(rt), None);
             obey(rt, alloc, request.order, reader, &mut writer)
         }
     }
@@ -186,13 +185,13 @@ where
     match file_name(request.input) {
         Some(name) => match File::open(rt, name) {
             Ok(file) => {
-                let mut reader = Named::file(file, name);
+                let mut reader = Named::new(file, Some(name));
                 obey_from(rt, alloc, request, &mut reader)
             }
             Err(error) => fail_on(rt, RunFault::Read, name, error),
         },
         None => {
-            let mut reader = Named::standard(rt.reader());
+            let mut reader = Named::new(rt.reader(), None);
             obey_from(rt, alloc, request, &mut reader)
         }
     }

@@ -100,7 +100,7 @@ fn refuse<R: Print + Eprint>(rt: &R, misuse: Misuse) -> u8 {
         }
     };
     if error.kind() == ErrorKind::OutOfMemory {
-        return fail(rt, FaultLine::of(RunFault::Memory));
+        return fail(rt, RunFault::Memory, None);
     }
     let printed = error.print(rt);
     match error.kind() {
@@ -111,37 +111,32 @@ fn refuse<R: Print + Eprint>(rt: &R, misuse: Misuse) -> u8 {
     }
 }
 
-/// Prints why the words of the process can't be had, and answers the exit status: memory runs out, or they are not
-/// UTF-8, which is a fault of the command line.
-fn refuse_words<R: Eprint>(rt: &R, kind: io::ErrorKind) -> u8 {
-    match kind {
-        io::ErrorKind::OutOfMemory => fail(rt, FaultLine::of(RunFault::Memory)),
-        _ => {
-            let _ = eprintln!(rt; "error: a word of the command line is not UTF-8");
-            INPUT_FAULT
-        }
-    }
-}
-
-/// The words of the process, or the exit status where they can't be had.
+/// The words of the process, or the exit status where they can't be had: memory runs out, or they are not UTF-8, which is a fault
+/// of the command line.
 fn words_of(rt: &HostRuntime) -> Result<Vec<String>, u8> {
     let words = match env::args(rt) {
         Ok(words) => words,
-        Err(error) => return Err(refuse_words(rt, error.kind())),
+        Err(error) => {
+            if error.kind() == io::ErrorKind::OutOfMemory {
+                return Err(fail(rt, RunFault::Memory, None));
+            }
+            let _ = eprintln!(rt; "error: a word of the command line is not UTF-8");
+            return Err(INPUT_FAULT);
+        }
     };
     match words.collect::<Vec<String>>(rt.alloc()) {
         Ok(words) => Ok(words),
-        Err(_) => Err(fail(rt, FaultLine::of(RunFault::Memory))),
+        Err(_) => Err(fail(rt, RunFault::Memory, None)),
     }
 }
 
-/// Prints the line of a fault, and answers its exit status.
-fn fail<R: Eprint>(rt: &R, line: FaultLine<'_>) -> u8
-    ensures { result ≡ fault_status line.entry.fault }
+/// Prints the line of a fault, of a read or a write on this file if one is given, and answers its exit status.
+fn fail<R: Eprint>(rt: &R, fault: RunFault, file: Option<Failure<'_>>) -> u8
+    ensures { result ≡ fault_status fault }
 {
-    let status = status_of(&line.fault);
+    let line = FaultLine { fault, file };
     let _ = eprintln!(rt; "{line}");
-    status
+    status_of(&fault)
 }
 
 /// The exit status of what was done, by whether all is well. The line of its fault is printed, if it has one; the file is one on
@@ -152,7 +147,7 @@ fn end<R: Eprint>(rt: &R, done: Result<bool, OutputFault>, file: Option<Failure<
     match done {
         Ok(true) => DONE,
         Ok(false) => NOT_WELL,
-        Err(fault) => fail(rt, FaultLine::on(RunFault::from(fault), file)),
+        Err(fault) => fail(rt, RunFault::from(fault), file),
     }
 }
 

@@ -1,13 +1,11 @@
 //! Streams that are files with names, or standard input and output.
 
-ghost use Rattle.std.specs.Prelude.{◌≡◌};
-
 use std::io::{self, Read, Write};
 
 /// A stream, which is a file with a name or is standard input or output. It keeps why a call failed, for the line of the fault.
 #[derive(Drop)]
 pub(crate) struct Named<'a, S> {
-    stream: S,
+    pub(crate) stream: S,
     name: Option<&'a str>,
     /// Why the last call that failed did so.
     error: Option<io::Error>,
@@ -21,46 +19,22 @@ pub(crate) struct Failure<'a> {
 }
 
 impl<'a, S> Named<'a, S> {
-    /// A stream without a name.
-    pub(crate) fn standard(stream: S) -> Named<'a, S>
-        ensures { result.stream ≡ stream }
-    {
+    /// A file with this name, or a standard stream.
+    pub(crate) fn new(stream: S, name: Option<&'a str>) -> Named<'a, S> {
         Named {
             stream,
-            name: None,
+            name,
             error: None,
         }
-    }
-
-    /// A file with this name.
-    pub(crate) fn file(stream: S, name: &'a str) -> Named<'a, S>
-        ensures { result.stream ≡ stream }
-    {
-        Named {
-            stream,
-            name: Some(name),
-            error: None,
-        }
-    }
-
-    /// The stream.
-    pub(crate) fn into_inner(self) -> S
-    where
-        S: Drop,
-        ensures { result ≡ self.entry.stream }
-    {
-        self.stream
     }
 
     /// What is known of a call that failed, if this is a file with a name.
     pub(crate) fn failure(&self) -> Option<Failure<'a>> {
-        match self.name {
-            Some(name) => Some(Failure {
-                name,
-                error: self.error,
-            }),
-            None => None,
-        }
+        let name = self.name?;
+        Some(Failure {
+            name,
+            error: self.error,
+        })
     }
 }
 

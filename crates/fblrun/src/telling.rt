@@ -10,8 +10,8 @@ use fbl_base::audit::Dump;
 use fbl_base::{Behaviour, Note};
 use fbl_group::Group;
 use fbl_input::{InputFault, RunFault};
-use fbl_play::{Observer, Transcribed};
-use fbl_texts::{AccountOf, Command, CommandAccount, Words, why_lost, why_unsafe};
+use fbl_play::{Account, Answer, Observer, Transcribed};
+use fbl_texts::{Command, why_lost, why_unsafe};
 use std::alloc::Global;
 use std::fmt;
 
@@ -20,23 +20,7 @@ use std::fmt;
 pub(crate) struct FaultLine<'a> {
     pub(crate) fault: RunFault,
     /// The file on which a read or a write failed, if it is a file with a name.
-    file: Option<Failure<'a>>,
-}
-
-impl<'a> FaultLine<'a> {
-    /// The line of a fault on a standard stream, or on none.
-    pub(crate) fn of(fault: RunFault) -> FaultLine<'a>
-        ensures { result.fault ≡ fault }
-    {
-        FaultLine { fault, file: None }
-    }
-
-    /// The line of a fault: of a read or a write on this file, if one is given.
-    pub(crate) fn on(fault: RunFault, file: Option<Failure<'a>>) -> FaultLine<'a>
-        ensures { result.fault ≡ fault }
-    {
-        FaultLine { fault, file }
-    }
+    pub(crate) file: Option<Failure<'a>>,
 }
 
 impl fmt::Display for FaultLine<'_> {
@@ -61,11 +45,12 @@ impl fmt::Display for FaultLine<'_> {
 /// there is passed over: what is written and the exit status stay as they would be.
 #[derive(Drop)]
 pub(crate) struct Teller<'a, R> {
-    rt: &'a R,
+    pub(crate) rt: &'a R,
     is_asked: bool,
     /// The place of the next command.
     place: usize,
-    has_refused: bool,
+    /// Whether some command was refused.
+    pub(crate) has_refused: bool,
 }
 
 impl<'a, R> Teller<'a, R> {
@@ -80,23 +65,16 @@ impl<'a, R> Teller<'a, R> {
             has_refused: false,
         }
     }
-
-    /// Whether some command was refused.
-    pub(crate) fn has_refused(&self) -> bool
-        ensures { result ≡ self.now.has_refused }
-    {
-        self.has_refused
-    }
 }
 
 impl<R: Eprint> Observer for Teller<'_, R> {
     ghost use Rattle.std.specs.Prelude.{◌≡◌, ◌||◌};
-    ghost use Rattle.fbl_texts.specs.Accounts.{is_refusal};
+    ghost use Rattle.fbl_play.specs.Steps.{is_refusal};
 
     // what is told on standard error no contract sees
-    ghost hears_before = { λ _ _ old _ new. new.has_refused ≡ old.has_refused };
+    ghost observes_before = { λ _ _ old _ new. new.has_refused ≡ old.has_refused };
 
-    ghost hears_after = { λ _ _ old _ account new. new.has_refused ≡ (old.has_refused || is_refusal account) };
+    ghost observes_after = { λ _ _ old _ answer new. new.has_refused ≡ (old.has_refused || is_refusal answer) };
 
     fn before<B: Behaviour<State = u64, Note = Note>, K: Transcribed>(
         &mut self,
@@ -106,28 +84,27 @@ impl<R: Eprint> Observer for Teller<'_, R> {
     ) {
         if self.is_asked {
             let place = self.place;
-            let words = Words(command);
-            let _ = eprintln!(self.rt; "command {place}: {words}");
+            let _ = eprintln!(self.rt; "command {place}: {command}");
         }
     }
 
     fn after<B: Behaviour<State = u64, Note = Note>, K: Transcribed>(
         &mut self,
         command: &Command,
-        account: &CommandAccount,
+        answer: &Answer,
         _group: &Group<B>,
         _transcript: &K,
     ) {
         let place = self.place;
         self.place = place.saturating_add(1);
-        self.has_refused = self.has_refused || account.is_refusal();
-        if self.is_asked && account.is_told() {
-            let told = AccountOf {
+        self.has_refused = self.has_refused || answer.is_refusal();
+        if self.is_asked {
+            let account = Account {
                 place,
                 command,
-                account,
+                answer,
             };
-            let _ = eprintln!(self.rt; "{told}");
+            let _ = eprint!(self.rt; "{account}");
         }
     }
 }
@@ -156,7 +133,7 @@ pub(crate) fn refuse_input<R: Eprint>(
 ) -> u8
     ensures { result ≡ fault_status (run_fault fault.now.misfit) }
 {
-    let status = fail(rt, FaultLine::on(fault.misfit.fault(), file));
+    let status = fail(rt, fault.misfit.fault(), file);
     if explain {
         if let Ok(Some(explanation)) = fault.explanation(alloc) {
             let _ = eprintln!(rt; "{explanation}");

@@ -9,4 +9,4 @@ returns-in-Ok-clause-step g c =
     let before = c.as_slice-before.ensures.value ∙ c.in_ok-lost_before.ensures.lost in
     let after = c.as_slice.ensures.value ∙ c.in_ok-after-in-Ok.ensures.lost in
     let others = before ∙ lost_before struck.1.0 c.lost_of.ensures.sound c.lost_of-in-Ok.ensures.sound ∙ ap (filter (λ d. not (is_recorded old d))) (sym after) in
-    rw struck.0 (c.in-Ok.answer, struck.1, refl, (c.in_ok-receipts-in-Ok.ensures (is_recorded old) others ∙ ap (filter (is_recorded old)) after, ap length before))
+    rw struck.0 (refl, struck.1, c.in_ok-receipts-in-Ok.ensures (is_recorded old) others ∙ ap (filter (is_recorded old)) after, ap length before)

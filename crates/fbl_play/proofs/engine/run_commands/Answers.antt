@@ -11,31 +11,31 @@ loop-command-init g c = (
     start = c.in_ok-group.ensures;
     sound = c.recoverable.ensures.sound;
     begins = c.in_ok-begin.ensures.begun;
+    commands = refl;
     along = refl;
   },
+  refl,
 )
 
-pub returns-in_err-output : goal.returns-in_err-output
-returns-in_err-output g c =
-    play_stopped _ _ _ _ _ _ _ _ _ _ c.loop-command.invariant _ c.loop-command-test.true c.command-item.is _ _ _ _ c.from_residual-in_err-output.ensures.1 c.before-in-loop-command.ensures
-    (inl (refl, refl))
+pub returns-in_err-answer : goal.returns-in_err-answer
+returns-in_err-answer g c =
+    play_stopped _ _ _ _ _ _ _ _ _ _ _ c.loop-command.invariant _ c.loop-command-test.true c.command-item.is _ c.before-in-loop-command.ensures
+    _ _ _ c.from_residual-in_err-answer.ensures.1 (inl (refl, refl))
 
 pub returns-in_err-add : goal.returns-in_err-add
 returns-in_err-add g c =
-    play_stopped _ _ _ _ _ _ _ _ _ _ c.loop-command.invariant _ c.loop-command-test.true c.command-item.is _ _ _ _ c.from_residual-in_err-add.ensures.1 c.before-in-loop-command.ensures
-    (inr (c.run_command-after.result.0, c.in_ok-output.field-0.output, c.in_ok-output.field-0.account, (rw c.in_ok-output.was at c.run_command-after.ensures.step), c.recoverable-in-loop-command.ensures.sound, c.in_err-add.ensures.cut))
+    play_stopped _ _ _ _ _ _ _ _ _ _ _ c.loop-command.invariant _ c.loop-command-test.true c.command-item.is _ c.before-in-loop-command.ensures
+    _ _ _ c.from_residual-in_err-add.ensures.1
+    (inr (c.run_command-after.result.0, c.in_ok-answer.answer, (rw c.in_ok-answer.was at c.run_command-after.ensures.step), c.recoverable-in-loop-command.ensures.sound, c.in_err-add.ensures.cut))
 
 pub loop-command-preserved : goal.loop-command-preserved
 loop-command-preserved g c =
-    run_more _ _ _ _ _ _ _ _ _ _ c.loop-command.invariant _ c.loop-command-test.true c.command-item.is c.in_ok-output.field-0.account _ (record {
-      begun = c.before-in-loop-command.new.self;
-      output = c.in_ok-output.field-0.output;
-      announced = c.before-in-loop-command.ensures;
-      step = rw c.in_ok-output.was at c.run_command-after.ensures.step;
+    run_more _ _ _ _ _ _ _ _ _ _ _ c.loop-command.invariant _ c.loop-command-test.true c.command-item.is _ c.before-in-loop-command.ensures
+    c.in_ok-answer.answer _ _ (record {
+      step = rw c.in_ok-answer.was at c.run_command-after.ensures.step;
       sound = c.recoverable-in-loop-command.ensures.sound;
       added = c.in_ok-add.ensures.added;
-      told = c.after.ensures;
-    })
+    }) c.after.ensures
 
 pub returns : goal.returns
-returns g c = play_all _ _ _ _ _ _ _ _ _ _ c.loop-command.invariant (omega (arith, c.loop-command-test.false))
+returns g c = play_all _ _ _ _ _ _ _ _ _ _ _ c.loop-command.invariant (omega (arith, c.loop-command-test.false))

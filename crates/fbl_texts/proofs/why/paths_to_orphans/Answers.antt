@@ -1,5 +1,5 @@
-use Rattle.fbl_texts.proofs.WordsCommon.{◌≡◌, true, false, arith, ap, sym, ◌∙◌, IsDump, At, receipt_of, DependsOnPlace, Has, IsLeftOrphan, IsPathTo, false≢true}
-use Rattle.fbl_texts.proofs.WordsCommon.{depends-from_places, places-from_depends, Has-first}
+use Rattle.fbl_texts.proofs.Common.{◌≡◌, true, false, arith, ap, sym, ◌∙◌, IsDump, At, receipt_of, DependsOnPlace, Has, IsLeftOrphan, IsPathTo, false≢true}
+use Rattle.fbl_texts.proofs.Common.{depends-from_places, places-from_depends, Has-first}
 use Rattle.std.specs.FinSet as set
 use Rattle.fbl_texts.proofs.Whys.{paths_all, paths_more, paths_same}
 use Rattle.fbl_texts.proofs.why.paths_to_orphans.Goals as goal

@@ -1,4 +1,4 @@
-use Rattle.fbl_texts.proofs.WordsCommon.{ℕ, ◌<◌, At, receipt_of}
+use Rattle.fbl_texts.proofs.Common.{ℕ, ◌<◌, At, receipt_of}
 use Rattle.fbl_texts.proofs.why.place_of.Given as goal
 
 abbrev pub invariant-loop-place : goal.invariant-loop-place

@@ -1,4 +1,4 @@
-use Rattle.fbl_texts.proofs.WordsCommon.{◌≡◌, take, arith, ap, ◌∙◌, take_all, lost_determinants, IsLossReason}
+use Rattle.fbl_texts.proofs.Common.{◌≡◌, take, arith, ap, ◌∙◌, take_all, lost_determinants, IsLossReason}
 use Rattle.fbl_texts.proofs.Whys.{reasons_more}
 use Rattle.fbl_texts.proofs.why.why_lost.Goals as goal
 

@@ -1,4 +1,4 @@
-use Rattle.fbl_texts.proofs.WordsCommon.{take, AllZip, IsLossReason}
+use Rattle.fbl_texts.proofs.Common.{take, AllZip, IsLossReason}
 use Rattle.fbl_texts.proofs.why.why_lost.Given as goal
 
 abbrev pub invariant-loop-determinant : goal.invariant-loop-determinant

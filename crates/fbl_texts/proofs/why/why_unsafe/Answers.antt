@@ -1,4 +1,4 @@
-use Rattle.fbl_texts.proofs.WordsCommon.{◌≡◌, take, arith, ◌∙◌, take_all, UnsafeReceipt, IsLossReason}
+use Rattle.fbl_texts.proofs.Common.{◌≡◌, take, arith, ◌∙◌, take_all, UnsafeReceipt, IsLossReason}
 use Rattle.fbl_texts.proofs.Whys.{reasons_more}
 use Rattle.fbl_texts.proofs.why.why_unsafe.Goals as goal
 

@@ -1,4 +1,4 @@
-use Rattle.fbl_texts.proofs.WordsCommon.{take, AllZip, IsLossReason}
+use Rattle.fbl_texts.proofs.Common.{take, AllZip, IsLossReason}
 use Rattle.fbl_texts.proofs.why.why_unsafe.Given as goal
 
 abbrev pub invariant-loop-receipt : goal.invariant-loop-receipt

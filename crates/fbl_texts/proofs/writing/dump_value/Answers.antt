@@ -1,5 +1,5 @@
-use Rattle.fbl_texts.proofs.Common.{◌≡◌, ℕ, List, ap, ◌∙◌, subst, map, Some, All, IfOk-weaker, Determinant, Mark, member_list, event_shape, pair_shape, event_data, list_data, number_data}
-use Rattle.fbl_texts.proofs.Common.{pair_data}
+use Rattle.fbl_texts.proofs.Common.{◌≡◌, ℕ, List, ap, ◌∙◌, subst, map, Some, All, IfOk-weaker, Determinant, Mark, member_list, event_shape, pair_shape}
+use Rattle.fbl_texts.proofs.Common.{event_data, list_data, number_data, pair_data}
 use Rattle.fbl_texts.proofs.DumpValues.{dump_same, parts_read}
 use Rattle.fbl_texts.proofs.writing.dump_value.Goals as goal
 

@@ -1,5 +1,5 @@
-use Rattle.fblrun.proofs.Common.{◌≡◌, ◌∙◌, ◌&&◌, List, ℕ, true, refl, not, Ok, IsShown, PlaysWell, outline}
-use Rattle.fblrun.proofs.Endings.{IsPicture, cut, plays_short, plays_well, shown}
+use Rattle.fblrun.proofs.Common.{◌≡◌, ◌∙◌, ◌&&◌, true, refl, IsShown, outline}
+use Rattle.fblrun.proofs.Endings.{cut, plays_short, plays_well}
 use Rattle.fblrun.proofs.doing.do_script.Goals as goal
 
 pub returns-in_err-play_script-in-Play : goal.returns-in_err-play_script-in-Play
@@ -16,33 +16,18 @@ returns-after-strict g c =
     let strict = c.in-Play.strict in
     let teller = c.play_script.new.observer in
     let refused : c.if-strict.is_refused ≡ (strict && teller.has_refused) = elim c.if-strict.branch [
-      | goal.then-strict w ↦ rw w.if-strict.true (w.is_refused-is ∙ w.has_refused-is_refused.ensures)
+      | goal.then-strict w ↦ rw w.if-strict.true (w.is_refused-is)
       | goal.else-strict w ↦ rw w.if-strict.false (w.is_refused-is ∙ w.if-strict.false)
     ] in
     rw (c.in-Play.is, refused) (plays_well (λ teller. teller.has_refused) c.in-Play.workers strict (outline c.args.script) had has c.new-teller.result teller c.new-teller.ensures
     c.in_ok-play_script-in-Play.ensures)
 
-pub returns-in_err-write_history-in-Show : goal.returns-in_err-write_history-in-Show
-returns-in_err-write_history-in-Show g c =
+pub returns-in_err-show-in-Show : goal.returns-in_err-show-in-Show
+returns-in_err-show-in-Show g c =
     let s = outline c.args.script in
     let workers = c.in-Show.workers in
-    let old = c.new-teller.result in
-    let new = c.history_of_script.new.observer in
-    let played = c.in_ok-played-in-Show.played in
-    let is = c.in_ok-played-in-Show.ensures in
-    rw c.in-Show.is (cut (λ _. IsPicture (λ teller. teller.has_refused) workers s old new played is) (λ is_well drawn. IsShown workers s drawn × (is_well ≡ true)) (λ _. true)
-    (λ _ drawn picture. (shown (λ teller. teller.has_refused) workers s old new played is drawn picture, refl)) _ _ _ _
-    c.from_residual-in_err-write_history-in-Show.ensures.1 c.in_err-write_history-in-Show.ensures)
+    rw c.in-Show.is (cut (λ _. IsShown workers s) (λ is_well drawn. IsShown workers s drawn × (is_well ≡ true)) (λ _. true) (λ _ drawn shown. (shown, refl)) _ _ _ _
+    c.from_residual-in_err-show-in-Show.ensures.1 c.in_err-show-in-Show.ensures)
 
-pub returns-in_ok-write_history-in-Show : goal.returns-in_ok-write_history-in-Show
-returns-in_ok-write_history-in-Show g c =
-    let puts = c.in_ok-write_history-in-Show.ensures in
-    rw c.in-Show.is (
-      puts.0,
-      (
-        shown (λ teller. teller.has_refused) c.in-Show.workers (outline c.args.script) c.new-teller.result c.history_of_script.new.observer
-            c.in_ok-played-in-Show.played c.in_ok-played-in-Show.ensures puts.0 puts.1,
-        refl,
-      ),
-      puts.2,
-    )
+pub returns-in_ok-show-in-Show : goal.returns-in_ok-show-in-Show
+returns-in_ok-show-in-Show g c = (let puts = c.in_ok-show-in-Show.ensures in rw c.in-Show.is (puts.0, (puts.1, refl), puts.2))

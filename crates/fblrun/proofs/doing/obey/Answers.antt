@@ -1,4 +1,5 @@
-use Rattle.fblrun.proofs.Common.{Err, IfSome_then, refl, over_fault, over_input, run_fault, run_result, DoesScript, DoesTask, IsDumpAnswer, IsDumpFault, IsDumpOf, IsScriptFault, IsScriptOf, PutsOut}
+use Rattle.fblrun.proofs.Common.{Err, IfSome_then, refl, over_fault, over_input, run_fault, run_result, DoesScript, DoesTask, IsDumpAnswer, IsDumpFault}
+use Rattle.fblrun.proofs.Common.{IsDumpOf, IsScriptFault, IsScriptOf, PutsOut}
 use Rattle.fblrun.proofs.Endings.{ended}
 use Rattle.fblrun.proofs.doing.obey.Goals as goal
 
