@@ -1,5 +1,5 @@
 -- Why events have no order.
-use Rattle.std.specs.Prelude.{ℕ, ◌≡◌, ◌≢◌, ◌<◌, ◌≤◌, ◌+◌, ◌-◌, ◌⊎◌, List, length, Some, map, slice_get, take, AllPairs}
+use Rattle.std.specs.Prelude.{ℕ, ◌≡◌, ◌≢◌, ◌≤◌, ◌+◌, ◌-◌, ◌⊎◌, List, length, Some, map, slice_get, take, AllPairs}
 use Rattle.fbl_base.specs.declared.fault.DumpFault.{DumpFault}
 use Rattle.fbl_base.specs.declared.fault.DumpFault.TheVariants.{BadEvent, Memory}
 use Rattle.fbl_base.specs.declared.fault.EventRule.TheVariants.{TooMany, NothingInFlight}
@@ -77,5 +77,5 @@ abbrev pub RefusesUnordered : {A : Type 0} → Parts → OrderFault A → Type 0
 RefusesUnordered dump fault =
     (MembersAllowed dump.members × FAllowed dump.members dump.f × RefusesOrder dump.members dump.events fault)
     ⊎ ((other : DumpFault) × (fault ≡ Dump other) × ((events : List Mark)
-        × (MembersAllowed dump.members → FAllowed dump.members dump.f → IsOrder dump.members dump.events events)
-        × RefusesDump (with_events events dump) (dump_refusal other) × IsOfDump (with_events events dump) other))
+    × (MembersAllowed dump.members → FAllowed dump.members dump.f → IsOrder dump.members dump.events events)
+    × RefusesDump (with_events events dump) (dump_refusal other) × IsOfDump (with_events events dump) other))

@@ -74,10 +74,7 @@ fn first_other<A: Allocator>(parts: &[RawDump<A>]) -> Option<PartsFault>
 
 /// The parts as one: their events one part's behind another's, who held what in any of them, and who is struck in any of them.
 /// They have the same members, and the same number of them might be lost at once.
-pub fn united<A: Allocator + Copy>(
-    alloc: A,
-    parts: &[RawDump<A>],
-) -> Result<RawDump<A>, PartsFault>
+pub fn united<A: Allocator + Copy>(alloc: A, parts: &[RawDump<A>]) -> Result<RawDump<A>, PartsFault>
     requires { 0 < length parts.now }
     ensures united { IfOk result (λ whole. IsUnited parts.now (parts_of whole)) }
     ensures refused { IfErr result (RefusesParts parts.now) }

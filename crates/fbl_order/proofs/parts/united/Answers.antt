@@ -1,5 +1,5 @@
-use Rattle.fbl_order.proofs.Common.{ℕ, ◌≡◌, ◌<◌, ◌+◌, ◌++◌, ◌∷◌, [], ◌∙◌, List, Some, add-one, ap, append-nil, refl, sym, arith, slice_get, slice_get_read, take, take-more, take_all}
-use Rattle.std.proofs.Common.{flat_map, length, ◌||◌}
+use Rattle.fbl_order.proofs.Common.{ℕ, ◌≡◌, ◌+◌, ◌++◌, ◌∷◌, [], ◌∙◌, List, Some, add-one, ap, append-nil, refl, sym, slice_get, slice_get_read, take, take-more, take_all}
+use Rattle.std.proofs.Common.{flat_map}
 use Rattle.std.proofs.lemmas.Grind.{flat_map-append}
 use Rattle.std.proofs.lemmas.List.Folds.{list_any_more}
 use Rattle.std.specs.Cmp.{nat_cmp_total}

@@ -1,4 +1,4 @@
-use Rattle.fbl_order.proofs.Common.{ℕ, List, Mark, ◌≡◌, ◌<◌, ◌≤◌, ◌∙◌, ap, arith, length, refl, subst, sym, At-below, BreaksEvent, IsFirstAfter, IsNextAt, LacksMessage, Send, Some, send_of}
+use Rattle.fbl_order.proofs.Common.{ℕ, List, Mark, ◌≡◌, ◌<◌, ◌∙◌, ap, arith, length, refl, subst, sym, At-below, BreaksEvent, IsFirstAfter, IsNextAt, LacksMessage, Send, send_of}
 use Rattle.fbl_base.specs.declared.fault.EventRule.TheVariants.{NothingInFlight}
 use Rattle.fbl_order.proofs.MergeLaws.{cursor-next, cursor_at, has_run}
 use Rattle.fbl_order.proofs.merge.Merge.obstacle.Goals as goal
