@@ -83,44 +83,52 @@ fn stuck(place: usize, event: Mark, obstacle: Obstacle) -> Stuck {
     }
 }
 
-/// Each of two members waits for the other's message, and a third one for one of them.
+/// A third member waits for one of two that wait for one another.
 #[test]
 fn names_the_events_of_a_circle(rt: HostRuntime) {
-    let (a, b) = (receipt(0, 1, 1, 1), receipt(1, 1, 0, 1));
-    let circle = [a, send(0, 1, 1), b, send(1, 1, 0)];
-    let chain = [
-        stuck(0, a, Obstacle::Waits(2)),
-        stuck(2, b, Obstacle::Waits(0)),
+    let events = [
+        receipt(2, 1, 0, 2),
+        receipt(0, 1, 1, 1),
+        send(0, 1, 1),
+        send(0, 2, 2),
+        receipt(1, 1, 0, 1),
+        send(1, 1, 0),
     ];
-    assert!(rt; has_none(rt.alloc(), &circle, &chain));
-    let c = receipt(2, 1, 0, 2);
-    let behind = [c, a, send(0, 1, 1), send(0, 2, 2), b, send(1, 1, 0)];
     let chain = [
-        stuck(0, c, Obstacle::Waits(1)),
-        stuck(1, a, Obstacle::Waits(4)),
-        stuck(4, b, Obstacle::Waits(1)),
+        stuck(0, receipt(2, 1, 0, 2), Obstacle::Waits(1)),
+        stuck(1, receipt(0, 1, 1, 1), Obstacle::Waits(4)),
+        stuck(4, receipt(1, 1, 0, 1), Obstacle::Waits(1)),
     ];
-    assert!(rt; has_none(rt.alloc(), &behind, &chain));
+    assert!(rt; has_none(rt.alloc(), &events, &chain));
 }
 
 /// The second message is taken before the first.
 #[test]
 fn names_the_message_that_is_due(rt: HostRuntime) {
+    let events = [
+        receipt(1, 1, 0, 2),
+        receipt(1, 2, 0, 1),
+        send(0, 1, 1),
+        send(0, 2, 1),
+    ];
     let (from, to) = (Member::at(0), Member::at(1));
-    let early = receipt(1, 1, 0, 2);
-    let crossed = [early, receipt(1, 2, 0, 1), send(0, 1, 1), send(0, 2, 1)];
     let rule = EventRule::OtherInFlight { from, to, first: 1 };
-    let chain = [stuck(0, early, Obstacle::Rule(rule))];
-    assert!(rt; has_none(rt.alloc(), &crossed, &chain));
+    let chain = [stuck(0, receipt(1, 1, 0, 2), Obstacle::Rule(rule))];
+    assert!(rt; has_none(rt.alloc(), &events, &chain));
 }
 
 #[test]
-fn names_a_message_that_is_not_sent_or_taken_twice(rt: HostRuntime) {
-    let (first, second) = (receipt(1, 1, 0, 1), receipt(1, 2, 0, 1));
-    let chain = [stuck(0, first, Obstacle::NeverSent)];
-    assert!(rt; has_none(rt.alloc(), &[first, send(0, 1, 2)], &chain));
-    let chain = [stuck(1, second, Obstacle::Received)];
-    assert!(rt; has_none(rt.alloc(), &[first, second, send(0, 1, 1)], &chain));
+fn names_a_message_that_is_not_sent(rt: HostRuntime) {
+    let events = [receipt(1, 1, 0, 1), send(0, 1, 2)];
+    let chain = [stuck(0, receipt(1, 1, 0, 1), Obstacle::NeverSent)];
+    assert!(rt; has_none(rt.alloc(), &events, &chain));
+}
+
+#[test]
+fn names_a_message_that_is_taken_twice(rt: HostRuntime) {
+    let events = [receipt(1, 1, 0, 1), receipt(1, 2, 0, 1), send(0, 1, 1)];
+    let chain = [stuck(1, receipt(1, 2, 0, 1), Obstacle::Received)];
+    assert!(rt; has_none(rt.alloc(), &events, &chain));
 }
 
 /// A log lacks an event.
@@ -142,10 +150,12 @@ fn refuses_too_many(rt: HostRuntime) -> Result<(), Fail> {
         events.push(send(0, number, 1))?;
     }
     assert!(rt; has_order(rt.alloc(), events.as_slice(), events.as_slice()));
-    let event = send(1, 1, 0);
-    events.push(event)?;
-    let (place, rule) = (8192, EventRule::TooMany);
-    let fault = DumpFault::BadEvent(EventFault { place, event, rule });
+    events.push(send(1, 1, 0))?;
+    let fault = DumpFault::BadEvent(EventFault {
+        place: 8192,
+        event: send(1, 1, 0),
+        rule: EventRule::TooMany,
+    });
     let refused = match order(rt.alloc(), 3, events.as_slice()) {
         Err(OrderFault::Dump(found)) => found == fault,
         _ => false,
