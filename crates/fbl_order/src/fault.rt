@@ -15,10 +15,10 @@ pub enum Obstacle {
     #[error("no event sends its message")]
     NeverSent,
     /// Its message is received already.
-    #[error("its message is received before it")]
+    #[error("an earlier event receives its message")]
     Received,
     /// Its message is sent at this place or behind, and the event at this place, the next one of its sender, can't come either.
-    #[error("its message is not sent before event {0}")]
+    #[error("its message is sent no earlier than event {0}")]
     Waits(usize),
 }
 

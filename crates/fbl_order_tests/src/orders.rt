@@ -142,6 +142,14 @@ fn names_the_event_behind_a_gap(rt: HostRuntime) -> Result<(), Fail> {
     Ok(())
 }
 
+/// Whether these events are refused in a group of three with this fault.
+fn has_fault(alloc: Global, events: &[Mark], fault: DumpFault) -> bool {
+    match order(alloc, 3, events) {
+        Err(OrderFault::Dump(found)) => found == fault,
+        _ => false,
+    }
+}
+
 /// An event more than a run may have.
 #[test]
 fn refuses_too_many(rt: HostRuntime) -> Result<(), Fail> {
@@ -156,11 +164,7 @@ fn refuses_too_many(rt: HostRuntime) -> Result<(), Fail> {
         event: send(1, 1, 0),
         rule: EventRule::TooMany,
     });
-    let refused = match order(rt.alloc(), 3, events.as_slice()) {
-        Err(OrderFault::Dump(found)) => found == fault,
-        _ => false,
-    };
-    assert!(rt; refused);
+    assert!(rt; has_fault(rt.alloc(), events.as_slice(), fault));
     Ok(())
 }
 
