@@ -144,8 +144,8 @@ fn names_the_event_behind_a_gap(rt: HostRuntime) -> Result<(), Fail> {
 
 /// Whether these events are refused in a group of three with this fault.
 fn has_fault(alloc: Global, events: &[Mark], fault: DumpFault) -> bool {
-    match order(alloc, 3, events) {
-        Err(OrderFault::Dump(found)) => found == fault,
+    match &order(alloc, 3, events) {
+        Err(OrderFault::Dump(found)) => *found == fault,
         _ => false,
     }
 }
