@@ -1,5 +1,6 @@
 -- Events of which each waits for the next one.
-use Rattle.fbl_order.proofs.Common.{ℕ, List, [], ◌∷◌, ◌++◌, ◌+◌, ◌-◌, ◌≡◌, ◌≢◌, ◌<◌, ◌≤◌, ◌⊎◌, ◌∙◌, Option, None, Some, refl, sym, ap, inl, inr, arith, length, length-append, slice_get, slice_get-get_or, get_or, subst}
+use Rattle.fbl_order.proofs.Common.{ℕ, List, [], ◌∷◌, ◌++◌, ◌+◌, ◌-◌, ◌≡◌, ◌≢◌, ◌<◌, ◌≤◌, ◌⊎◌, ◌∙◌, Option, None, Some, refl, sym, ap, inl, inr, arith}
+use Rattle.fbl_order.proofs.Common.{length, length-append, slice_get, slice_get-get_or, get_or, subst}
 use Rattle.fbl_order.proofs.Common.{Mark, At-below, At-front, At-push, AreLinked, IsNextAt, IsOnward, IsStuck, Merge, StandsIn, StartsAt, Stuck}
 use Rattle.fbl_base.proofs.Gets.{map-At}
 use Rattle.std.proofs.Common.{eqb, map}
@@ -25,10 +26,12 @@ few_linked n events run chain linked = omega (arith, few, length-map chain (λ (
   few : length (map (λ (s : Stuck). s.place) chain) ≤ length events
   few = length-le_from_distinct_below (map (λ (s : Stuck). s.place) chain) (length events) (IsDistinct-from_AllPairs Decides-eqb _ linked.apart) (λ q has.
       let is = Any-from_list_any (eqb q) _ has in
-      let s = map-At (λ (s : Stuck). s.place) chain is.0 is.1 (subst (λ x. slice_get (map (λ (s : Stuck). s.place) chain) is.0 ≡ Some x) is.3 (slice_get-get_or _ is.0 is.1 is.2)) in
+      let s = map-At (λ (s : Stuck). s.place) chain is.0 is.1 (subst (λ x. slice_get (map (λ (s : Stuck). s.place) chain) is.0 ≡ Some x) is.3
+      (slice_get-get_or _ is.0 is.1 is.2)) in
       omega (arith, eqb-true q is.1 is.4, s.2, At-below events _ _ (linked.each is.0 s.0 s.1).here))
 
-module _ {A : Type 0} (n : ℕ) (events : List Mark) (merge : Merge A) (first place : ℕ) (chain : List Stuck) (s : Stuck) (onward : Option ℕ) (walk : IsWalk n events merge first chain (Some place))
+module _ {A : Type 0} (n : ℕ) (events : List Mark) (merge : Merge A) (first place : ℕ) (chain : List Stuck) (s : Stuck) (onward : Option ℕ)
+    (walk : IsWalk n events merge first chain (Some place))
     (here : s.place ≡ place) (stuck : IsStuck n events merge.run.items s) (later : (next : ℕ) → s.obstacle ≡ Waits next → IsNextAt events merge next)
     (goes : IsOnward (chain ++ s ∷ []) s.obstacle onward) where
   follows : (k : ℕ) (a b : Stuck) → slice_get (chain ++ s ∷ []) k ≡ Some a → slice_get (chain ++ s ∷ []) (k + 1) ≡ Some b → a.obstacle ≡ Waits b.place
@@ -53,7 +56,8 @@ module _ {A : Type 0} (n : ℕ) (events : List Mark) (merge : Merge A) (first pl
     | inr new ↦ rw (← new.1) goes
   ]
 
-  waits : (onward : Option ℕ) → IsOnward (chain ++ s ∷ []) s.obstacle onward → (place : ℕ) → onward ≡ Some place → IsNextAt events merge place × ¬ (StandsIn (chain ++ s ∷ []) place)
+  waits : (onward : Option ℕ) → IsOnward (chain ++ s ∷ []) s.obstacle onward → (place : ℕ) → onward ≡ Some place
+      → IsNextAt events merge place × ¬ (StandsIn (chain ++ s ∷ []) place)
   waits None goes place is = cc
   waits (Some other) goes place is = (let same : other ≡ place = cc in rw (← same) (later other goes.0, goes.1))
 

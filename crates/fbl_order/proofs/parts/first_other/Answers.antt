@@ -6,7 +6,8 @@ use Rattle.fbl_order.specs.declared.parts.PartsFault.{PartsFault}
 use Rattle.fbl_order.specs.declared.parts.PartsFault.TheVariants.{Members, F, Memory}
 use Rattle.fbl_order.proofs.parts.first_other.Goals as goal
 
-agrees_at : {A : Type 0} (parts : List (RawDump A)) (i : ℕ) (first part : RawDump A) → slice_get parts 0 ≡ Some first → slice_get parts i ≡ Some part → Agrees first part → AgreesAt parts i
+agrees_at : {A : Type 0} (parts : List (RawDump A)) (i : ℕ) (first part : RawDump A) → slice_get parts 0 ≡ Some first → slice_get parts i ≡ Some part
+    → Agrees first part → AgreesAt parts i
 agrees_at parts i first part first_at part_at agrees a b a_at b_at = (let a_is : first ≡ a = cc in let b_is : part ≡ b = cc in rw (← a_is, ← b_is) agrees)
 
 disagrees : {A : Type 0} (i : ℕ) (a b : RawDump A) (fault : PartsFault) → Differs i a b fault → ¬ (Agrees a b)
@@ -19,7 +20,11 @@ returns-in-Some g c =
     let first_at = slice_get_read _ _ 0 _ refl c.requires c.index-parts-0.is in
     let part_at = slice_get_read _ _ c.loop-place.place _ refl c.loop-place-test.true c.index-parts-place.is in (
       c.loop-place.place,
-      (c.loop-place.invariant, λ all. disagrees _ c.index-parts-0.result c.index-parts-place.result c.in-Some.fault c.in-Some.ensures (all _ _ first_at part_at)),
+      (
+        c.loop-place.invariant,
+        λ all. disagrees _ c.index-parts-0.result c.index-parts-place.result c.in-Some.fault c.in-Some.ensures
+            (all _ _ first_at part_at),
+      ),
       (c.index-parts-0.result, c.index-parts-place.result, first_at, part_at, c.in-Some.ensures),
     )
 
