@@ -1,13 +1,14 @@
 -- A pass over the events finds, by vector clocks, which precede which.
 use Rattle.fbl_base.proofs.Common.{ℕ, Bool, true, ◌≡◌, ◌≢◌, ◌<◌, ◌≤◌, ◌+◌, ◌⊎◌, ◌↔◌, inl, inr, List, [], ◌∷◌, ◌++◌, length, Option, Some, None, refl, sym, ap, ◌∙◌, arith, cond}
 use Rattle.fbl_base.proofs.Common.{get_or, get_or-set_other, get_or-set_same, get_or_from_slice_get, slice_get, slice_get-get_or, slice_get_read, slice_get_within, replicate, false, false≢true, length-set, length-append, length-take, take, max}
-use Rattle.fbl_base.proofs.Common.{cases_eq, cases_order, nat_tests, Decides, MessageName, same_message, Mark, Send, Receipt, At, member_of, send_of, PlaceLeads, PlacePrecedes}
+use Rattle.fbl_base.proofs.Common.{cases_eq, nat_tests, Decides, MessageName, same_message, Mark, Send, Receipt, At, member_of, send_of, PlaceLeads, PlacePrecedes}
 use Rattle.fbl_base.proofs.Common.{same_place, place_step, DependsOnPlace, DependsBy, Clock, CountsPlaces, IsClock, IsSendOf, IsSentBy, Seen, Sees, WellFormed}
 use Rattle.std.proofs.Common.{set as set_at}
 use Rattle.std.specs.HashMap as hash_map
+use Rattle.fbl_base.proofs.Breached.{room}
 use Rattle.fbl_base.proofs.Gets.{At-below, At-push, get_or-same, slice_get-take}
 use Rattle.fbl_base.proofs.InFlightLaws.{sent-number}
-use Rattle.fbl_base.proofs.PlacesAndEvents.{one_place}
+use Rattle.fbl_base.proofs.PlacesAndEvents.{one_of, one_place}
 use Rattle.fbl_base.proofs.RulesLaws.{WellFormed-take, sent-before}
 
 -- one place has one event
@@ -43,10 +44,7 @@ member_within n t i e obeys few at = (let below = member_below n t i e obeys at 
 
 -- there are at most 8192 events
 pub place_within : (n : ℕ) (t : List Mark) (i : ℕ) (e : Mark) → WellFormed n t → At t i e → i < 8192
-place_within n t i (Send from ssn to) obeys at =
-    (let within = At-below t i (Send from ssn to) at in let few = (obeys i (Send from ssn to) at).4 in omega (arith, few, within, length-take i t))
-place_within n t i (Receipt to rsn from ssn) obeys at =
-    (let within = At-below t i (Receipt to rsn from ssn) at in let few = (obeys i (Receipt to rsn from ssn) at).4 in omega (arith, few, within, length-take i t))
+place_within n t i e obeys at = (let within = At-below t i e at in let few = room n (take i t) e (obeys i e at) in omega (arith, few, within, length-take i t))
 
 -- an element that is changed, and another one
 pub set_same : {X : Type 0} (xs : List X) (m : ℕ) (x d : X) → m < length xs → get_or (set_at xs m x) m d ≡ x
@@ -59,15 +57,11 @@ set_other xs m q x d ne = rw get_or-set_other refl
 
 -- no member has two sends of one number
 one_send : (n : ℕ) (t : List Mark) → WellFormed n t → (q s a b i j : ℕ) → At t i (Send q s a) → At t j (Send q s b) → i ≡ j
-one_send n t obeys q s a b i j at_i at_j = elim (cases_order i j) [
-  | inl same ↦ same
-  | inr (inl below) ↦ absurd (not_before a b i j at_i at_j below)
-  | inr (inr above) ↦ absurd (not_before b a j i at_j at_i above)
-] where
-  not_before : (c d x y : ℕ) → At t x (Send q s c) → At t y (Send q s d) → x < y → ⊥
-  not_before c d x y at_x at_y below =
-      let number = (obeys y (Send q s d) at_y).3 in
-      let most = sent-number n (take y t) (WellFormed-take n y t obeys) q s c (x, slice_get-take t y x (Send q s c) below at_x) in
+one_send n t obeys q s a b i j at_i at_j = one_of (λ k. (to : ℕ) × At t k (Send q s to)) later i j (a, at_i) (b, at_j) where
+  later : (x y : ℕ) → (to : ℕ) × At t x (Send q s to) → (to : ℕ) × At t y (Send q s to) → ¬ (x < y)
+  later x y sent_x sent_y below =
+      let number = (obeys y (Send q s sent_y.0) sent_y.1).3 in
+      let most = sent-number n (take y t) (WellFormed-take n y t obeys) q s sent_x.0 (x, slice_get-take t y x (Send q s sent_x.0) below sent_x.1) in
       omega (arith, number, most)
 
 -- the send of what a receipt takes is found

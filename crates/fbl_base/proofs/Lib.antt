@@ -7,7 +7,6 @@ pub mod CauseLaws
 pub mod Holding
 pub mod Recorded
 pub mod FoldLaws
-pub mod SameStart
 pub mod Sifted
 pub mod InFlightLaws
 pub mod CountedLaws

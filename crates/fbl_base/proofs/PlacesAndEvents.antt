@@ -9,15 +9,18 @@ pub Precedes-joined : {t : List Mark} {i j k : ℕ} → PlacePrecedes t i j → 
 Precedes-joined p (same_place h) = p
 Precedes-joined p (place_step q s) = place_step (Precedes-joined p q) s
 
+-- what no place has after another has it has one place
+pub one_of : (P : ℕ → Type 0) → ((i j : ℕ) → P i → P j → ¬ (i < j)) → (i j : ℕ) → P i → P j → i ≡ j
+one_of P apart i j at_i at_j = elim (cases_order i j) [
+  | inl same ↦ same
+  | inr (inl below) ↦ absurd (apart i j at_i at_j below)
+  | inr (inr above) ↦ absurd (apart j i at_j at_i above)
+]
+
 -- no event stands twice
 pub one_place : (n : ℕ) (t : List Mark) → WellFormed n t → (e : Mark) (i j : ℕ) → At t i e → At t j e → i ≡ j
-one_place n t obeys e i j at_i at_j = elim (cases_order i j) [
-  | inl same ↦ same
-  | inr (inl below) ↦ absurd (not_before i j at_i at_j below)
-  | inr (inr above) ↦ absurd (not_before j i at_j at_i above)
-] where
-  not_before : (x y : ℕ) → At t x e → At t y e → x < y → ⊥
-  not_before x y at_x at_y below = MayFollow-new n (take y t) e (WellFormed-take n y t obeys) (obeys y e at_y) (x, slice_get-take t y x e below at_x)
+one_place n t obeys e =
+    one_of (λ i. At t i e) (λ i j at_i at_j below. MayFollow-new n (take j t) e (WellFormed-take n j t obeys) (obeys j e at_j) (i, slice_get-take t j i e below at_i))
 
 pub events-from_places : (t : List Mark) (i j : ℕ) (a b : Mark) → At t i a → At t j b → PlacePrecedes t i j → Precedes t a b
 events-from_places t i j a b at_a at_b (same_place h) = (let e : a ≡ b = cc in rw (← e) (itself (i, at_a)))

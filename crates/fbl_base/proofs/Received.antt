@@ -1,5 +1,5 @@
 -- Which determinants receipts have.
-use Rattle.fbl_base.proofs.Common.{drop, ℕ, ◌+◌, ◌<◌, ◌≤◌, ◌≡◌, true, ◌||◌, List, [], ◌∷◌, length, take, get_or, Some, refl, sym, ap, ◌∙◌, arith, Decides}
+use Rattle.fbl_base.proofs.Common.{drop, ℕ, ◌+◌, ◌<◌, ◌≡◌, true, ◌||◌, List, [], ◌∷◌, length, take, get_or, Some, refl, sym, ap, ◌∙◌, arith, Decides}
 use Rattle.fbl_base.proofs.Common.{list_any, cons_option, take_more, take-append-le, list_any-append, Any-from_list_any, list_any-from_Any, filter_map-append, get_or_from_slice_get}
 use Rattle.fbl_base.proofs.Common.{Determinant, Mark, At, determinant_of, same_determinant, Has, ObeysAt, WellFormed, is_received, length-take, take-append-drop, slice_get-get_or, Send, Receipt}
 use Rattle.fbl_base.proofs.Common.{receipt_of, receipts}
@@ -38,6 +38,3 @@ WellFormed-below n t i obeyed j e at =
     let whole : At t j e = (rw take-append-drop at (At-front (take i t) (drop i t) j e at)) in
     let front : take j (take i t) ≡ take j t = (rw take-append-drop at (sym (take-append-le j (take i t) (drop i t) (omega (arith, below))))) in
     rw front (obeyed j within e whole)
-
-pub WellFormed-all : (n : ℕ) (t : List Mark) (i : ℕ) → length t ≤ i → ((j : ℕ) → j < i → ObeysAt n t j) → WellFormed n t
-WellFormed-all n t i all obeyed j e at = obeyed j (omega (arith, At-below t j e at, all)) e at

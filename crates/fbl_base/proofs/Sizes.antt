@@ -1,6 +1,6 @@
 -- How many members sets have.
-use Rattle.fbl_base.proofs.Common.{ℕ, zero, suc, ◌+◌, ◌-◌, ◌<◌, ◌≤◌, ◌≡◌, ◌≢◌, true, false, cond, ◌||◌, List, [], ◌∷◌, refl, sym, ap, ◌∙◌, arith, inl}
-use Rattle.fbl_base.proofs.Common.{inr, nat_tests, cases_eq, false≢true, list_any, nat_cmp, unsigned_tied, nat_cmp_total, same_from_contains, eq-eqb, eq_by_cmp}
+use Rattle.fbl_base.proofs.Common.{ℕ, zero, suc, ◌+◌, ◌-◌, ◌<◌, ◌≤◌, ◌≡◌, true, false, cond, ◌||◌, List, [], ◌∷◌, refl, sym, ap, ◌∙◌, arith, inl}
+use Rattle.fbl_base.proofs.Common.{inr, cases_eq, false≢true, list_any, nat_cmp, unsigned_tied, nat_cmp_total, same_from_contains, eq-eqb, eq_by_cmp}
 use Rattle.std.specs.FinSet as set
 
 -- a set that is not empty has a member
@@ -13,14 +13,6 @@ some_member s more = at (set.items s) refl where
   at (k ∷ ks) some =
       let tie : eq_by_cmp nat_cmp k k ≡ true = unsigned_tied k k ∙ eq-eqb k k refl in
       (k, set.contains-items s k ∙ ap (λ xs. list_any (eq_by_cmp nat_cmp k) xs) some ∙ ap (λ b. b || list_any (eq_by_cmp nat_cmp k) ks) tie)
-
-contains-remove_cases : (s : set.FinSet nat_cmp) (k q : ℕ) → set.contains (set.remove s k) q ≡ true → (q ≢ k) × (set.contains s q ≡ true)
-contains-remove_cases s k q h =
-    let removed = set.contains-remove nat_cmp_total s k q in
-    (λ e. grind (arith, nat_tests, removed, unsigned_tied q k, e), grind (arith, removed))
-
-contains-remove_other : (s : set.FinSet nat_cmp) (k q : ℕ) → q ≢ k → set.contains s q ≡ true → set.contains (set.remove s k) q ≡ true
-contains-remove_other s k q ne h = grind (arith, nat_tests, set.contains-remove nat_cmp_total s k q, unsigned_tied q k)
 
 pub len-remove_one : (s : set.FinSet nat_cmp) (k : ℕ) → set.contains s k ≡ true → set.len (set.remove s k) + 1 ≡ set.len s
 len-remove_one s k has =
@@ -37,7 +29,11 @@ len-within (suc n) s t some within =
     let k = some_member s (omega (arith, some)) in
     let s1 = len-remove_one s k.0 k.1 in
     let t1 = len-remove_one t k.0 (within k.0 k.1) in
-    let rest = len-within n (set.remove s k.0) (set.remove t k.0) (omega (arith, s1, some)) (λ q h. (let c = contains-remove_cases s k.0 q h in contains-remove_other t k.0 q c.0 (within q c.1))) in
+    let rest = len-within n (set.remove s k.0) (set.remove t k.0) (omega (arith, s1, some)) (λ q h.
+    let left = set.contains-remove nat_cmp_total s k.0 q in
+    let other = set.contains-remove nat_cmp_total t k.0 q in
+    let has = within q in
+    grind (arith, left, other, has, h)) in
     omega (arith, s1, t1, rest)
 
 -- a set with more members than another has one that the other lacks

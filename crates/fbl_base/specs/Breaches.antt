@@ -12,19 +12,16 @@ use Rattle.fbl_base.specs.declared.config.ConfigRefusal.TheVariants as refusal
 use Rattle.fbl_base.specs.declared.refusal.DumpRefusal.{DumpRefusal}
 use Rattle.fbl_base.specs.declared.refusal.DumpRefusal.TheVariants as refused
 use Rattle.fbl_base.specs.declared.fault.Outsider.{Outsider}
+use Rattle.fbl_base.specs.declared.fault.Breach.{Breach}
+use Rattle.fbl_base.specs.declared.fault.Breach.TheVariants as breach
 use Rattle.fbl_base.specs.declared.fault.StartRule.{StartRule}
 use Rattle.fbl_base.specs.declared.fault.StartRule.TheVariants as start_rule
-use Rattle.fbl_base.specs.declared.fault.StartFault.{StartFault}
-use Rattle.fbl_base.specs.declared.fault.ConfigFault.{ConfigFault}
-use Rattle.fbl_base.specs.declared.fault.ConfigFault.TheVariants as config_fault
 use Rattle.fbl_base.specs.declared.fault.EventRule.{EventRule}
 use Rattle.fbl_base.specs.declared.fault.EventRule.TheVariants as event_rule
 use Rattle.fbl_base.specs.declared.fault.EventFault.{EventFault}
 use Rattle.fbl_base.specs.declared.fault.PairRule.{PairRule}
 use Rattle.fbl_base.specs.declared.fault.PairRule.TheVariants as pair_rule
 use Rattle.fbl_base.specs.declared.fault.PairFault.{PairFault}
-use Rattle.fbl_base.specs.declared.fault.DumpFault.{DumpFault}
-use Rattle.fbl_base.specs.declared.fault.DumpFault.TheVariants as dump_fault
 use Rattle.fbl_base.specs.Audit.{Parts}
 use Rattle.fbl_base.specs.Configs.{Settings}
 use Rattle.fbl_base.specs.Events.{At, destination_of, number_of, receipt_of, source_of}
@@ -55,29 +52,16 @@ BreaksStart n start start_rule.ToItself = (start.from < n) × (start.to < n) × 
 BreaksStart n start (start_rule.TooManyHops hops) =
     (start.from < n) × (start.to < n) × (start.from ≢ start.to) × (hops ≡ start.note.hops) × (15 < hops)
 
--- the start at the fault's place is the fault's, and breaks its rule
-abbrev pub IsStartFault : ℕ → List (Start Note) → StartFault → Type 0
-IsStartFault n starts fault = (slice_get starts fault.place ≡ Some fault.start) × BreaksStart n fault.start fault.rule
-
--- what the fault says of the parameters is so
-abbrev pub IsOfConfig : Settings Note → ConfigFault → Type 0
-IsOfConfig c (config_fault.BadMembers members) = members ≡ c.members
-IsOfConfig c (config_fault.BadF f members) = (f ≡ c.f) × (members ≡ c.members)
-IsOfConfig c (config_fault.BadLimit limit) = limit ≡ c.limit
-IsOfConfig c (config_fault.TooManyStarts starts) = starts ≡ length c.starts
-IsOfConfig c (config_fault.BadStart fault) = IsStartFault c.members c.starts fault
-IsOfConfig c (config_fault.LimitBelowStarts limit starts) = (limit ≡ c.limit) × (starts ≡ length c.starts)
-IsOfConfig c config_fault.Memory = Unit {0}
-
--- the refusal that stands for the fault
-abbrev pub config_refusal : ConfigFault → ConfigRefusal
-config_refusal (config_fault.BadMembers members) = refusal.BadMembers
-config_refusal (config_fault.BadF f members) = refusal.BadF
-config_refusal (config_fault.BadLimit limit) = refusal.BadLimit
-config_refusal (config_fault.TooManyStarts starts) = refusal.TooManyStarts
-config_refusal (config_fault.BadStart fault) = refusal.BadStart fault.place
-config_refusal (config_fault.LimitBelowStarts limit starts) = refusal.LimitBelowStarts
-config_refusal config_fault.Memory = refusal.Memory
+-- this is what the parameters are refused for
+abbrev pub IsConfigBreach : Settings Note → ConfigRefusal → Breach → Type 0
+IsConfigBreach c refusal.BadMembers (breach.Members members) = members ≡ c.members
+IsConfigBreach c refusal.BadF (breach.F f members) = (f ≡ c.f) × (members ≡ c.members)
+IsConfigBreach c refusal.BadLimit (breach.Limit limit) = limit ≡ c.limit
+IsConfigBreach c refusal.TooManyStarts (breach.Starts starts) = starts ≡ length c.starts
+IsConfigBreach c (refusal.BadStart place) (breach.Start at start rule) = (at ≡ place) × (slice_get c.starts place ≡ Some start) × BreaksStart c.members start rule
+IsConfigBreach c refusal.LimitBelowStarts (breach.LimitBelowStarts limit starts) = (limit ≡ c.limit) × (starts ≡ length c.starts)
+IsConfigBreach c refusal.Memory breach.Memory = Unit {0}
+IsConfigBreach c _ _ = ⊥
 
 -- ---- events
 
@@ -137,20 +121,12 @@ abbrev pub IsPairFault : Parts → PairFault → Type 0
 IsPairFault dump fault =
     (slice_get dump.held fault.place ≡ Some (fault.holder, fault.determinant)) × BreaksPair dump.members dump.events fault.place fault.holder fault.determinant fault.rule
 
--- what the fault says of the dump is so
-abbrev pub IsOfDump : Parts → DumpFault → Type 0
-IsOfDump dump (dump_fault.BadMembers members) = members ≡ dump.members
-IsOfDump dump (dump_fault.BadF f members) = (f ≡ dump.f) × (members ≡ dump.members)
-IsOfDump dump (dump_fault.BadEvent fault) = IsEventFault dump.members dump.events fault
-IsOfDump dump (dump_fault.BadHeld fault) = IsPairFault dump fault
-IsOfDump dump (dump_fault.BadStrike outsider) = IsLeastOutside dump.strike dump.members outsider
-IsOfDump dump dump_fault.Memory = Unit {0}
-
--- the refusal that stands for the fault
-abbrev pub dump_refusal : DumpFault → DumpRefusal
-dump_refusal (dump_fault.BadMembers members) = refused.BadMembers
-dump_refusal (dump_fault.BadF f members) = refused.BadF
-dump_refusal (dump_fault.BadEvent fault) = refused.BadEvent fault.place
-dump_refusal (dump_fault.BadHeld fault) = refused.BadHeld fault.place
-dump_refusal (dump_fault.BadStrike outsider) = refused.BadStrike
-dump_refusal dump_fault.Memory = refused.Memory
+-- this is what the dump is refused for
+abbrev pub IsDumpBreach : Parts → DumpRefusal → Breach → Type 0
+IsDumpBreach dump refused.BadMembers (breach.Members members) = members ≡ dump.members
+IsDumpBreach dump refused.BadF (breach.F f members) = (f ≡ dump.f) × (members ≡ dump.members)
+IsDumpBreach dump (refused.BadEvent place) (breach.Event fault) = (fault.place ≡ place) × IsEventFault dump.members dump.events fault
+IsDumpBreach dump (refused.BadHeld place) (breach.Held fault) = (fault.place ≡ place) × IsPairFault dump fault
+IsDumpBreach dump refused.BadStrike (breach.Strike outsider) = IsLeastOutside dump.strike dump.members outsider
+IsDumpBreach dump refused.Memory breach.Memory = Unit {0}
+IsDumpBreach dump _ _ = ⊥

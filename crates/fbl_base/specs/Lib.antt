@@ -4,7 +4,6 @@ pub mod Counted
 pub mod Breaches
 pub mod Configs
 pub mod Plans
-pub mod Names
 pub mod Numeric
 pub mod Exactness
 pub mod Fold

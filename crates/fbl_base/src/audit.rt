@@ -5,20 +5,19 @@
 //! are those of Alvisi and Marzullo (1998): a receipt is recorded while a member outside the strike set holds its
 //! determinant.
 
-ghost use Rattle.std.specs.Prelude.{◌≡◌, ◌<◌, ◌≤◌, ◌↔◌, ℕ, true, not, IfOk, IfErr, IfSome, MatchOption, length};
+ghost use Rattle.std.specs.Prelude.{◌≡◌, ◌≤◌, ◌↔◌, ℕ, true, not, IfOk, IfErr, IfSome, MatchOption};
 ghost use Rattle.std.specs.FinSet as set;
 ghost use Rattle.fbl_base.specs.Audit.{AreCauses, FitsPair, HeldAt, IsCause, IsDump, IsDumpOrphan, IsFirstCause, IsLost, RefusesDump, is_held_outside, lost_determinants};
-ghost use Rattle.fbl_base.specs.Breaches.{BreaksPair, IsEventFault, IsOfDump, IsPairFault, dump_refusal};
+ghost use Rattle.fbl_base.specs.Breaches.{BreaksPair, IsDumpBreach, IsEventFault, IsPairFault};
 ghost use Rattle.fbl_base.specs.Configs.{IsFirstBreach};
-ghost use Rattle.fbl_base.specs.Events.{receipt_of, same_determinant};
+ghost use Rattle.fbl_base.specs.Events.{same_determinant};
 ghost use Rattle.std.specs.HashSet as hash_set;
 ghost use Rattle.fbl_base.specs.DumpParts.{parts_of, is_received};
-ghost use Rattle.fbl_base.specs.Precedence.{Has};
 ghost use Rattle.fbl_base.specs.Rules.{ObeysAt, WellFormed};
 ghost use Rattle.fbl_base.specs.Holders.{AreHolders, holders_of};
 
 use crate::clocks::Clocks;
-use crate::fault::{DumpFault, EventFault, Outsider, PairFault, PairRule};
+use crate::fault::{Breach, EventFault, Outsider, PairFault, PairRule};
 use crate::holders::Holders;
 use crate::member::{LEAST_MEMBERS, MOST_MEMBERS, Member};
 use crate::member_set::MemberSet;
@@ -323,10 +322,13 @@ fn first_bad_event<A: Allocator + Copy>(
     ensures fault { IfOk result (λ r. IfSome r (IsEventFault n events.now)) }
 {
     let mut counts = Counts::new(alloc)?;
-    for place in 0..events.len() {
-        if let Some(fault) = counts.admit(n, events, place)? {
-            return Ok(Some(fault));
+    for (place, event) in events.iter().enumerate() {
+        let before = &events[..place];
+        if let Some(rule) = counts.broken_rule(n, before, event) {
+            let event = *event;
+            return Ok(Some(EventFault { place, event, rule }));
         }
+        counts.add(n, before, event)?;
     }
     Ok(None)
 }
@@ -344,18 +346,6 @@ fn receipts<A: Allocator + Copy>(alloc: A, events: &[Mark]) -> Result<Determinan
     Ok(receipts)
 }
 
-/// Whether the trace has a receipt with the determinant, where these are the determinants of its receipts.
-fn has_receipt<A: Allocator>(
-    raw: &RawDump<A>,
-    receipts: &DeterminantSet<A>,
-    determinant: &Determinant,
-) -> bool
-    requires { (d : _) → hash_set.contains same_determinant receipts.now d ≡ is_received raw.now.events.items d }
-    ensures { (result ≡ true) ↔ Has raw.now.events.items (receipt_of determinant.now) }
-{
-    receipts.contains(determinant)
-}
-
 /// The first rule that the pair at `place` breaks, where these are the determinants of the receipts.
 fn broken_rule<A: Allocator>(
     raw: &RawDump<A>,
@@ -364,43 +354,20 @@ fn broken_rule<A: Allocator>(
     pair: &(Member, Determinant),
 ) -> Option<PairRule>
     requires { (d : _) → hash_set.contains same_determinant receipts.now d ≡ is_received raw.now.events.items d }
-    ensures broken { IfSome result (BreaksPair raw.now.members raw.now.events.items place pair.now.0 pair.now.1) }
-    ensures fits { MatchOption result (FitsPair raw.now.members raw.now.events.items place pair.now.0 pair.now.1)
-        (λ _. ¬ (FitsPair raw.now.members raw.now.events.items place pair.now.0 pair.now.1)) }
+    ensures { MatchOption result (FitsPair raw.now.members raw.now.events.items place pair.now.0 pair.now.1) (BreaksPair raw.now.members raw.now.events.items place pair.now.0 pair.now.1) }
 {
     let members = raw.members;
+    let (member, determinant) = *pair;
     if place >= MOST_PAIRS {
         return Some(PairRule::TooMany);
     }
-    if pair.0.number() >= members {
-        let member = pair.0;
+    if member.number() >= members {
         return Some(PairRule::Outside(Outsider { member, members }));
     }
-    if !has_receipt(raw, receipts, &pair.1) {
-        return Some(PairRule::NoReceipt(pair.1.receipt()));
+    if !receipts.contains(&determinant) {
+        return Some(PairRule::NoReceipt(determinant.receipt()));
     }
     None
-}
-
-/// The pair at `place` with the first rule that it breaks, if it breaks one, where these are the determinants of the receipts.
-fn pair_fault<A: Allocator>(
-    raw: &RawDump<A>,
-    receipts: &DeterminantSet<A>,
-    place: usize,
-) -> Option<PairFault>
-    requires within { place < length raw.now.held.items }
-    requires receipts { (d : _) → hash_set.contains same_determinant receipts.now d ≡ is_received raw.now.events.items d }
-    ensures place { MatchOption result (HeldAt (parts_of raw.now) place) (λ fault. (fault.place ≡ place) × ¬ (HeldAt (parts_of raw.now) place)) }
-    ensures fault { IfSome result (IsPairFault (parts_of raw.now)) }
-{
-    let pair = &raw.held[place];
-    let rule = broken_rule(raw, receipts, place, pair)?;
-    Some(PairFault {
-        place,
-        holder: pair.0,
-        determinant: pair.1,
-        rule,
-    })
 }
 
 /// The first pair that breaks a rule, and the first rule that it breaks.
@@ -412,9 +379,15 @@ fn first_bad_pair<A: Allocator + Copy>(
     ensures fault { IfOk result (λ r. IfSome r (IsPairFault (parts_of raw.now))) }
 {
     let receipts = receipts(alloc, raw.events.as_slice())?;
-    for place in 0..raw.held.len() {
-        if let Some(fault) = pair_fault(raw, &receipts, place) {
-            return Ok(Some(fault));
+    for (place, pair) in raw.held.iter().enumerate() {
+        if let Some(rule) = broken_rule(raw, &receipts, place, pair) {
+            let (holder, determinant) = *pair;
+            return Ok(Some(PairFault {
+                place,
+                holder,
+                determinant,
+                rule,
+            }));
         }
     }
     Ok(None)
@@ -430,36 +403,39 @@ pub fn check_dump<A: Allocator + Copy>(alloc: A, raw: RawDump<A>) -> Result<Dump
 {
     match checked_dump(alloc, raw) {
         Ok(dump) => Ok(dump),
-        Err(fault) => Err(fault.refusal()),
+        Err((refusal, _)) => Err(refusal),
     }
 }
 
-/// The dump, as `check_dump` answers it, or the first rule that it breaks, with the numbers that break it.
-pub fn checked_dump<A: Allocator + Copy>(alloc: A, raw: RawDump<A>) -> Result<Dump<A>, DumpFault>
+/// The dump, as `check_dump` answers it, or its refusal with what it is refused for.
+pub fn checked_dump<A: Allocator + Copy>(
+    alloc: A,
+    raw: RawDump<A>,
+) -> Result<Dump<A>, (DumpRefusal, Breach)>
     ensures accepted { IfOk result (λ d. d ≡ parts_of raw) }
     ensures rules { IfOk result IsDump }
-    ensures refused { IfErr result (λ fault. RefusesDump (parts_of raw) (dump_refusal fault)) }
-    ensures fault { IfErr result (IsOfDump (parts_of raw)) }
+    ensures refused { IfErr result (λ e. RefusesDump (parts_of raw) e.0) }
+    ensures breach { IfErr result (λ e. IsDumpBreach (parts_of raw) e.0 e.1) }
 {
     let members = raw.members;
     if members < LEAST_MEMBERS || members > MOST_MEMBERS {
-        return Err(DumpFault::BadMembers { members });
+        return Err((DumpRefusal::BadMembers, Breach::Members { members }));
     }
     if raw.f < 1 || raw.f >= members {
-        return Err(DumpFault::BadF { f: raw.f, members });
+        return Err((DumpRefusal::BadF, Breach::F { f: raw.f, members }));
     }
     match first_bad_event(alloc, members, raw.events.as_slice()) {
         Ok(None) => {}
-        Ok(Some(fault)) => return Err(DumpFault::BadEvent(fault)),
-        Err(_) => return Err(DumpFault::Memory),
+        Ok(Some(fault)) => return Err((DumpRefusal::BadEvent(fault.place), Breach::Event(fault))),
+        Err(_) => return Err((DumpRefusal::Memory, Breach::Memory)),
     }
     match first_bad_pair(alloc, &raw) {
         Ok(None) => {}
-        Ok(Some(fault)) => return Err(DumpFault::BadHeld(fault)),
-        Err(_) => return Err(DumpFault::Memory),
+        Ok(Some(fault)) => return Err((DumpRefusal::BadHeld(fault.place), Breach::Held(fault))),
+        Err(_) => return Err((DumpRefusal::Memory, Breach::Memory)),
     }
     match raw.strike.outsider(members) {
         None => Ok(Dump { raw }),
-        Some(outsider) => Err(DumpFault::BadStrike(outsider)),
+        Some(outsider) => Err((DumpRefusal::BadStrike, Breach::Strike(outsider))),
     }
 }

@@ -101,11 +101,11 @@ impl<A: Allocator + Copy> Seen<A> {
         ensures { IfOk result (λ _. Sees dump.now.events (place + 1) self.new) }
     {
         let event = &dump.events()[place];
-        self.latest[event.member().number() as usize] = clock;
-        self.clocks.push(clock)?;
         if let Mark::Send { from, ssn, .. } = *event {
             self.sends.insert(MessageName { from, ssn }, place)?;
         }
+        self.latest[event.member().number() as usize] = clock;
+        self.clocks.push(clock)?;
         Ok(())
     }
 }

@@ -1,12 +1,12 @@
 //! The parameters of a group.
 
 ghost use Rattle.std.specs.Prelude.{◌≡◌, ◌↔◌, ℕ, IsTrue, IfOk, IfErr, MatchOption, length};
-ghost use Rattle.fbl_base.specs.Breaches.{IsOfConfig, IsStartFault, config_refusal};
+ghost use Rattle.fbl_base.specs.Breaches.{IsConfigBreach};
 ghost use Rattle.fbl_base.specs.Configs.{IsConfig, IsFirstBreach, RefusesConfig, StartAllowedAt};
 ghost use Rattle.fbl_base.specs.Steps.{has_few_hops};
 
 use crate::content::Content;
-use crate::fault::{ConfigFault, StartFault};
+use crate::fault::Breach;
 use crate::member::{LEAST_MEMBERS, MOST_MEMBERS};
 use crate::trace::{MOST_EVENTS, Note, Start};
 use std::alloc::{AllocError, Allocator, Global};
@@ -18,7 +18,7 @@ const MOST_STARTS: usize = 64;
 
 /// Why there is no configuration of these parameters. The refusals are tested in this order.
 #[derive(Clone, Copy, PartialEq, Eq, Debug, Error)]
-#[error("{}", self.name())]
+#[error("{:?}", self)]
 pub enum ConfigRefusal {
     /// There are not 2 to 16 members.
     BadMembers,
@@ -30,7 +30,7 @@ pub enum ConfigRefusal {
     TooManyStarts,
     /// The start at this place, the first such, has an end outside the group, goes from a member to itself, or has
     /// a content that no start may have: a `Note` with more than 15 hops.
-    #[error("{} {}", self.name(), .0)]
+    #[error("BadStart {0}")]
     BadStart(usize),
     /// The trace may have fewer events than there are starts.
     LimitBelowStarts,
@@ -39,20 +39,28 @@ pub enum ConfigRefusal {
 }
 
 impl ConfigRefusal {
-    ghost use Rattle.fbl_base.specs.Names.{config_refusal_name};
-
-    /// The refusal's word, as it is printed before its place.
-    pub fn name(self) -> &'static str
-        ensures { result.now ≡ config_refusal_name self }
+    /// What the parameters with this refusal are refused for.
+    pub fn breach(self, members: u8, f: u8, limit: u32, starts: &[Start]) -> Breach
+        requires { RefusesConfig has_few_hops (record { members = members; f = f; limit = limit; starts = starts.now }) self }
+        ensures { IsConfigBreach (record { members = members; f = f; limit = limit; starts = starts.now }) self result }
     {
         match self {
-            ConfigRefusal::BadMembers => "BadMembers",
-            ConfigRefusal::BadF => "BadF",
-            ConfigRefusal::BadLimit => "BadLimit",
-            ConfigRefusal::TooManyStarts => "TooManyStarts",
-            ConfigRefusal::BadStart(_) => "BadStart",
-            ConfigRefusal::LimitBelowStarts => "LimitBelowStarts",
-            ConfigRefusal::Memory => "Memory",
+            ConfigRefusal::BadMembers => Breach::Members { members },
+            ConfigRefusal::BadF => Breach::F { f, members },
+            ConfigRefusal::BadLimit => Breach::Limit { limit },
+            ConfigRefusal::TooManyStarts => Breach::Starts {
+                starts: starts.len(),
+            },
+            ConfigRefusal::BadStart(place) => {
+                let start = starts[place];
+                let rule = start.breach(members);
+                Breach::Start { place, start, rule }
+            }
+            ConfigRefusal::LimitBelowStarts => Breach::LimitBelowStarts {
+                limit,
+                starts: starts.len(),
+            },
+            ConfigRefusal::Memory => Breach::Memory,
         }
     }
 }
@@ -174,27 +182,6 @@ impl<N: Content, A: Allocator + Copy> Config<N, A> {
     }
 }
 
-impl<A: Allocator + Copy> Config<Note, A> {
-    /// A configuration as `new` makes it, or the first rule that the parameters break, with the numbers that break it.
-    pub fn checked(
-        alloc: A,
-        members: u8,
-        f: u8,
-        limit: u32,
-        starts: &[Start],
-    ) -> Result<Config<Note, A>, ConfigFault>
-        ensures accepted { IfOk result (λ c. c ≡ record { members = members; f = f; limit = limit; starts = starts.now }) }
-        ensures rules { IfOk result (IsConfig has_few_hops) }
-        ensures refused { IfErr result (λ fault. RefusesConfig has_few_hops (record { members = members; f = f; limit = limit; starts = starts.now }) (config_refusal fault)) }
-        ensures fault { IfErr result (IsOfConfig (record { members = members; f = f; limit = limit; starts = starts.now })) }
-    {
-        match Config::new(alloc, members, f, limit, starts) {
-            Ok(config) => Ok(config),
-            Err(refusal) => Err(fault_of(refusal, members, f, limit, starts)),
-        }
-    }
-}
-
 /// The place of the first start that may not be one in a group of so many members.
 fn first_bad_start<N: Content>(members: u8, starts: &[Start<N>]) -> Option<usize>
     ensures { MatchOption result ((i : ℕ) → StartAllowedAt N.allowed members starts.now i) (IsFirstBreach (StartAllowedAt N.allowed members starts.now)) }
@@ -205,42 +192,4 @@ fn first_bad_start<N: Content>(members: u8, starts: &[Start<N>]) -> Option<usize
         }
     }
     None
-}
-
-/// Which rule it is that parameters with this refusal break, with the numbers that break it.
-fn fault_of(refusal: ConfigRefusal, members: u8, f: u8, limit: u32, starts: &[Start]) -> ConfigFault
-    requires { RefusesConfig has_few_hops (record { members = members; f = f; limit = limit; starts = starts.now }) refusal }
-    ensures refusal { config_refusal result ≡ refusal }
-    ensures fault { IsOfConfig (record { members = members; f = f; limit = limit; starts = starts.now }) result }
-{
-    match refusal {
-        ConfigRefusal::BadMembers => ConfigFault::BadMembers { members },
-        ConfigRefusal::BadF => ConfigFault::BadF { f, members },
-        ConfigRefusal::BadLimit => ConfigFault::BadLimit { limit },
-        ConfigRefusal::TooManyStarts => ConfigFault::TooManyStarts {
-            starts: starts.len(),
-        },
-        ConfigRefusal::BadStart(place) => ConfigFault::BadStart(start_fault(
-            members, starts, place,
-        )),
-        ConfigRefusal::LimitBelowStarts => ConfigFault::LimitBelowStarts {
-            limit,
-            starts: starts.len(),
-        },
-        ConfigRefusal::Memory => ConfigFault::Memory,
-    }
-}
-
-/// Which rule the start at the place, which breaks one, breaks in a group of so many members.
-fn start_fault(members: u8, starts: &[Start], place: usize) -> StartFault
-    requires { ¬ (StartAllowedAt has_few_hops members starts.now place) }
-    ensures place { result.place ≡ place }
-    ensures fault { IsStartFault members starts.now result }
-{
-    let start = starts[place];
-    StartFault {
-        place,
-        start,
-        rule: start.breach(members),
-    }
 }

@@ -1,10 +1,6 @@
 //! Which rule a configuration, a dump or a plan breaks, with the numbers that tell why. The words are those for a person.
 
-ghost use Rattle.std.specs.Prelude.{◌≡◌};
-
-use crate::config::ConfigRefusal;
 use crate::member::Member;
-use crate::refusal::DumpRefusal;
 use crate::strike::Strike;
 use crate::trace::{Determinant, Mark, Start};
 use thiserror::Error;
@@ -30,53 +26,6 @@ pub enum StartRule {
     /// It has at most 15 hops.
     #[error("may have 0 to 15 hops, not {0}")]
     TooManyHops(u8),
-}
-
-/// The first start of a configuration that breaks a rule: its place, from 0, what it is, and the first rule that it breaks.
-#[derive(Clone, Copy, PartialEq, Eq, Debug, Error)]
-#[error("start {place} goes from {} to {}, and {rule}", .start.from, .start.to)]
-pub struct StartFault {
-    pub place: usize,
-    pub start: Start,
-    pub rule: StartRule,
-}
-
-/// The first rule that the parameters of a group break, in the order of the refusals, with the numbers that were given.
-#[derive(Clone, Copy, PartialEq, Eq, Debug, Error)]
-pub enum ConfigFault {
-    #[error("members is {members}, and must be 2 to 16")]
-    BadMembers { members: u8 },
-    #[error("f is {f}, and must be 1 to {}, one less than members", .members.saturating_sub(1))]
-    BadF { f: u8, members: u8 },
-    #[error("limit is {limit}, and must be 1 to 8192")]
-    BadLimit { limit: u32 },
-    #[error("there are {starts} starts, and may be at most 64")]
-    TooManyStarts { starts: usize },
-    #[error("{0}")]
-    BadStart(StartFault),
-    #[error("limit is {limit}, and must be at least {starts}, as there are {starts} starts")]
-    LimitBelowStarts { limit: u32, starts: usize },
-    #[error("out of memory")]
-    Memory,
-}
-
-impl ConfigFault {
-    ghost use Rattle.fbl_base.specs.Breaches.{config_refusal};
-
-    /// The refusal that stands for it.
-    pub fn refusal(self) -> ConfigRefusal
-        ensures { result ≡ config_refusal self }
-    {
-        match self {
-            ConfigFault::BadMembers { .. } => ConfigRefusal::BadMembers,
-            ConfigFault::BadF { .. } => ConfigRefusal::BadF,
-            ConfigFault::BadLimit { .. } => ConfigRefusal::BadLimit,
-            ConfigFault::TooManyStarts { .. } => ConfigRefusal::TooManyStarts,
-            ConfigFault::BadStart(fault) => ConfigRefusal::BadStart(fault.place),
-            ConfigFault::LimitBelowStarts { .. } => ConfigRefusal::LimitBelowStarts,
-            ConfigFault::Memory => ConfigRefusal::Memory,
-        }
-    }
 }
 
 /// Which rule an event breaks behind the events before it.
@@ -142,40 +91,47 @@ pub struct PairFault {
     pub rule: PairRule,
 }
 
-/// The first rule that a dump breaks, in the order of the refusals, with the numbers that were given.
+/// What a configuration or a dump is refused for, with the numbers that were given.
 #[derive(Clone, Copy, PartialEq, Eq, Debug, Error)]
-pub enum DumpFault {
+pub enum Breach {
     #[error("members is {members}, and must be 2 to 16")]
-    BadMembers { members: u8 },
+    Members {
+        members: u8,
+    },
     #[error("f is {f}, and must be 1 to {}, one less than members", .members.saturating_sub(1))]
-    BadF { f: u8, members: u8 },
+    F {
+        f: u8,
+        members: u8,
+    },
+    #[error("limit is {limit}, and must be 1 to 8192")]
+    Limit {
+        limit: u32,
+    },
+    #[error("there are {starts} starts, and may be at most 64")]
+    Starts {
+        starts: usize,
+    },
+    /// The first start that breaks a rule: its place, from 0, what it is, and the first rule that it breaks.
+    #[error("start {place} goes from {} to {}, and {rule}", .start.from, .start.to)]
+    Start {
+        place: usize,
+        start: Start,
+        rule: StartRule,
+    },
+    #[error("limit is {limit}, and must be at least {starts}, as there are {starts} starts")]
+    LimitBelowStarts {
+        limit: u32,
+        starts: usize,
+    },
     #[error("{0}")]
-    BadEvent(EventFault),
+    Event(EventFault),
     #[error("{0}")]
-    BadHeld(PairFault),
+    Held(PairFault),
     /// The least member of the strike set that is outside the group.
     #[error("in strike, {0}")]
-    BadStrike(Outsider),
+    Strike(Outsider),
     #[error("out of memory")]
     Memory,
-}
-
-impl DumpFault {
-    ghost use Rattle.fbl_base.specs.Breaches.{dump_refusal};
-
-    /// The refusal that stands for it.
-    pub fn refusal(self) -> DumpRefusal
-        ensures { result ≡ dump_refusal self }
-    {
-        match self {
-            DumpFault::BadMembers { .. } => DumpRefusal::BadMembers,
-            DumpFault::BadF { .. } => DumpRefusal::BadF,
-            DumpFault::BadEvent(fault) => DumpRefusal::BadEvent(fault.place),
-            DumpFault::BadHeld(fault) => DumpRefusal::BadHeld(fault.place),
-            DumpFault::BadStrike(_) => DumpRefusal::BadStrike,
-            DumpFault::Memory => DumpRefusal::Memory,
-        }
-    }
 }
 
 /// Which rule an entry of a plan breaks.

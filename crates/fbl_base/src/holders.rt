@@ -22,33 +22,29 @@ pub(crate) struct Holders<A: Allocator = Global> {
     index: Index<A>,
 }
 
-fn holders_in<A: Allocator>(index: &Index<A>, determinant: &Determinant) -> MemberSet
-    ensures { result ≡ unwrap_or (hash_map.get same_determinant index.now determinant.now) set.empty }
-{
-    match index.get(determinant) {
-        Some(members) => *members,
-        None => MemberSet::empty(),
-    }
-}
-
 impl<A: Allocator + Copy> Holders<A> {
     /// The holders that the pairs of a dump name. The time taken is linear in the pairs. `Err` comes only where there is no
     /// memory for them.
     pub(crate) fn of(alloc: A, dump: &Dump<A>) -> Result<Holders<A>, AllocError>
         ensures { IfOk result (AreHolders dump.now) }
     {
-        let mut index = HashMap::new(alloc);
+        let mut holders = Holders {
+            index: HashMap::new(alloc),
+        };
         for (holder, determinant) in dump.held() {
-            let members = holders_in(&index, determinant).with(*holder);
-            index.insert(*determinant, members)?;
+            let members = holders.get(determinant).with(*holder);
+            holders.index.insert(*determinant, members)?;
         }
-        Ok(Holders { index })
+        Ok(holders)
     }
 
     /// The members that hold the determinant, none where no pair has it.
     pub(crate) fn get(&self, determinant: &Determinant) -> MemberSet
         ensures { result ≡ unwrap_or (hash_map.get same_determinant self.now.index determinant.now) set.empty }
     {
-        holders_in(&self.index, determinant)
+        match self.index.get(determinant) {
+            Some(members) => *members,
+            None => MemberSet::empty(),
+        }
     }
 }

@@ -25,8 +25,7 @@ pub use clocks::Clocks;
 pub use config::{Config, ConfigRefusal};
 pub use content::{Content, Exact};
 pub use fault::{
-    ConfigFault, DumpFault, EntryRule, EventFault, EventRule, Outsider, PairFault, PairRule,
-    PlanFault, StartFault, StartRule,
+    Breach, EntryRule, EventFault, EventRule, Outsider, PairFault, PairRule, PlanFault, StartRule,
 };
 pub use member::Member;
 pub use member_set::MemberSet;

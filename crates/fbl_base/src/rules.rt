@@ -1,13 +1,13 @@
 //! The rules of events, checked in one pass: how many sends and receipts each member has had, and what is in flight on each
 //! channel.
 
-ghost use Rattle.std.specs.Prelude.{◌≡◌, ◌<◌, ◌≤◌, ◌+◌, ◌*◌, ◌++◌, ◌∷◌, [], ℕ, IfNone, IfOk, IfSome, OnOk, MatchOption, length, take, drop, slice_get, slice_index, vec_len};
-ghost use Rattle.fbl_base.specs.Breaches.{Breaks, BreaksEvent, FitsEvent, IsEventFault};
+ghost use Rattle.std.specs.Prelude.{◌≡◌, ◌<◌, ◌≤◌, ◌+◌, ◌*◌, ◌++◌, ◌∷◌, [], ℕ, IfOk, IfSome, OnOk, MatchOption, drop, slice_get, slice_index, vec_len};
+ghost use Rattle.fbl_base.specs.Breaches.{Breaks, BreaksEvent, FitsEvent};
 ghost use Rattle.fbl_base.specs.Events.{destination_of, source_of};
 ghost use Rattle.fbl_base.specs.Counted.{Counted, CountsEvent, first_by, next_by};
-ghost use Rattle.fbl_base.specs.Rules.{MayFollow, ObeysAt, WellFormed};
+ghost use Rattle.fbl_base.specs.Rules.{MayFollow, WellFormed};
 
-use crate::fault::{EventFault, EventRule};
+use crate::fault::EventRule;
 use crate::member::{MOST_MEMBERS, Member};
 use crate::trace::{MOST_EVENTS, Mark, end_outside};
 use std::alloc::{AllocError, Allocator, Global};
@@ -147,37 +147,6 @@ impl<A: Allocator + Copy> Counts<A> {
             }
         }
         Ok(())
-    }
-
-    /// Counts the event at `place`, if it obeys the rules after those before it, and else answers it with the first rule that it
-    /// breaks.
-    pub(crate) fn admit(
-        &mut self,
-        n: u8,
-        events: &[Mark],
-        place: usize,
-    ) -> Result<Option<EventFault>, AllocError>
-        requires members { n ≤ 16 }
-        requires within { place < length events.now }
-        requires rules { WellFormed n (take place events.now) }
-        requires counted { Counted (take place events.now) self.old }
-        ensures verdict { IfOk result (λ found. MatchOption found (ObeysAt n events.now place) (λ fault. (fault.place ≡ place) × ¬ (ObeysAt n events.now place))) }
-        ensures fault { IfOk result (λ found. IfSome found (IsEventFault n events.now)) }
-        ensures counted { IfOk result (λ found. IfNone found (Counted (take (place + 1) events.now) self.new)) }
-    {
-        let event = &events[place];
-        let before = &events[..place];
-        match self.broken_rule(n, before, event) {
-            Some(rule) => Ok(Some(EventFault {
-                place,
-                event: *event,
-                rule,
-            })),
-            None => {
-                self.add(n, before, event)?;
-                Ok(None)
-            }
-        }
     }
 }
 

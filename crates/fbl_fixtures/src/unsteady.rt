@@ -1,6 +1,4 @@
-//! A reader and a writer that fail, and a writer that takes no memory.
-
-ghost use Rattle.std.specs.Prelude.{◌≤◌};
+//! A reader and a writer that fail.
 
 use std::alloc::Global;
 use std::io::{self, ErrorKind, Read, Write};
@@ -90,38 +88,6 @@ impl Write for UnsteadyWriter {
         }
         let n = self.most.min(buf.len());
         self.held.extend_from_slice(&buf[..n])?;
-        Ok(n)
-    }
-
-    fn flush(&mut self) -> io::Result<()> {
-        Ok(())
-    }
-}
-
-/// A writer that takes no memory, and at most 8192 bytes.
-#[derive(Drop)]
-pub struct Page {
-    pub held: [u8; 8192],
-    pub len: usize,
-    ghost within: { len ≤ 8192 },
-}
-
-impl Page {
-    /// A writer that has taken nothing yet.
-    pub fn new() -> Page {
-        Page {
-            held: [0; 8192],
-            len: 0,
-        }
-    }
-}
-
-impl Write for Page {
-    fn write(&mut self, buf: &[u8]) -> io::Result<usize> {
-        let start = self.len;
-        let n = buf.len().min(8192 - start);
-        self.held[start..start + n].copy_from_slice(&buf[..n]);
-        self.len = start + n;
         Ok(n)
     }
 

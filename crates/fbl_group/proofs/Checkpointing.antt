@@ -1,7 +1,6 @@
 -- When a checkpoint is taken, and what it leaves.
 use Rattle.fbl_group.proofs.Common.{◌≡◌, ℕ, ◌<◌, get_or, refl, arith, slice_set, Next, MemberRecord, GroupRecord, IsSound, IsCheckpoint, group_checkpoint_keeps}
 use Rattle.std.specs.FinSet as sets
-use Rattle.fbl_law.specs.GroupLaws.{GroupCheckpointKeeps}
 use Rattle.fbl_group.proofs.Recovering.{read_at}
 
 -- a record that is read at the member's place is copied there, in a group as its contract has it
@@ -24,5 +23,4 @@ module _ {S N : Type 0} {next : Next S N} {old now : GroupRecord S N} (sound : I
   is_checkpoint = rw (← view) kept
 
   pub is_sound : IsSound next new
-  unfolding GroupCheckpointKeeps
   is_sound = group_checkpoint_keeps _ _ next old new p kept sound

@@ -40,15 +40,13 @@ pub use Rattle.fbl_base.specs.declared.trace.Mark.TheVariants.{Send}
 pub use Rattle.fbl_base.specs.declared.trace.Start.{Start}
 pub use Rattle.fbl_law.proofs.ChannelCounts.{sent_again-short, sum_below-agree}
 pub use Rattle.fbl_law.proofs.Channels.{flight_at, flight_ends}
-pub use Rattle.fbl_law.proofs.CutInOnePass.{recovered_trace-cut}
-pub use Rattle.fbl_law.proofs.DumpLaws.{carried_fits, dump_has_no_orphan, dump_obeys_rules, table_fits}
 pub use Rattle.fbl_law.proofs.GroupCheckpoint.{checkpoint_is_recorded, group_checkpoint_keeps}
 pub use Rattle.fbl_law.proofs.GroupDelivery.{group_delivery_keeps, length-step_events}
 pub use Rattle.fbl_law.proofs.GroupFacts.{front_is_later, new_not_carried, new_not_held, receipt_is_new, receipts_fit, sends_fit, trace_fits}
-pub use Rattle.fbl_law.proofs.GroupRecovery.{cut-undone, group_recovery_gains_holders, group_recovery_keeps, recovery_leaves_recorded}
+pub use Rattle.fbl_law.proofs.GroupRecovery.{cut-undone, group_recovery_gains_holders, group_recovery_keeps, recovered_trace-cut, recovery_leaves_recorded}
 pub use Rattle.fbl_law.proofs.GroupStart.{group_start_is_sound}
 pub use Rattle.fbl_law.proofs.GroupStrike.{group_strike_keeps, recorded_test}
-pub use Rattle.fbl_law.proofs.Promises.{any_survivors_hold, sound_holds_each_receipt, sound_records_first}
+pub use Rattle.fbl_law.proofs.Promises.{any_survivors_hold, carried_fits, dump_has_no_orphan, dump_obeys_rules, sound_holds_each_receipt, sound_records_first, table_fits}
 pub use Rattle.fbl_law.proofs.ReplayLaws.{rebuilt_is_recovered, recovered_trace-rebuilt, replay_begins, replay_is_right, replayed_in-all, replayed_in-short, replayed_in-step, replaying-next}
 pub use Rattle.fbl_law.proofs.ReplayLaws.{replaying-room, replaying-tables, with-table, working-log}
 pub use Rattle.fbl_law.proofs.Safe.{IsRecorded-before, down_or_both_up, down_or_up, no_orphan, up_if_none}

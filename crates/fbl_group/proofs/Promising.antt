@@ -6,8 +6,6 @@ use Rattle.fbl_group.specs.declared.answers.Recovered.{Recovered}
 use Rattle.fbl_group.specs.Recoveries.{Recovers}
 use Rattle.fbl_group.specs.Theorem.{AreStruck, HasNoOrphan, IsRecoverable, Restores}
 use Rattle.fbl_group.specs.Theorem.AreStruck.{nobody, and_these}
-use Rattle.fbl_law.specs.Headline.{SoundHoldsEachReceipt}
-use Rattle.fbl_law.specs.RecoveryLaws.{RecoveryLeavesRecorded}
 use Rattle.std.specs.FinSet as set
 
 module _ {S N : Type 0} (next : Next S N) where
@@ -27,7 +25,6 @@ module _ {S N : Type 0} (next : Next S N) where
 
   -- a recovery of a sound group restores it
   pub restores : (old new : GroupRecord S N) (answer : Recovered) → IsSound next old → Recovers next old new answer → Restores next old new
-  unfolding RecoveryLeavesRecorded
   restores old new answer sound recovers = record {
     nobody_down = recovers.recovery.rest.nobody_down;
     survivors = recovers.recovery.rest.survivors;
@@ -36,7 +33,6 @@ module _ {S N : Type 0} (next : Next S N) where
   }
 
   pub sound_is_recoverable : (r : GroupRecord S N) → IsSound next r → IsRecoverable next r
-  unfolding SoundHoldsEachReceipt
   sound_is_recoverable r sound = record {
     held = sound_holds_each_receipt S N next r sound;
     no_orphan = λ struck among. has_no_orphan struck (struck_is_sound r sound struck among);

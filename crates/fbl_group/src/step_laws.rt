@@ -4,8 +4,8 @@ ghost use Rattle.fbl_law.specs.StepLaws.{HoldsOf, WeighsNoMore, WeighsNoLess, We
 
 use crate::group::Group;
 use fbl_law::step_laws::{
-    Conserving, Keeping, KeepingWeight, LosingNone, MakingNone, conserved_law, kept_law,
-    none_lost_law, none_made_law, weight_kept_law,
+    Conserving, Keeping, LosingNone, MakingNone, conserved_law, kept_law, none_lost_law,
+    none_made_law,
 };
 use std::alloc::Allocator;
 
@@ -27,17 +27,6 @@ impl<B: Keeping, A: Allocator + Copy> Group<B, A> {
     {
         self.recoverable();
         kept_law::<B>();
-    }
-}
-
-impl<B: KeepingWeight, A: Allocator + Copy> Group<B, A> {
-    /// The states and the messages in flight weigh what the first states and the starts do where nobody is down, and those of the
-    /// members that are up no more whoever is down.
-    pub fn weight_kept(&self)
-        ensures { WeighsTheSame B.next (B.mass self.now.config) (B.weight self.now.config) self.now }
-    {
-        self.recoverable();
-        weight_kept_law::<B>();
     }
 }
 

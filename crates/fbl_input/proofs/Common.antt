@@ -22,7 +22,7 @@ pub use Rattle.serde_json.specs.Read.{read}
 pub use Rattle.serde_json.specs.View.{items_of, members_view, view}
 pub use Rattle.serde_json.specs.declared.value.Value.{Value}
 pub use Rattle.fbl_input.specs.Items.{is_item, items_at}
-pub use Rattle.fbl_input.specs.Misfits.{Gives, IsBadItem, IsFirstOther, IsMisfit, IsOfShape, run_fault}
+pub use Rattle.fbl_input.specs.Misfits.{Gives, IsFirstOther, IsMisfit, IsOfShape, run_fault}
 pub use Rattle.fbl_input.specs.Shapes.{Fails, all_shaped, as_list, elements, field, is_key_of, json_of, list_of, longest, member_shape, name_of, or_fault, other_key, value_of_input, ◌>>=◌}
 pub use Rattle.fbl_input.specs.declared.fault.Key.{Key}
 pub use Rattle.fbl_input.specs.declared.fault.RunFault.{RunFault}

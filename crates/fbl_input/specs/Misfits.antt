@@ -3,12 +3,9 @@ use Rattle.std.specs.Prelude.{◌≡◌, ℕ, ◌<◌, ◌==◌, List, [], ◌�
 use Rattle.std.specs.List.{AllPass}
 use Rattle.serde_json.specs.Data.{Data}
 use Rattle.serde_json.specs.Find.{get}
-use Rattle.serde_json.specs.View.{view}
 use Rattle.fbl_base.specs.Audit.{Parts}
-use Rattle.fbl_base.specs.Breaches.{IsOfConfig, IsOfDump, config_refusal, dump_refusal}
-use Rattle.fbl_base.specs.declared.config.ConfigRefusal.{ConfigRefusal}
+use Rattle.fbl_base.specs.Breaches.{IsConfigBreach, IsDumpBreach}
 use Rattle.fbl_base.specs.declared.config.ConfigRefusal.TheVariants as config
-use Rattle.fbl_base.specs.declared.refusal.DumpRefusal.{DumpRefusal}
 use Rattle.fbl_base.specs.declared.refusal.DumpRefusal.TheVariants as dump
 use Rattle.fbl_base.specs.declared.trace.Note.{Note}
 use Rattle.fbl_base.specs.Configs.{Settings}
@@ -24,30 +21,22 @@ use Rattle.fbl_input.specs.declared.misfit.Misfit.TheVariants as misfits
 use Rattle.fbl_input.specs.Items.{is_item, items_at, unknown_key}
 use Rattle.fbl_input.specs.Shapes.{Fails, as_list, count_shape, is_text, name_of}
 
--- a configuration's refusal as a fault
-abbrev pub config_fault : ConfigRefusal → RunFault
-config_fault config.Memory = faults.Memory
-config_fault e = faults.Config e
-
--- a dump's refusal as a fault
-abbrev pub dump_fault : DumpRefusal → RunFault
-dump_fault dump.Memory = faults.Memory
-dump_fault e = faults.Dump e
-
 -- the fault that it is
 abbrev pub run_fault : Misfit → RunFault
 run_fault misfits.Read = faults.Read
 run_fault misfits.TooLong = faults.TooLong
 run_fault (misfits.NotJson error) = faults.NotJson
-run_fault (misfits.NotObject found) = faults.NotObject
+run_fault misfits.NotObject = faults.NotObject
 run_fault (misfits.MissingKey key unknown) = faults.BadField key
-run_fault (misfits.BadValue key found) = faults.BadField key
-run_fault (misfits.BadItem key place found) = faults.BadField key
+run_fault (misfits.BadValue key) = faults.BadField key
+run_fault (misfits.BadItem key place) = faults.BadField key
 run_fault misfits.TooManyCommands = faults.BadCommand 1024
-run_fault (misfits.BadCommand place found wanted) = faults.BadCommand place
-run_fault (misfits.UnknownKey kind name) = faults.UnknownKey
-run_fault (misfits.Config fault) = config_fault (config_refusal fault)
-run_fault (misfits.Dump fault) = dump_fault (dump_refusal fault)
+run_fault (misfits.BadCommand place wanted) = faults.BadCommand place
+run_fault (misfits.UnknownKey name) = faults.UnknownKey
+run_fault (misfits.Config config.Memory breach) = faults.Memory
+run_fault (misfits.Config refusal breach) = faults.Config refusal
+run_fault (misfits.Dump dump.Memory breach) = faults.Memory
+run_fault (misfits.Dump refusal breach) = faults.Dump refusal
 run_fault misfits.Memory = faults.Memory
 
 -- what a function returned, seen by view, is what is asked, unless memory ran out
@@ -58,39 +47,20 @@ Gives view (Err e) asked = Fails (run_fault e) asked
 -- a fault that the shape of an input can have, and memory
 abbrev pub IsOfShape : Misfit → Type 0
 IsOfShape misfits.Read = ⊥
-IsOfShape (misfits.Config e) = ⊥
-IsOfShape (misfits.Dump e) = ⊥
+IsOfShape (misfits.Config refusal breach) = ⊥
+IsOfShape (misfits.Dump refusal breach) = ⊥
 IsOfShape e = Unit {0}
 
--- the value at the place of the list is the first that hasn't the shape
-abbrev pub IsFirstOther : {A : Type 0} → (Data → Option A) → List Data → ℕ → Type 0
-IsFirstOther shape items place =
-    (place < length items) × ((d : Data) → slice_get items place ≡ Some d → is_some (shape d) ≡ false) × ((i : ℕ) (d : Data) → i < place → slice_get items i ≡ Some d → is_some (shape d) ≡ true)
+-- the value at the place of the list is the first that fails the test
+abbrev pub IsFirstOther : (Data → Bool) → List Data → ℕ → Type 0
+IsFirstOther test items place =
+    (place < length items) × ((d : Data) → slice_get items place ≡ Some d → test d ≡ false) × ((i : ℕ) (d : Data) → i < place → slice_get items i ≡ Some d → test d ≡ true)
 
--- this is the value, or memory ran out
-abbrev pub IsNotObject : Data → Misfit → Type 0
-IsNotObject d (misfits.NotObject found) = view found ≡ d
-IsNotObject d misfits.Memory = Unit {0}
-IsNotObject d fault = ⊥
-
--- this stands at the key, or memory ran out
-abbrev pub IsBadValue : Key → Data → Misfit → Type 0
-IsBadValue key d (misfits.BadValue named found) = (named ≡ key) × (view found ≡ d)
-IsBadValue key d misfits.Memory = Unit {0}
-IsBadValue key d fault = ⊥
-
--- this stands at the place of the list at the key, or memory ran out
-abbrev pub IsBadItem : Key → ℕ → Data → Misfit → Type 0
-IsBadItem key place d (misfits.BadItem named at found) = (named ≡ key) × (at ≡ place) × (view found ≡ d)
-IsBadItem key place d misfits.Memory = Unit {0}
-IsBadItem key place d fault = ⊥
-
--- the fault of the one value at this key: there is none there, or this stands there; or memory ran out
-abbrev pub IsOfField : InputKind → Key → Data → Misfit → Type 0
-IsOfField kind key d (misfits.MissingKey named unknown) = (named ≡ key) × (get (name_of key) d ≡ None) × (option_map string_bytes unknown ≡ unknown_key kind d)
-IsOfField kind key d (misfits.BadValue named found) = (named ≡ key) × (get (name_of key) d ≡ Some (view found))
-IsOfField kind key d misfits.Memory = Unit {0}
-IsOfField kind key d fault = ⊥
+-- nothing stands at the key, or memory ran out
+abbrev pub IsMissing : InputKind → Key → Data → Misfit → Type 0
+IsMissing kind key d (misfits.MissingKey named unknown) = (named ≡ key) × (option_map string_bytes unknown ≡ unknown_key kind d)
+IsMissing kind key d misfits.Memory = Unit {0}
+IsMissing kind key d fault = ⊥
 
 -- the form of the command that a list's first item names, where there is one; a checkpoint is of version 2 alone
 abbrev pub form_of : Bool → Data → CommandForm
@@ -121,29 +91,23 @@ is_second d = by_number (option_and_then count_shape (get (name_of keys.Version)
     by_number None = false
     by_number (Some n) = n == 2
 
--- the value at the place of the list is the first that may not stand in the list at the key
-abbrev pub IsFirstMisfit : Key → List Data → ℕ → Data → Type 0
-IsFirstMisfit key items place found =
-    (slice_get items place ≡ Some found) × (is_item key found ≡ false) × ((i : ℕ) (d : Data) → i < place → slice_get items i ≡ Some d → is_item key d ≡ true)
-
--- what the fault says of the value is so: what stands at its key, where no item of a list is to blame, or at its place, what is
--- wanted there, and which key is unknown
+-- what the fault says of the value is so: its key has no value, one that is not as it should be, where no item of a list is to
+-- blame, or a list of which the item at its place is the first such; what is wanted there; and which key is unknown
 abbrev pub IsMisfit : InputKind → Data → Misfit → Type 0
-IsMisfit kind d (misfits.NotObject found) = view found ≡ d
 IsMisfit kind d (misfits.MissingKey key unknown) = (get (name_of key) d ≡ None) × (option_map string_bytes unknown ≡ unknown_key kind d)
-IsMisfit kind d (misfits.BadValue key found) = (get (name_of key) d ≡ Some (view found)) × AllPass (is_item key) (items_at key d)
-IsMisfit kind d (misfits.BadItem key place found) = IsFirstMisfit key (items_at key d) place (view found)
-IsMisfit kind d (misfits.BadCommand place found wanted) =
-    (place < 1024) × (slice_get (items_at keys.Commands d) place ≡ Some (view found)) × (wanted ≡ wanted_form (is_second d) (view found))
-IsMisfit kind d (misfits.UnknownKey named name) = (named ≡ kind) × (unknown_key kind d ≡ Some (string_bytes name))
+IsMisfit kind d (misfits.BadValue key) = (is_some (get (name_of key) d) ≡ true) × AllPass (is_item key) (items_at key d)
+IsMisfit kind d (misfits.BadItem key place) = IsFirstOther (is_item key) (items_at key d) place
+IsMisfit kind d (misfits.BadCommand place wanted) =
+    (place < 1024) × (option_map (wanted_form (is_second d)) (slice_get (items_at keys.Commands d) place) ≡ Some wanted)
+IsMisfit kind d (misfits.UnknownKey name) = unknown_key kind d ≡ Some (string_bytes name)
 IsMisfit kind d fault = Unit {0}
 
 -- what the fault says of the parameters that were read is so
 abbrev pub IsOfSettings : Settings Note → Misfit → Type 0
-IsOfSettings c (misfits.Config fault) = IsOfConfig c fault
+IsOfSettings c (misfits.Config refusal breach) = IsConfigBreach c refusal breach
 IsOfSettings c fault = Unit {0}
 
 -- what the fault says of the dump that was read is so
 abbrev pub IsOfParts : Parts → Misfit → Type 0
-IsOfParts dump (misfits.Dump fault) = IsOfDump dump fault
+IsOfParts dump (misfits.Dump refusal breach) = IsDumpBreach dump refusal breach
 IsOfParts dump fault = Unit {0}

@@ -1,5 +1,5 @@
 -- The shapes of JSON values, and the members of an object.
-use Rattle.std.specs.Prelude.{ℕ, ◌&&◌, ◌≡◌, List, [], ◌∷◌, Bool, false, not, Option, Some, None, is_some, find, option_and_then, option_map, Result, Ok, Err, nat_le, nat_lt, length, codes, if◌then◌else◌}
+use Rattle.std.specs.Prelude.{ℕ, ◌&&◌, ◌≡◌, List, [], ◌∷◌, Bool, false, not, Option, Some, None, find, option_and_then, option_map, Result, Ok, Err, nat_le, nat_lt, length, codes, if◌then◌else◌}
 use Rattle.std.specs.List.{list_any}
 use Rattle.std.specs.Str.{bytes_eq, is_utf8}
 use Rattle.std.specs.Ordering.{nat_cmp}
@@ -121,7 +121,3 @@ keys_of (member k d ms) = k ∷ keys_of ms
 -- the first key of the object that isn't one of these
 abbrev pub other_key : List Key → Members → Option (List ℕ)
 other_key known ms = find (λ k. not (is_key_of known k)) (keys_of ms)
-
--- whether the object has such a key
-abbrev pub has_other_key : List Key → Members → Bool
-has_other_key known ms = is_some (other_key known ms)

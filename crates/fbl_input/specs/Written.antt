@@ -13,10 +13,10 @@ use Rattle.fbl_input.specs.declared.explanation.Detail.TheVariants as details
 
 -- the part of a JSON value that stands at the place of the fault, where it names one. Here a number is its text
 abbrev pub part_at : Misfit → Json → Option Json
-part_at (misfits.NotObject found) d = Some d
-part_at (misfits.BadValue key found) d = get (name_of key) d
-part_at (misfits.BadItem key place found) d = option_and_then (at place) (get (name_of key) d)
-part_at (misfits.BadCommand place found wanted) d = option_and_then (at place) (get (name_of keys.Commands) d)
+part_at misfits.NotObject d = Some d
+part_at (misfits.BadValue key) d = get (name_of key) d
+part_at (misfits.BadItem key place) d = option_and_then (at place) (get (name_of key) d)
+part_at (misfits.BadCommand place wanted) d = option_and_then (at place) (get (name_of keys.Commands) d)
 part_at fault d = None
 
 -- what is said to be written there is the text of that part, without spaces

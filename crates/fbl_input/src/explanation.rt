@@ -11,8 +11,8 @@ ghost use Rattle.fbl_input.specs.Written.{IsWrittenIn, IsWrittenOf, part_at};
 use crate::fault::{Key, RunFault};
 use crate::input_fault::InputFault;
 use crate::misfit::{InputKind, Misfit};
-use crate::not_json::NotJson;
-use crate::shown::Shown;
+use crate::not_json::Stop;
+use crate::shown::ShownText;
 use json::{Scratch, Value, to_vec};
 use std::alloc::{AllocError, Global};
 use std::fmt;
@@ -25,14 +25,14 @@ enum Detail {
     OtherKind(InputKind),
     /// This stands at the place, as it is written.
     Written(String),
-    /// Why it is no JSON.
-    NotJson(NotJson),
+    /// It is no JSON: what stands where the reader of JSON stopped.
+    NotJson(Stop),
 }
 
 /// Why an input is not taken, in words for a person.
 #[derive(Debug, Drop)]
 pub struct Explanation<'a> {
-    misfit: &'a Misfit,
+    fault: &'a InputFault,
     detail: Detail,
 }
 
@@ -54,9 +54,9 @@ fn found_at<'v, 'a>(value: &'v Value<'a>, misfit: &Misfit) -> Option<&'v Value<'
     ensures numbers { IfSome result (λ found. HasNumbers (value_view found.now)) }
 {
     match misfit {
-        Misfit::NotObject(_) => Some(value),
-        Misfit::BadValue { key, .. } => value.get(key.name()),
-        Misfit::BadItem { key, place, .. } => value.get(key.name())?.at(*place),
+        Misfit::NotObject => Some(value),
+        Misfit::BadValue(key) => value.get(key.name()),
+        Misfit::BadItem { key, place } => value.get(key.name())?.at(*place),
         Misfit::BadCommand { place, .. } => value.get(Key::Commands.name())?.at(*place),
         _ => None,
     }
@@ -101,7 +101,7 @@ fn detail_of(alloc: Global, fault: &InputFault) -> Result<Detail, AllocError>
     match &fault.misfit {
         Misfit::TooLong => return Ok(Detail::Nothing),
         Misfit::NotJson(error) => {
-            return Ok(Detail::NotJson(NotJson::of(alloc, input, error)?));
+            return Ok(Detail::NotJson(Stop::of(alloc, input, error)?));
         }
         _ => (),
     }
@@ -117,39 +117,33 @@ impl InputFault {
     /// The fault explained: its place, what stands there as it is written in the input, and what is wanted there. A failed read
     /// and want of memory have no more to tell. `Err` comes only where there is no memory for the words.
     pub fn explanation(&self, alloc: Global) -> Result<Option<Explanation<'_>>, AllocError>
-        ensures own { IfOk result (λ found. IfSome found (λ explanation. explanation.misfit.now ≡ self.now.misfit)) }
+        ensures own { IfOk result (λ found. IfSome found (λ explanation. explanation.fault.now ≡ self.now)) }
         ensures written { IfOk result (λ found. IfSome found (λ explanation. IsWrittenIn self.now.misfit self.now.input.items explanation.detail)) }
         ensures none { IfOk result (λ found. IfNone found (IsUnexplained (run_fault self.now.misfit))) }
     {
         match self.misfit.fault() {
             RunFault::Read | RunFault::Memory => Ok(None),
             _ => {
-                let misfit = &self.misfit;
                 let detail = detail_of(alloc, self)?;
-                Ok(Some(Explanation { misfit, detail }))
+                Ok(Some(Explanation {
+                    fault: self,
+                    detail,
+                }))
             }
         }
     }
 }
 
-/// Writes that the input is of the one kind, and must be of the other.
+/// Writes that the input is of this kind, and must be of the other.
 fn write_other_kind<W: fmt::Write>(f: &mut fmt::Formatter<W>, found: InputKind) -> fmt::Result {
-    match found {
-        InputKind::Script => {
-            let wanted = InputKind::Dump;
-            write!(
-                f,
-                "the input is a script, which play and show read, and must be a dump: {wanted}"
-            )
-        }
-        InputKind::Dump => {
-            let wanted = InputKind::Script;
-            write!(
-                f,
-                "the input is a dump, which audit, check and draw read, and must be a script: {wanted}"
-            )
-        }
-    }
+    let (name, readers, other, wanted) = match found {
+        InputKind::Script => ("script", "play and show", "dump", InputKind::Dump),
+        InputKind::Dump => ("dump", "audit, check and draw", "script", InputKind::Script),
+    };
+    write!(
+        f,
+        "the input is a {name}, which {readers} read, and must be a {other}: {wanted}"
+    )
 }
 
 /// Writes which key is missing, and the first that is unknown.
@@ -166,13 +160,14 @@ fn write_missing<W: fmt::Write>(
     }
 }
 
-/// Writes the fault, with what stands at its place as it is written, where that is known.
+/// Writes the fault, with what stands at its place.
 fn write_misfit<W: fmt::Write>(
     f: &mut fmt::Formatter<W>,
-    misfit: &Misfit,
-    written: Option<&str>,
+    fault: &InputFault,
+    found: &str,
 ) -> fmt::Result {
-    match misfit {
+    let found = ShownText(found);
+    match &fault.misfit {
         Misfit::TooLong => {
             f.write_str("the input has more than 1048576 bytes, and may have no more")
         }
@@ -182,54 +177,40 @@ fn write_misfit<W: fmt::Write>(
                 "the input must be one JSON object, and is no JSON: {error}"
             )
         }
-        Misfit::NotObject(value) => {
-            let found = Shown { value, written };
-            write!(f, "the input must be one JSON object, and is {found}")
-        }
+        Misfit::NotObject => write!(f, "the input must be one JSON object, and is {found}"),
         Misfit::MissingKey { key, unknown } => write_missing(f, *key, unknown.as_ref()),
-        Misfit::BadValue { key, found: value } => {
+        Misfit::BadValue(key) => {
             let wanted = Misfit::wanted_at(*key);
-            let found = Shown { value, written };
             write!(f, "{key} is {found}, and must be {wanted}")
         }
-        Misfit::BadItem {
-            key,
-            place,
-            found: value,
-        } => {
+        Misfit::BadItem { key, place } => {
             let (name, wanted) = Misfit::wanted_item(*key);
-            let found = Shown { value, written };
             write!(f, "{name} {place} is {found}, and must be {wanted}")
         }
         Misfit::TooManyCommands => {
             f.write_str("command 1024 is one too many: there may be 1024, numbered from 0")
         }
-        Misfit::BadCommand {
-            place,
-            found: value,
-            wanted,
-        } => {
-            let found = Shown { value, written };
+        Misfit::BadCommand { place, wanted } => {
             write!(f, "command {place} is {found}, and must be {wanted}")
         }
-        Misfit::UnknownKey { kind, name } => { write!(f, "the key {name:?} is unknown: {kind}") }
-        Misfit::Config(fault) => write!(f, "{fault}"),
-        Misfit::Dump(fault) => write!(f, "{fault}"),
-        Misfit::Read | Misfit::Memory => write!(f, "{}", misfit.fault()),
+        Misfit::UnknownKey(name) => {
+            let kind = fault.kind;
+            write!(f, "the key {name:?} is unknown: {kind}")
+        }
+        Misfit::Config(_, breach) | Misfit::Dump(_, breach) => write!(f, "{breach}"),
+        Misfit::Read | Misfit::Memory => write!(f, "{fault}"),
     }
 }
 
 impl fmt::Display for Explanation<'_> {
     fn fmt<W: fmt::Write>(&self, f: &mut fmt::Formatter<W>) -> fmt::Result {
         match &self.detail {
-            Detail::Nothing => write_misfit(f, self.misfit, None),
-            Detail::Written(text) => write_misfit(f, self.misfit, Some(text.as_str())),
+            Detail::Nothing => write_misfit(f, self.fault, "another value"),
             Detail::OtherKind(found) => write_other_kind(f, *found),
-            Detail::NotJson(why) => {
-                write!(
-                    f,
-                    "the input must be one JSON object, and is no JSON: {why}"
-                )
+            Detail::Written(text) => write_misfit(f, self.fault, text.as_str()),
+            Detail::NotJson(stop) => {
+                write_misfit(f, self.fault, "")?;
+                write!(f, "{stop}")
             }
         }
     }

@@ -4,8 +4,8 @@ ghost use Rattle.std.specs.Prelude.{◌≡◌};
 ghost use Rattle.fbl_input.specs.declared.misfit.Misfit.TheVariants.{Memory};
 
 use crate::fault::{Key, RunFault};
-use fbl_base::{ConfigFault, ConfigRefusal, DumpFault, DumpRefusal};
-use serde_json::{Error as JsonError, Value};
+use fbl_base::{Breach, ConfigRefusal, DumpRefusal};
+use serde_json::Error as JsonError;
 use std::alloc::{AllocError, AllocFailed};
 use thiserror::Error;
 
@@ -77,41 +77,24 @@ pub enum Misfit {
     TooLong,
     /// The bytes are no JSON: what the reader of JSON says of them.
     NotJson(JsonError),
-    /// This is the JSON, and no object.
-    NotObject(Value),
+    /// The JSON is no object.
+    NotObject,
     /// Nothing stands at the key. The first key that is unknown may be what was meant.
-    MissingKey {
-        key: Key,
-        unknown: Option<String>,
-    },
-    /// This stands at the key.
-    BadValue {
-        key: Key,
-        found: Value,
-    },
-    /// This stands at a place of the list at the key, the first such.
-    BadItem {
-        key: Key,
-        place: usize,
-        found: Value,
-    },
+    MissingKey { key: Key, unknown: Option<String> },
+    /// What stands at the key is not what is wanted there.
+    BadValue(Key),
+    /// Nor is what stands at a place of the list at the key, the first such.
+    BadItem { key: Key, place: usize },
     /// There is a command at place 1024.
     TooManyCommands,
-    /// This stands at a place of the commands, where a command of such a form is wanted.
-    BadCommand {
-        place: usize,
-        found: Value,
-        wanted: CommandForm,
-    },
+    /// At a place of the commands, the first such, stands no command. One of such a form is wanted.
+    BadCommand { place: usize, wanted: CommandForm },
     /// The input has a key that one of its kind may not have, the first such.
-    UnknownKey {
-        kind: InputKind,
-        name: String,
-    },
+    UnknownKey(String),
     /// There is no configuration of the script's parameters.
-    Config(ConfigFault),
+    Config(ConfigRefusal, Breach),
     /// The dump breaks a rule.
-    Dump(DumpFault),
+    Dump(DumpRefusal, Breach),
     /// There is no memory.
     Memory,
 }
@@ -167,21 +150,16 @@ impl Misfit {
             Misfit::Read => RunFault::Read,
             Misfit::TooLong => RunFault::TooLong,
             Misfit::NotJson(_) => RunFault::NotJson,
-            Misfit::NotObject(_) => RunFault::NotObject,
-            Misfit::MissingKey { key, .. }
-            | Misfit::BadValue { key, .. }
-            | Misfit::BadItem { key, .. } => RunFault::BadField(*key),
+            Misfit::NotObject => RunFault::NotObject,
+            Misfit::MissingKey { key, .. } | Misfit::BadValue(key) | Misfit::BadItem { key, .. } =>
+                { RunFault::BadField(*key) }
             Misfit::TooManyCommands => RunFault::BadCommand(MOST_COMMANDS),
             Misfit::BadCommand { place, .. } => RunFault::BadCommand(*place),
-            Misfit::UnknownKey { .. } => RunFault::UnknownKey,
-            Misfit::Config(fault) => match fault.refusal() {
-                ConfigRefusal::Memory => RunFault::Memory,
-                refusal => RunFault::Config(refusal),
-            },
-            Misfit::Dump(fault) => match fault.refusal() {
-                DumpRefusal::Memory => RunFault::Memory,
-                refusal => RunFault::Dump(refusal),
-            },
+            Misfit::UnknownKey(_) => RunFault::UnknownKey,
+            Misfit::Config(ConfigRefusal::Memory, _) => RunFault::Memory,
+            Misfit::Config(refusal, _) => RunFault::Config(*refusal),
+            Misfit::Dump(DumpRefusal::Memory, _) => RunFault::Memory,
+            Misfit::Dump(refusal, _) => RunFault::Dump(*refusal),
             Misfit::Memory => RunFault::Memory,
         }
     }

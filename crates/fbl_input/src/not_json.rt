@@ -11,7 +11,7 @@ const MARK: &[u8] = b"\xef\xbb\xbf";
 
 /// What stands where the reader of JSON stopped.
 #[derive(Debug, Drop)]
-enum Stop {
+pub(crate) enum Stop {
     /// A byte order mark, at the start.
     ByteOrderMark,
     /// Bytes that are not UTF-8.
@@ -30,26 +30,6 @@ enum Stop {
     Character(char),
     /// Nothing that can be named.
     Unknown,
-}
-
-/// Why a text is no JSON: what the reader of JSON says, and what stands where it stopped.
-#[derive(Debug, Drop)]
-pub(crate) struct NotJson {
-    error: JsonError,
-    stop: Stop,
-}
-
-impl NotJson {
-    /// Why the input, of which the reader says this, is no JSON. `Err` comes only where there is no memory for it.
-    pub(crate) fn of(
-        alloc: Global,
-        input: &[u8],
-        error: &JsonError,
-    ) -> Result<NotJson, AllocError> {
-        let error = *error;
-        let stop = stop_in(alloc, input, &error)?;
-        Ok(NotJson { error, stop })
-    }
 }
 
 /// The place of the byte in this column of this line, both from 1.
@@ -139,22 +119,24 @@ fn stop_in_text(alloc: Global, text: &str, error: &JsonError) -> Result<Stop, Al
     }
 }
 
-/// What stands where the reader of JSON stopped in the input.
-fn stop_in(alloc: Global, input: &[u8], error: &JsonError) -> Result<Stop, AllocError> {
-    if input.starts_with(MARK) {
-        return Ok(Stop::ByteOrderMark);
-    }
-    match str::from_utf8(input) {
-        Ok(text) => stop_in_text(alloc, text, error),
-        Err(_) => Ok(Stop::NotUtf8),
+impl Stop {
+    /// What stands where the reader of JSON stopped in the input, by what it says of it. `Err` comes only where there is no memory
+    /// for it.
+    pub(crate) fn of(alloc: Global, input: &[u8], error: &JsonError) -> Result<Stop, AllocError> {
+        if input.starts_with(MARK) {
+            return Ok(Stop::ByteOrderMark);
+        }
+        match str::from_utf8(input) {
+            Ok(text) => stop_in_text(alloc, text, error),
+            Err(_) => Ok(Stop::NotUtf8),
+        }
     }
 }
 
-impl fmt::Display for NotJson {
+/// The words stand behind those of the reader of JSON.
+impl fmt::Display for Stop {
     fn fmt<W: fmt::Write>(&self, f: &mut fmt::Formatter<W>) -> fmt::Result {
-        let error = &self.error;
-        write!(f, "{error}")?;
-        match &self.stop {
+        match self {
             Stop::ByteOrderMark => f.write_str(": a byte order mark stands there, and { is wanted"),
             Stop::NotUtf8 => f.write_str(": what stands there is not UTF-8"),
             Stop::Nothing => f.write_str(": nothing stands there, and { is wanted"),

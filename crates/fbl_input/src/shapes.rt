@@ -7,11 +7,12 @@ ghost use Rattle.std.specs.BTreeMap.{keys};
 ghost use Rattle.serde_json.specs.Data.{Data};
 ghost use Rattle.serde_json.specs.Find.{as_object, get};
 ghost use Rattle.serde_json.specs.View.{view, members_view};
-ghost use Rattle.fbl_input.specs.Items.{is_item, items_at, known_keys, unknown_key};
-ghost use Rattle.fbl_input.specs.Misfits.{Gives, IsBadItem, IsBadValue, IsFirstOther, IsNotObject, IsMisfit, IsOfField, IsOfShape, run_fault};
-ghost use Rattle.fbl_input.specs.Shapes.{Fails, all_shaped, as_list, count_shape, field, has_other_key as has_other_key_of, is_key_of, is_text, json_of, list_of, member_shape, name_of, number_within, or_fault, other_key as other_key_of, set_shape, value_of_input};
+ghost use Rattle.fbl_input.specs.Items.{is_item, items_at, unknown_key};
+ghost use Rattle.fbl_input.specs.Misfits.{Gives, IsFirstOther, IsMisfit, IsMissing, IsOfShape};
+ghost use Rattle.fbl_input.specs.Shapes.{all_shaped, as_list, count_shape, field, is_key_of, is_text, json_of, list_of, member_shape, name_of, number_within, or_fault, set_shape, value_of_input};
 ghost use Rattle.fbl_input.specs.declared.fault.Key.TheVariants.{Strike};
-ghost use Rattle.fbl_input.specs.declared.fault.RunFault.TheVariants.{BadField, NotJson, NotObject, UnknownKey};
+ghost use Rattle.fbl_input.specs.declared.misfit.InputKind.{InputKind};
+ghost use Rattle.fbl_input.specs.declared.fault.RunFault.TheVariants.{NotJson, NotObject, UnknownKey};
 
 use crate::fault::Key;
 use crate::misfit::{InputKind, Misfit};
@@ -100,26 +101,10 @@ fn is_key_in(known: &[Key], text: &str) -> bool
     known.iter().any(|key| text == key.name())
 }
 
-fn key_but_in<'a>(object: &'a Map<String, Value>, known: &[Key]) -> Option<&'a String>
-    ensures { option_map (λ k. k.now) result ≡ find (λ k. not (is_key_of known.now (string_bytes k))) (keys object.now) }
-{
-    object.keys().find(|key| !is_key_in(known, key.as_str()))
-}
-
-/// The first key of the object that is none of these.
-pub fn other_key<'a>(object: &'a Map<String, Value>, known: &[Key]) -> Option<&'a str>
-    ensures { option_map (λ k. k.now) result ≡ other_key_of known.now (members_view object.now.entries) }
-{
-    match key_but_in(object, known) {
-        Some(key) => Some(key.as_str()),
-        None => None,
-    }
-}
-
 /// The set of the members in a list, or the first place where none stands.
 fn set_of(list: &[Value]) -> Result<MemberSet, usize>
     ensures exact { result_ok result ≡ option_map set.from_list (all_shaped member_shape (map view list.now)) }
-    ensures place { IfErr result (IsFirstOther member_shape (map view list.now)) }
+    ensures place { IfErr result (IsFirstOther (λ d. is_some (member_shape d)) (map view list.now)) }
 {
     let mut set = MemberSet::empty();
     for (place, value) in list.iter().enumerate() {
@@ -145,7 +130,7 @@ pub fn all_in<T: Copy, S: JsonShape<T>>(
     list: &[Value],
 ) -> Result<Result<Vec<T>, usize>, AllocError>
     ensures exact { IfOk result (λ found. option_map (λ v. v.items) (result_ok found) ≡ all_shaped S.shape (map view list.now)) }
-    ensures place { IfOk result (λ found. IfErr found (IsFirstOther S.shape (map view list.now))) }
+    ensures place { IfOk result (λ found. IfErr found (IsFirstOther (λ d. is_some (S.shape d)) (map view list.now))) }
 {
     let mut all = Vec::new(alloc);
     for (place, value) in list.iter().enumerate() {
@@ -155,6 +140,12 @@ pub fn all_in<T: Copy, S: JsonShape<T>>(
         }
     }
     Ok(Ok(all))
+}
+
+fn key_but_in<'a>(object: &'a Map<String, Value>, known: &[Key]) -> Option<&'a String>
+    ensures { option_map (λ k. k.now) result ≡ find (λ k. not (is_key_of known.now (string_bytes k))) (keys object.now) }
+{
+    object.keys().find(|key| !is_key_in(known, key.as_str()))
 }
 
 /// The first key of the value that an input of this kind may not have. `Err` comes only where there is no memory for it.
@@ -168,64 +159,20 @@ fn unknown_key_in(
     let Some(object) = value.as_object() else {
         return Ok(None);
     };
-    match other_key(object, kind.keys()) {
-        Some(name) => Ok(Some(String::from_str(alloc, name)?)),
+    match key_but_in(object, kind.keys()) {
+        Some(name) => Ok(Some(String::from_str(alloc, name.as_str())?)),
         None => Ok(None),
     }
 }
 
-/// The fault of a key at which nothing stands, or lack of memory.
-fn missing(alloc: Global, kind: InputKind, value: &Value, key: Key) -> Misfit
-    requires { get (name_of key) (view value.now) ≡ None }
-    ensures { IsOfField kind key (view value.now) result }
-{
-    match unknown_key_in(alloc, kind, value) {
-        Ok(unknown) => Misfit::MissingKey { key, unknown },
-        Err(_) => Misfit::Memory,
-    }
-}
-
-/// The fault of what stands at the key, or lack of memory.
-fn bad_value(key: Key, found: &Value) -> Misfit
-    ensures { IsBadValue key (view found.now) result }
-{
-    match found.clone() {
-        Ok(found) => Misfit::BadValue { key, found },
-        Err(_) => Misfit::Memory,
-    }
-}
-
-/// The fault of what stands at a place of the list at the key, or lack of memory.
-fn bad_item(key: Key, place: usize, found: &Value) -> Misfit
-    ensures { IsBadItem key place (view found.now) result }
-{
-    match found.clone() {
-        Ok(found) => Misfit::BadItem { key, place, found },
-        Err(_) => Misfit::Memory,
-    }
-}
-
 /// The object that the value is, and else `NotObject`.
-pub fn object_in(kind: InputKind, value: &Value) -> Result<&Map<String, Value>, Misfit>
+pub fn object_in(value: &Value) -> Result<&Map<String, Value>, Misfit>
     ensures exact { Gives (λ o. members_view o.now.entries) result (or_fault NotObject (as_object (view value.now))) }
     ensures object { IfOk result (λ o. as_object (view value.now) ≡ Some (members_view o.now.entries)) }
     ensures faults { IfErr result IsOfShape }
-    ensures misfit { IfErr result (IsMisfit kind (view value.now)) }
+    ensures misfit { (kind : InputKind) → IfErr result (IsMisfit kind (view value.now)) }
 {
-    match value.as_object() {
-        Some(object) => Ok(object),
-        None => Err(not_object(value)),
-    }
-}
-
-/// The fault of a value that is no object, or lack of memory.
-fn not_object(value: &Value) -> Misfit
-    ensures { IsNotObject (view value.now) result }
-{
-    match value.clone() {
-        Ok(found) => Misfit::NotObject(found),
-        Err(_) => Misfit::Memory,
-    }
+    value.as_object().ok_or(Misfit::NotObject)
 }
 
 /// What stands at the key, and else `MissingKey`.
@@ -236,11 +183,14 @@ fn value_at<'a>(
     key: Key,
 ) -> Result<&'a Value, Misfit>
     ensures found { IfOk result (λ v. get (name_of key) (view value.now) ≡ Some (view v.now)) }
-    ensures missing { IfErr result (λ fault. (get (name_of key) (view value.now) ≡ None) × IsOfField kind key (view value.now) fault) }
+    ensures missing { IfErr result (λ fault. (get (name_of key) (view value.now) ≡ None) × IsMissing kind key (view value.now) fault) }
 {
     match value.get(key.name()) {
         Some(found) => Ok(found),
-        None => Err(missing(alloc, kind, value, key)),
+        None => {
+            let unknown = unknown_key_in(alloc, kind, value)?;
+            Err(Misfit::MissingKey { key, unknown })
+        }
     }
 }
 
@@ -253,14 +203,10 @@ pub fn value_field<T: Copy, S: JsonShape<T>>(
 ) -> Result<T, Misfit>
     ensures exact { Gives (λ x. x) result (field key S.shape (view value.now)) }
     ensures faults { IfErr result IsOfShape }
-    ensures field { IfErr result (IsOfField kind key (view value.now)) }
     ensures misfit { ((d : Data) → is_item key d ≡ true) → IfErr result (IsMisfit kind (view value.now)) }
 {
     let found = value_at(alloc, kind, value, key)?;
-    match S::in_value(found) {
-        Some(item) => Ok(item),
-        None => Err(bad_value(key, found)),
-    }
+    S::in_value(found).ok_or(Misfit::BadValue(key))
 }
 
 /// The list at the key, and else `MissingKey` or `BadValue`.
@@ -276,10 +222,7 @@ pub fn list_field<'a>(
     ensures misfit { IfErr result (IsMisfit kind (view value.now)) }
 {
     let found = value_at(alloc, kind, value, key)?;
-    match list_in(found) {
-        Some(list) => Ok(list),
-        None => Err(bad_value(key, found)),
-    }
+    list_in(found).ok_or(Misfit::BadValue(key))
 }
 
 /// What the list at the key gives, if each of its values has the shape, and else a fault of the key. `Memory` comes only
@@ -298,7 +241,7 @@ pub fn values_field<T: Copy, S: JsonShape<T>>(
     let list = list_field(alloc, kind, value, key)?;
     match all_in::<T, S>(alloc, list)? {
         Ok(all) => Ok(all),
-        Err(place) => Err(bad_item(key, place, &list[place])),
+        Err(place) => Err(Misfit::BadItem { key, place }),
     }
 }
 
@@ -308,31 +251,23 @@ pub fn set_field(alloc: Global, kind: InputKind, value: &Value) -> Result<Member
     ensures faults { IfErr result IsOfShape }
     ensures misfit { IfErr result (IsMisfit kind (view value.now)) }
 {
-    let list = list_field(alloc, kind, value, Key::Strike)?;
+    let key = Key::Strike;
+    let list = list_field(alloc, kind, value, key)?;
     match set_of(list) {
         Ok(set) => Ok(set),
-        Err(place) => Err(bad_item(Key::Strike, place, &list[place])),
+        Err(place) => Err(Misfit::BadItem { key, place }),
     }
 }
 
-/// Whether each key is one that an input of this kind may have, and else `UnknownKey`: the value is this object.
-pub fn no_other_key(
-    alloc: Global,
-    kind: InputKind,
-    value: &Value,
-    object: &Map<String, Value>,
-) -> Result<(), Misfit>
-    requires { as_object (view value.now) ≡ Some (members_view object.now.entries) }
-    ensures exact { Gives (λ x. x) result (if has_other_key_of (known_keys kind) (members_view object.now.entries) then Err UnknownKey else Ok tt) }
+/// Whether each key is one that an input of this kind may have, and else `UnknownKey`.
+pub fn no_other_key(alloc: Global, kind: InputKind, value: &Value) -> Result<(), Misfit>
+    ensures exact { Gives (λ x. x) result (if is_some (unknown_key kind (view value.now)) then Err UnknownKey else Ok tt) }
     ensures faults { IfErr result IsOfShape }
     ensures misfit { IfErr result (IsMisfit kind (view value.now)) }
 {
-    match other_key(object, kind.keys()) {
+    match unknown_key_in(alloc, kind, value)? {
+        Some(name) => Err(Misfit::UnknownKey(name)),
         None => Ok(()),
-        Some(name) => {
-            let name = String::from_str(alloc, name)?;
-            Err(Misfit::UnknownKey { kind, name })
-        }
     }
 }
 

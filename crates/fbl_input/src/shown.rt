@@ -1,6 +1,5 @@
-//! What an input has, in a few words.
+//! The front of a text.
 
-use serde_json::Value;
 use std::fmt;
 use std::fmt::Write;
 
@@ -44,30 +43,5 @@ impl fmt::Display for ShownText<'_> {
             is_cut: false,
         };
         cut.write_str(self.0)
-    }
-}
-
-/// A value as JSON, with its numbers as they are written in the input where that text is known: its first 60 characters, with
-/// dots where there are more.
-#[derive(Clone, Copy)]
-pub(crate) struct Shown<'a> {
-    pub(crate) value: &'a Value,
-    pub(crate) written: Option<&'a str>,
-}
-
-impl fmt::Display for Shown<'_> {
-    fn fmt<W: Write>(&self, f: &mut fmt::Formatter<W>) -> fmt::Result {
-        let mut cut = Cut {
-            writer: f,
-            left: LONGEST_SHOWN,
-            is_cut: false,
-        };
-        match self.written {
-            Some(text) => cut.write_str(text),
-            None => {
-                let value = self.value;
-                write!(cut, "{value}")
-            }
-        }
     }
 }

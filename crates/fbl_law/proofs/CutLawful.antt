@@ -1,15 +1,15 @@
 -- What is left of a lawful trace is lawful, with its notes.
-use Rattle.fbl_law.proofs.Common.{◌≡◌, ℕ, zero, suc, ◌<◌, ◌≤◌, ◌==◌, nat_lt, inl, inr, ◌⊎◌, Bool, true, false, cond, List, [], ◌∷◌, ◌++◌, length, take, map}
-use Rattle.fbl_law.proofs.Common.{Option, Some, None, slice_get, refl, sym, ap, ◌∙◌, arith, count_by, length-take, filter, filter_map, fold, false_from_ne_true, nat_tests, filter-append}
-use Rattle.fbl_law.proofs.Common.{sum_by-cons, length-filter_map, length-left, Start, Determinant, Event, Mark, At, mark_of, member_of, send_of, receipt_of, Has, Leads, Precedes, itself, step}
-use Rattle.fbl_law.proofs.Common.{is_send_of, is_receipt_of, sends_of, receipts_of, sent_on, taken_on, in_flight, MayFollow, WellFormed, At-front, At-below, WellFormed-keeps, WellFormed-none}
-use Rattle.fbl_law.proofs.Common.{WellFormed-push, is_sent, in_flight-sent, last_taken, Next, note_of, Action, took, sent, action_of, actions_of, notes_of, responses, start_of, starts_of, Lawful}
-use Rattle.fbl_law.proofs.Common.{At-filter, receipts-noted, eqb-self, true_from_ne_false, append-nil, filter_map-agree, Earlier-front}
+use Rattle.fbl_law.proofs.Common.{◌≡◌, ℕ, zero, suc, ◌<◌, ◌≤◌, nat_lt, inl, inr, ◌⊎◌, Bool, true, false, cond, List, [], ◌∷◌, ◌++◌, length, take, map, Option, Some, slice_get, refl, sym}
+use Rattle.fbl_law.proofs.Common.{ap, ◌∙◌, arith, count_by, length-take, filter, filter_map, fold, nat_tests, filter-append, sum_by-cons, length-filter_map, length-left, Start, Event}
+use Rattle.fbl_law.proofs.Common.{Mark, mark_of, member_of, send_of, Has, Leads, Precedes, itself, step, is_send_of, is_receipt_of, sends_of, receipts_of, sent_on, taken_on, in_flight}
+use Rattle.fbl_law.proofs.Common.{MayFollow, WellFormed, At-front, At-below, WellFormed-keeps, WellFormed-none, WellFormed-push, is_sent, in_flight-sent, last_taken, Next, note_of, Action}
+use Rattle.fbl_law.proofs.Common.{took, sent, action_of, actions_of, notes_of, responses, start_of, starts_of, Lawful, At-filter, receipts-noted, eqb-self, append-nil, filter_map-agree}
+use Rattle.fbl_law.proofs.Common.{Earlier-front, cases_lt, drop, drop_all, drop_next, filter_map-append, slice_get_within, subst, take-append-drop, At}
 use Rattle.fbl_base.specs.declared.trace.Mark.TheVariants as mark
 use Rattle.fbl_base.specs.declared.trace.Event.TheVariants.{Send, Receipt}
-use Rattle.fbl_law.proofs.InOrder.{in_flight-beyond}
-use Rattle.fbl_law.proofs.Lists.{At-seam, filter-At}
-use Rattle.fbl_law.proofs.Notes.{noted-sent, sent-noted, mark-at, receipt-at}
+use Rattle.fbl_law.proofs.Channels.{in_flight-beyond}
+use Rattle.fbl_law.proofs.Lists.{At-seam, filter-At, some-at}
+use Rattle.fbl_law.proofs.Notes.{noted-sent, sent-noted, mark-at}
 
 -- counts of a kind of event of which each is kept
 count-kept : (keep p : Mark → Bool) (u : List Mark) → ((e : Mark) → Has u e → p e ≡ true → keep e ≡ true) → count_by p (filter keep u) ≡ count_by p u
@@ -24,11 +24,40 @@ map-kept keep g [] all = refl
 map-kept {Y} keep g (x ∷ u) all =
     grind (arith, λ (y : Y). all x y (0, refl), map-kept keep g u (λ e y h. all e y (suc h.0, h.1)))
 
+-- counts of a kind of event of which those before a place are kept
+pub count-front : (keep p : Mark → Bool) (stop : ℕ) (u : List Mark) → ((i : ℕ) (e : Mark) → At u i e → p e ≡ true → keep e ≡ nat_lt i stop)
+    → count_by p (filter keep u) ≡ count_by p (take stop u)
+count-front keep p zero [] tells = refl
+count-front keep p (suc stop) [] tells = refl
+count-front keep p zero (x ∷ u) tells =
+    grind (arith, nat_tests, sum_by-cons (λ y. cond (p y) 1 0) x (filter keep u), tells 0 x refl, count-front keep p zero u (λ i e here is. tells (suc i) e here is ∙ grind (arith, nat_tests)))
+count-front keep p (suc stop) (x ∷ u) tells =
+    grind (
+      arith,
+      nat_tests,
+      sum_by-cons (λ y. cond (p y) 1 0) x (filter keep u),
+      sum_by-cons (λ y. cond (p y) 1 0) x (take stop u),
+      tells 0 x refl,
+      count-front keep p stop u (λ i e here is. tells (suc i) e here is ∙ grind (arith, nat_tests)),
+    )
+
 module _ {N : Type 0} where
   -- the two ways to leave events out
   pub marks-filter : (keep : Mark → Bool) (t : List (Event N)) → map mark_of (filter (λ e. keep (mark_of e)) t) ≡ filter keep (map mark_of t)
   marks-filter keep [] = refl
   marks-filter keep (x ∷ t) = grind (arith, marks-filter keep t)
+
+  -- the starts are no receipts
+  no_receipt : (k : ℕ) (v : List (Event N)) → k ≤ length (filter_map start_of (take k v)) → (i p r q s : ℕ) → i < k → ¬ (slice_get v i ≡ Some (Receipt p r q s))
+  no_receipt zero v whole i p r q s below here = omega arith
+  no_receipt (suc k) [] whole i p r q s below here = cc
+  no_receipt (suc k) (Receipt p' r' q' s' ∷ v) whole i p r q s below here = omega (arith, length-filter_map start_of (take k v), length-take k v)
+  no_receipt (suc k) (Send q' s' p' x ∷ v) whole zero p r q s below here = cc
+  no_receipt (suc k) (Send q' s' p' x ∷ v) whole (suc i) p r q s below here = no_receipt k v (omega arith) i p r q s (omega arith) here
+
+  abbrev IsNote : Action N → Type 0
+  IsNote (took note) = Unit {0}
+  IsNote (sent s) = ⊥
 
 -- what leads to a kept event is kept
 abbrev pub KeepsCauses : (Mark → Bool) → List Mark → Type 0
@@ -83,48 +112,21 @@ WellFormed-kept n keep t obeys = WellFormed-keeps n (λ u. KeepsCauses keep u �
     at true is = WellFormed-push n (filter keep u) e done
         (MayFollow-kept n keep u obeys_u done e may (λ a h why. causes a e is ((h.0, length u, At-below u h.0 a h.1, At-front u (e ∷ []) h.0 a h.1, At-seam u e []), why)))
 
--- of the images of a list, where each that is kept comes before those that aren't, a front is left; what comes next is the first
--- that isn't kept, and has P
-module _ {X Y : Type 0} (g : X → Option Y) (keep : X → Bool) (P : Y → Type 0) where
-  abbrev KeptFirst : List X → Type 0
-  KeptFirst v =
-      (i j : ℕ) (a b : X) (x y : Y) → i < j → slice_get v i ≡ Some a → slice_get v j ≡ Some b → g a ≡ Some x → g b ≡ Some y
-      → keep b ≡ true → keep a ≡ true
+-- where the elements with an image are kept exactly before a place, the images left are those of the elements before it
+front-left : {X Y : Type 0} (g : X → Option Y) (keep : X → Bool) (stop : ℕ) (xs : List X)
+    → ((i : ℕ) (x : X) (y : Y) → slice_get xs i ≡ Some x → g x ≡ Some y → keep x ≡ nat_lt i stop) → filter_map g (filter keep xs) ≡ filter_map g (take stop xs)
+front-left g keep zero [] tells = refl
+front-left g keep (suc stop) [] tells = refl
+front-left {Y = Y} g keep zero (x ∷ xs) tells =
+    grind (arith, nat_tests, λ (y : Y). tells 0 x y refl, front-left g keep zero xs (λ i y z here is. tells (suc i) y z here is ∙ grind (arith, nat_tests)))
+front-left {Y = Y} g keep (suc stop) (x ∷ xs) tells =
+    grind (arith, nat_tests, λ (y : Y). tells 0 x y refl, front-left g keep stop xs (λ i y z here is. tells (suc i) y z here is ∙ grind (arith, nat_tests)))
 
-  abbrev StopsAt : List X → Type 0
-  StopsAt v =
-      (j : ℕ) (b : X) (y : Y) → slice_get v j ≡ Some b → g b ≡ Some y → keep b ≡ false
-      → ((i : ℕ) (a : X) (x : Y) → i < j → slice_get v i ≡ Some a → g a ≡ Some x → keep a ≡ true) → P y
-
-  StopsAt-tail : (e : X) (v : List X) → ((x : Y) → g e ≡ Some x → keep e ≡ true) → StopsAt (e ∷ v) → StopsAt v
-  StopsAt-tail e v kept stops j b y here is gone all = stops (suc j) b y here is gone before where
-    before : (i : ℕ) (a : X) (x : Y) → i < suc j → slice_get (e ∷ v) i ≡ Some a → g a ≡ Some x → keep a ≡ true
-    before zero a x below at image = (let same : e ≡ a = cc in rw same at (kept x (rw same image)))
-    before (suc i) a x below at image = all i a x (omega arith) at image
-
-  none_left : (v : List X) → ((j : ℕ) (b : X) (y : Y) → slice_get v j ≡ Some b → g b ≡ Some y → keep b ≡ false) → filter_map g (filter keep v) ≡ []
-  none_left [] none = refl
-  none_left (e ∷ v) none = grind (arith, none 0 e, none_left v (λ j. none (suc j)))
-
-  abbrev Front : List X → Type 0
-  Front v = (rest : List Y) × (filter_map g v ≡ filter_map g (filter keep v) ++ rest) × ((y : Y) (ys : List Y) → rest ≡ y ∷ ys → P y)
-
-  front_left : (v : List X) → KeptFirst v → StopsAt v → Front v
-  front_left [] first stops = ([], refl, λ y ys is. absurd cc)
-  front_left (e ∷ v) first stops = at (g e) refl (keep e) refl (front_left v (λ i j a b x y below. first (suc i) (suc j) a b x y (omega (arith, below)))) where
-    at : (o : Option Y) → g e ≡ o → (b : Bool) → keep e ≡ b → (StopsAt v → Front v) → Front (e ∷ v)
-    at None is b kept later = (let r = later (StopsAt-tail e v (λ x image. absurd cc) stops) in (r.0, grind (arith, is, r.1), r.2))
-    at (Some y) is true kept later = (let r = later (StopsAt-tail e v (λ x image. kept) stops) in (r.0, rw (is, kept, is) (ap (λ (ys : List Y). y ∷ ys) r.1), r.2))
-    at (Some y) is false kept later = (
-      y ∷ filter_map g v,
-      rw (is, kept, none_left v (λ j b z here image. false_from_ne_true (keep b) (λ yes'. let was = first 0 (suc j) e b y z (omega arith) refl here is image yes' in cc))) refl,
-      λ z zs same. let one : y ≡ z = cc in rw one at (stops 0 e y refl is kept (λ i a x below. absurd (omega arith))),
-    )
-
-module _ {N : Type 0} where
-  abbrev IsNote : Action N → Type 0
-  IsNote (took note) = Unit {0}
-  IsNote (sent s) = ⊥
+-- a front of which each element is kept
+take-kept : {X : Type 0} (keep : X → Bool) (k : ℕ) (xs : List X) → ((i : ℕ) (x : X) → i < k → slice_get xs i ≡ Some x → keep x ≡ true) → take k (filter keep xs) ≡ take k xs
+take-kept keep zero xs all = refl
+take-kept keep (suc k) [] all = refl
+take-kept {X} keep (suc k) (x ∷ xs) all = rw (all 0 x (omega arith) refl) (ap (λ (ys : List X). x ∷ ys) (take-kept keep k xs (λ i y below. all (suc i) y (omega arith))))
 
 module _ {S N : Type 0} where
   -- a front of a run's actions that ends where a note comes next, or at their end, has the actions of a run
@@ -161,32 +163,12 @@ module _ {N : Type 0} (n : ℕ) (keep : Mark → Bool) (t : List (Event N)) (obe
       let place = filter-At (λ e. keep (mark_of e)) t sent.0 (Send q k sent.1 x) sent.2 kept in
       sent-noted n left left-obeys place.0 q k sent.1 x place.1
 
--- a send is kept where each receipt of its member that comes before it is
-abbrev pub KeepsResponses : (Mark → Bool) → List Mark → Type 0
-KeepsResponses keep t =
-    (j q k to : ℕ) → At t j (mark.Send q k to)
-    → ((i : ℕ) (d : Determinant) → i < j → At t i (receipt_of d) → d.to ≡ q → keep (receipt_of d) ≡ true) → keep (mark.Send q k to) ≡ true
-
-module _ {S N : Type 0} (next : Next S N) (n : ℕ) (starts : List (Start N)) (keep : Mark → Bool) (t : List (Event N)) (lawful : Lawful next n starts t)
-    (causes : KeepsCauses keep (map mark_of t)) (follow : KeepsResponses keep (map mark_of t)) where
+-- a lawful trace of which each member's events before its place are kept, and the event at the place is a receipt of it
+module _ {S N : Type 0} (next : Next S N) (n : ℕ) (starts : List (Start N)) (keep : Mark → Bool) (t : List (Event N)) (lawful : Lawful next n starts t) (causes : KeepsCauses keep (map mark_of t))
+    (stop : ℕ → ℕ) (tells : (i : ℕ) (e : Event N) → slice_get t i ≡ Some e → keep (mark_of e) ≡ nat_lt i (stop (member_of (mark_of e))))
+    (ends : (p : ℕ) (e : Event N) → slice_get t (stop p) ≡ Some e → (r : ℕ) × (q : ℕ) × (k : ℕ) × (e ≡ Receipt p r q k)) where
   abbrev keeps : Event N → Bool
   keeps e = keep (mark_of e)
-
-  -- a member's events that are kept come before its others, the first of which is a receipt
-  kept_first : (p : ℕ) → KeptFirst (action_of t p) keeps IsNote t
-  kept_first p i j a b x y below at_a at_b is_a is_b kept =
-      causes (mark_of a) (mark_of b) kept ((i, j, below, mark-at t i a at_a, mark-at t j b at_b), inl (grind (arith, nat_tests, is_a, is_b)))
-
-  stops_at : (p : ℕ) → StopsAt (action_of t p) keeps IsNote t
-  stops_at p j b (took x) here is gone all = tt
-  stops_at p j (Receipt to r q k) (sent s) here is gone all = grind arith
-  stops_at p j (Send q k to x) (sent s) here is gone all =
-      let kept = follow j q k to (mark-at t j (Send q k to x) here) (λ i d below at_d own.
-      let at_i = receipt-at t i d.to d.rsn d.from d.ssn at_d in
-      let noted = receipts-noted n t lawful.well_formed i d.to d.rsn d.from d.ssn at_i in
-      let own_p : (d.to == p) ≡ true = grind (arith, nat_tests, own, is) in
-      all i (Receipt d.to d.rsn d.from d.ssn) (took noted.0) below at_i (rw (own_p, noted.1) refl)) in
-      absurd cc
 
   same_actions : (p : ℕ) → filter_map (action_of (filter keeps t) p) (filter keeps t) ≡ filter_map (action_of t p) (filter keeps t)
   same_actions p = filter_map-agree (action_of (filter keeps t) p) (action_of t p) (filter keeps t) agree where
@@ -196,24 +178,41 @@ module _ {S N : Type 0} (next : Next S N) (n : ℕ) (starts : List (Start N)) (k
         let noted = receipts-noted n (filter keeps t) (left-obeys n keep t lawful.well_formed causes) i to r q k here in
         rw (noted.1, note-was n keep t lawful.well_formed causes q k noted.0 noted.1) refl
 
-  -- the starts stay first
-  starts_stay : (k : ℕ) (v : List (Event N)) → k ≤ length (filter_map start_of (take k v)) → ((p : ℕ) → StopsAt (action_of t p) keeps IsNote v)
-      → take k (filter keeps v) ≡ take k v
-  starts_stay zero v whole stops = refl
-  starts_stay (suc k) [] whole stops = refl
-  starts_stay (suc k) (Receipt to r q i ∷ v) whole stops = absurd (omega (arith, length-filter_map start_of (take k v), length-take k v))
-  starts_stay (suc k) (Send q i to x ∷ v) whole stops =
-      let at_first : keep (mark.Send q i to) ≡ false → ⊥ = λ gone. stops q 0 (Send q i to x) (sent (to, x)) refl (rw eqb-self refl) gone (λ j a y below. absurd (omega arith)) in
-      let kept = true_from_ne_false (keep (mark.Send q i to)) at_first in
-      rw kept (ap (λ (xs : List (Event N)). Send q i to x ∷ xs)
-      (starts_stay k v (omega arith) (λ p. StopsAt-tail (action_of t p) keeps IsNote (Send q i to x) v (λ y image. kept) (stops p))))
+  -- a member's actions that are left are its first ones
+  first_actions : (p : ℕ) → filter_map (action_of t p) (filter keeps t) ≡ filter_map (action_of t p) (take (stop p) t)
+  first_actions p = front-left (action_of t p) keeps (stop p) t (λ i e y here is.
+      let own : member_of (mark_of e) ≡ p = grind (arith, nat_tests) in
+      tells i e here ∙ ap (λ m. nat_lt i (stop m)) own)
+
+  -- and what comes next is a note
+  then_note : (p : ℕ) (y : Action N) (ys : List (Action N)) → filter_map (action_of t p) (drop (stop p) t) ≡ y ∷ ys → IsNote y
+  then_note p y ys is = elim (cases_lt (stop p) (length t)) [
+    | inr past ↦ absurd (let none = rw (drop_all (stop p) t past) at is in cc)
+    | inl below ↦
+        let e = some-at t (stop p) below in
+        let r = ends p e.0 e.1 in
+        let here : slice_get t (stop p) ≡ Some (Receipt p r.0 r.1 r.2) = e.1 ∙ ap Some r.3 in
+        let noted = receipts-noted n t lawful.well_formed (stop p) p r.0 r.1 r.2 here in
+        let first = rw (drop_next t (stop p) (Receipt p r.0 r.1 r.2) here, eqb-self p, noted.1) at is in
+        let same : took noted.0 ≡ y = cc in
+        subst IsNote same tt
+  ]
 
   pub Lawful-kept : Lawful next n starts (filter (λ e. keep (mark_of e)) t)
   Lawful-kept = record {
     well_formed = left-obeys n keep t lawful.well_formed causes;
-    starts_first =
-        rw (starts_stay (length starts) t (omega (arith, ap length lawful.starts_first)) stops_at) lawful.starts_first;
+    starts_first = rw (take-kept keeps (length starts) t starts_stay) lawful.starts_first;
     responds = λ p.
-        let front = front_left (action_of t p) keeps IsNote t (kept_first p) (stops_at p) in
-        rw (same_actions p) (front_responds next p n (next.initial p n) (starts_of p starts) (notes_of (actions_of t p)) _ front.0 front.2 (sym front.1 ∙ lawful.responds p));
+        let split = sym (filter_map-append (action_of t p) (take (stop p) t) (drop (stop p) t)) ∙ ap (filter_map (action_of t p)) (take-append-drop (stop p) t) in
+        rw (same_actions p, first_actions p)
+        (front_responds next p n (next.initial p n) (starts_of p starts) (notes_of (actions_of t p)) _ _ (then_note p) (split ∙ lawful.responds p));
   }
+    where
+      starts_stay : (i : ℕ) (e : Event N) → i < length starts → slice_get t i ≡ Some e → keeps e ≡ true
+      starts_stay i e below here =
+          let m = member_of (mark_of e) in
+          let none = λ (past : stop m ≤ i).
+          let last = some-at t (stop m) (omega (arith, slice_get_within t i e here)) in
+          let r = ends m last.0 last.1 in
+          no_receipt (length starts) t (omega (arith, ap length lawful.starts_first)) (stop m) m r.0 r.1 r.2 (omega arith) (last.1 ∙ ap Some r.3) in
+          tells i e here ∙ grind (arith, nat_tests, none)

@@ -1,12 +1,45 @@
--- What gathered tables have.
-use Rattle.fbl_law.proofs.Common.{◌≡◌, ℕ, zero, suc, ◌<◌, List, [], ◌∷◌, ◌++◌, length, map, inl, inr, arith, refl, get_or, subst, cases_eq}
-use Rattle.fbl_law.proofs.Common.{Contains-append_left, Contains-append_right, Contains, Members, Determinant, Entry, MemberRecord, blank, in_table, in_checkpoint, Includes}
-use Rattle.fbl_law.proofs.Common.{Names, Knowledge, table, checkpoint, IsDown, IsRecorded, gathered, recovery_table, All-append, All-cons, All-contains, All-from_get_or, All-map, All-nil}
-use Rattle.fbl_law.proofs.Common.{Contains-get_or, list_any_at, held-gathered, gathered_all, saved_tables, All, All-head, All-tail, list_any, is_held, ◌||◌, IsHolder, IsSoundKnowledge}
+-- What gathered tables have, and tables in which no determinant stands twice.
+use Rattle.fbl_law.proofs.Common.{◌≡◌, ◌≢◌, ℕ, false, true, List, [], ◌∷◌, ◌++◌, length, map, inl, inr, ◌∙◌, arith, map-append, map-map, cases_Bool, get_or_default, all_pairs_push}
+use Rattle.fbl_law.proofs.Common.{Determinant, Entry, IsOnce, AllPairs-from_IsDistinct, IsDistinct-from_AllPairs, Decides-same_determinant, Knowledge, is_held, gathered, gathered_all}
+use Rattle.fbl_law.proofs.Common.{learned, noted, held_by, recovery_table, saved_tables, MemberRecord, added_new, not_held_learned, IsOnce-none, zero, suc, ◌<◌, refl, get_or, subst}
+use Rattle.fbl_law.proofs.Common.{cases_eq, Contains-append_left, Contains-append_right, Contains, Members, blank, in_table, in_checkpoint, Includes, Names, table, checkpoint, IsDown}
+use Rattle.fbl_law.proofs.Common.{IsRecorded, All-append, All-cons, All-contains, All-from_get_or, All-map, All-nil, Contains-get_or, list_any_at, held-gathered, All, All-head, All-tail}
+use Rattle.fbl_law.proofs.Common.{list_any, ◌||◌, IsHolder, IsSoundKnowledge}
 use Rattle.std.specs.FinSet as set
+use Rattle.fbl_table.specs.Tables.{added}
 use Rattle.fbl_law.proofs.Lists.{Contains-changed, Contains-map, Contains-here}
-use Rattle.fbl_law.proofs.Safe.{down_or_up, up_if_named}
-use Rattle.fbl_law.proofs.Tables.{joined, All-from, Includes-union, gathered-keeps, held-Names, Names-held, named_record}
+use Rattle.fbl_law.proofs.Safe.{held-Names, down_or_up, up_if_named, joined, All-from, Includes-union, gathered-keeps, Names-held, named_record}
+
+-- an entry more of a determinant that the table has not
+once_push : (table : List Entry) (e : Entry) → IsOnce table → is_held table e.det ≡ false → IsOnce (table ++ e ∷ [])
+once_push table e once new =
+    let dets : List Determinant = map (λ (x : Entry). x.det) table in
+    rw (map-append (λ (x : Entry). x.det) table (e ∷ []))
+    (IsDistinct-from_AllPairs Decides-same_determinant (dets ++ e.det ∷ []) (all_pairs_push (λ x y. x ≢ y) dets e.det (AllPairs-from_IsDistinct Decides-same_determinant dets once)
+    (λ k d below same. (let held = held-Names table e.det (Contains-changed (λ (x : Entry). x.det) table e.det (k, below, get_or_default dets k e.det d below ∙ same)) in absurd cc))))
+
+-- an entry of a determinant that the table has changes none
+dets_added : (table : List Entry) (e : Entry) → is_held table e.det ≡ true → map (λ (x : Entry). x.det) (added table e) ≡ map (λ (x : Entry). x.det) table
+unfolding added
+dets_added [] e held = absurd cc
+dets_added (x ∷ table) e held = (let rest = dets_added table e in grind (arith, rest))
+
+once_gathered : (table other : List Entry) → IsOnce table → IsOnce (gathered table other)
+once_gathered table [] once = once
+once_gathered table (e ∷ other) once = once_gathered (added table e) other (elim (cases_Bool (is_held table e.det)) [
+  | inl held ↦ rw (dets_added table e held) once
+  | inr new ↦ rw (added_new table e new) (once_push table e once new)
+])
+
+-- what a member has learned and its own new determinant
+pub once_noted : (p : ℕ) (table carried : List Entry) (own : Determinant) → IsOnce table → is_held table own ≡ false → is_held carried own ≡ false
+    → IsOnce (noted p (learned p table carried) own)
+once_noted p table carried own once new others =
+    once_push (learned p table carried) _ (once_gathered table (map (held_by p) carried) once) (not_held_learned p table carried own new others)
+
+once_gathered_all : (table : List Entry) (ts : List (List Entry)) → IsOnce table → IsOnce (gathered_all table ts)
+once_gathered_all table [] once = once
+once_gathered_all table (t ∷ ts) once = once_gathered_all (gathered table t) ts (once_gathered table t once)
 
 abbrev mark : Members → Entry → Entry
 mark s e = record { det = e.det; known = set.union e.known s }
@@ -24,6 +57,11 @@ module _ (Q : Entry → Type 0) (join : (x e : Entry) → Q x → Q e → x.det 
       gathered_all-keeps (gathered xs t) ts (gathered-keeps Q join xs t all (All-head (λ t. All Q t) t ts each)) (All-tail (λ t. All Q t) t ts each)
 
 module _ {S N : Type 0} where
+  -- what recovery gathers has no determinant twice
+  pub once_recovery_table : (r : Knowledge S N) → IsOnce (recovery_table r)
+  once_recovery_table r =
+      rw map-map (once_gathered_all [] (map (λ (m : MemberRecord S N). m.table) r.members ++ saved_tables r.outside r.down r.checkpoints (length r.checkpoints)) IsOnce-none)
+
   -- the tables of checkpoints are those of the members of the set
   Contains-saved : (outside : S) (s : Members) (checkpoints : List (MemberRecord S N)) (n m : ℕ) → m < n → Includes s m → Contains (saved_tables outside s checkpoints n) (get_or checkpoints m (blank outside)).table
   Contains-saved outside s checkpoints zero m below among = absurd (omega arith)
@@ -103,7 +141,7 @@ module _ {S N : Type 0} {n f : ℕ} {r : Knowledge S N} (sound : IsSoundKnowledg
   recorded_gathered d (inl held) = table_gathered held.0 d held.1.1
   recorded_gathered d (inr saved) =
       elim (down_or_up r.down saved.0) [
-        | inr up ↦ table_gathered saved.0 d ((sound.checkpoints saved.0).table d up saved.1)
+        | inr up ↦ table_gathered saved.0 d (sound.checkpoints saved.0 d up saved.1)
         | inl down ↦
             source_gathered (checkpoint r saved.0).table d
             (Contains-append_right (map (λ (m : MemberRecord S N). m.table) r.members) _ (checkpoint r saved.0).table

@@ -1,20 +1,17 @@
 -- What checkpoints of a group record, and that a checkpoint keeps a group sound.
-use Rattle.fbl_law.proofs.Common.{◌≡◌, ◌≢◌, ℕ, ◌<◌, inl, inr, sym, ◌∙◌, arith, subst, slice_set, cases_eq, length-set, get_or-set_same, get_or-set_other, receipt_of, Next}
-use Rattle.fbl_law.proofs.Common.{itself, blank, IsUp, IsCheckpointed, GroupRecord, member, member_checkpoint, knowledge, IsReplayed, IsSound, IsCheckpoint, MemberRecord, length, IsFold, ap}
-use Rattle.fbl_law.specs.GroupLaws.{GroupCheckpointKeeps, CheckpointIsRecorded}
-use Rattle.fbl_law.proofs.Safe.{up_if_none, IsRecorded-reached}
-use Rattle.fbl_law.proofs.Checkpoint.{checkpoint_keeps}
-use Rattle.fbl_law.proofs.GroupFacts.{received_counted, log_counted}
+use Rattle.fbl_law.proofs.Common.{◌≡◌, ◌≢◌, ℕ, ◌<◌, inl, inr, sym, ◌∙◌, arith, subst, slice_set, cases_eq, length-set, get_or-set_same, get_or-set_other, receipt_of, Next, itself, blank}
+use Rattle.fbl_law.proofs.Common.{IsUp, GroupRecord, member, member_checkpoint, knowledge, IsReplayed, IsSound, IsCheckpoint, MemberRecord, IsFold, ap, IsCheckpointKept, IsThere, Store}
+use Rattle.fbl_law.proofs.Common.{in_checkpoint, in_message, in_table, refl, CheckpointIsRecorded, GroupCheckpointKeeps}
+use Rattle.fbl_law.proofs.Safe.{up_if_none, IsRecorded-reached, never_both, nobody_down_empty}
 use Rattle.fbl_law.proofs.ReplayedRecords.{fold-replayed}
+use Rattle.fbl_law.proofs.Keeping.{IsSoundAt, KeepsKnowledge, checkpoint_kept, sound_after, sound_kept}
 
-module _ (S N : Type 0) where
-  -- the receipts of a member's checkpoint are recorded
-  pub checkpoint_is_recorded : CheckpointIsRecorded S N
-  unfolding CheckpointIsRecorded
-  checkpoint_is_recorded next r m sound below = (
-    (sound.saved m below).within,
-    λ d there to within. IsRecorded-reached r.config.f (knowledge r) sound.causes.closed d (receipt_of d) (rw to within) (itself there),
-  )
+-- the receipts of a member's checkpoint are recorded
+pub checkpoint_is_recorded : (S N : Type 0) → CheckpointIsRecorded S N
+checkpoint_is_recorded S N next r m sound below = (
+  (sound.saved m below).within,
+  λ d there to within. IsRecorded-reached r.config.f (knowledge r) sound.causes.closed d (receipt_of d) (rw to within) (itself there),
+)
 
 -- a member's checkpoint is its record
 module _ {S N : Type 0} (next : Next S N) (old new : GroupRecord S N) (p : ℕ) (s : IsCheckpoint old new p) (sound : IsSound next old) where
@@ -30,13 +27,38 @@ module _ {S N : Type 0} (next : Next S N) (old new : GroupRecord S N) (p : ℕ) 
   other : (m : ℕ) → m ≢ p → member_checkpoint now m ≡ member_checkpoint old m
   other m apart = get_or-set_other old.checkpoints p m (member old p) (blank old.outside) apart
 
-  is_checkpointed : IsCheckpointed (knowledge old) (knowledge now) p
-  is_checkpointed = assumption (
-    ap (λ (x : MemberRecord S N). x.table) own,
-    ap (λ (x : MemberRecord S N). x.received) own ∙ received_counted next old sound p s.below (up p),
-    ap (λ (x : MemberRecord S N). length x.log) own ∙ log_counted next old sound p s.below (up p),
-    other,
-  )
+  keeps : KeepsKnowledge old.config.members old.config.f (knowledge old) (knowledge now)
+  keeps = record {
+    rules = sound.causes.rules;
+    down = nobody_down_empty old.config.f (knowledge now) s.nobody_down;
+    channels = sound.causes.channels;
+    held = λ d m up_m holder. elim holder [ inl holds ↦ holds | inr down ↦ never_both old.down m down.0 (up m) ];
+    left = λ b there recorded. there;
+    paths = λ there path. path;
+  }
+
+  good_table : (m : ℕ) → IsSoundAt old.config.f (knowledge now) (in_table m)
+  good_table m = sound_kept keeps sound.causes (in_table m) (up m) (up m, refl, λ b there owes. (there, owes))
+
+  -- the new checkpoint has its member's table
+  good_own : IsSoundAt old.config.f (knowledge now) (in_checkpoint p)
+  good_own =
+      let good = good_table p in
+      let is : (member_checkpoint now p).table ≡ (member old p).table = ap (λ (x : MemberRecord S N). x.table) own in
+      record { truth = λ e among. good.truth e (rw is at among); events = λ b owes. rw is (good.events b owes.0); named = λ c named. rw is (good.named c (rw is at named)) }
+
+  good : (k : Store N) → IsThere (knowledge now) k → IsSoundAt old.config.f (knowledge now) k
+  good (in_table m) there = good_table m
+  good (in_message v) flies = sound_kept keeps sound.causes (in_message v) flies (flies, refl, λ b there owes. (there, owes))
+  good (in_checkpoint m) there = elim (cases_eq m p) [
+    | inl same ↦ rw same good_own
+    | inr apart ↦
+        let is = other m apart in
+        sound_kept keeps sound.causes (in_checkpoint m) tt (tt, ap (λ (x : MemberRecord S N). x.table) is, λ b there owes. (there, (owes.0, rw is at owes.1)))
+  ]
+
+  kept : (m : ℕ) → IsCheckpointKept (knowledge now) m
+  kept m = elim (cases_eq m p) [ inl same ↦ rw same (λ d up_p named. rw own at named) | inr apart ↦ checkpoint_kept keeps sound.causes m (other m apart) ]
 
   saved_now : (m : ℕ) → m < old.config.members → IsReplayed next old.config.members old.config.starts old.trace m (member_checkpoint now m)
   saved_now m below = elim (cases_eq m p) [
@@ -50,12 +72,10 @@ module _ {S N : Type 0} (next : Next S N) (old new : GroupRecord S N) (p : ℕ) 
   IsSound-checkpoint : IsSound next now
   IsSound-checkpoint = assumption (
     length-set old.checkpoints p (member old p) ∙ sound.checkpoints,
-    checkpoint_keeps old.config.members old.config.f (knowledge old) (knowledge now) p is_checkpointed sound.causes,
+    sound_after keeps sound.causes good kept,
     still,
     saved_now,
   )
 
-module _ (S N : Type 0) where
-  pub group_checkpoint_keeps : GroupCheckpointKeeps S N
-  unfolding GroupCheckpointKeeps
-  group_checkpoint_keeps next old new p s sound = subst (IsSound next) (sym s.saved) (IsSound-checkpoint next old new p s sound)
+pub group_checkpoint_keeps : (S N : Type 0) → GroupCheckpointKeeps S N
+group_checkpoint_keeps S N next old new p s sound = subst (IsSound next) (sym s.saved) (IsSound-checkpoint next old new p s sound)

@@ -1,21 +1,25 @@
 -- A delivery keeps a group sound.
-use Rattle.fbl_law.proofs.Common.{◌≡◌, ◌≢◌, ℕ, suc, ◌+◌, ◌<◌, ◌≤◌, ◌==◌, cond, List, [], ◌∷◌, ◌++◌, length, map, inl, inr, Some, slice_get, refl, sym, ap}
-use Rattle.fbl_law.proofs.Common.{◌∙◌, arith, length-append, length-map, filter_map, cases_eq, map-append, length-set, get_or-set_same, get_or-set_other, filter-append, filter_map-append, All}
-use Rattle.fbl_law.proofs.Common.{Contains-append_cases, Determinant, Event, mark_of, determinant_of, receipt_of, Next, Lawful, note_of, At-front, eqb-self, piggybacked, Message, receipts_of}
-use Rattle.fbl_law.proofs.Common.{MemberRecord, blank, IsInFlight, IsUp, next_determinant, IsDelivered, is_on, between, taken_off, GroupRecord, member, member_checkpoint, channel, marks, knowledge}
-use Rattle.fbl_law.proofs.Common.{receipts, IsFold, IsReplayed, IsSound, receipts_at, step_events, Lawful-deliver, Lawful-begun, note_of-front, IsDelivery, sends_of, messages_from, messages_made}
-use Rattle.fbl_law.proofs.Common.{step_of, receiver, made, delivery_events, SendsWell, nat_tests, IsOnce}
+use Rattle.fbl_law.proofs.Common.{◌≡◌, ◌≢◌, ℕ, suc, ◌+◌, ◌<◌, ◌≤◌, ◌==◌, cond, List, [], ◌∷◌, ◌++◌, length, map, inl, inr, Some, slice_get, refl, sym, ap, ◌∙◌, arith, length-append}
+use Rattle.fbl_law.proofs.Common.{length-map, filter_map, cases_eq, map-append, length-set, get_or-set_same, get_or-set_other, filter-append, filter_map-append, All, Contains-append_cases}
+use Rattle.fbl_law.proofs.Common.{Determinant, Event, mark_of, determinant_of, receipt_of, Next, Lawful, note_of, At-front, eqb-self, piggybacked, Message, receipts_of, MemberRecord}
+use Rattle.fbl_law.proofs.Common.{blank, IsInFlight, IsUp, next_determinant, is_on, between, taken_off, GroupRecord, member, member_checkpoint, channel, marks, knowledge, receipts, IsFold}
+use Rattle.fbl_law.proofs.Common.{IsReplayed, IsSound, receipts_at, step_events, Lawful-deliver, Lawful-begun, note_of-front, IsDelivery, sends_of, messages_from, step_of, receiver, made}
+use Rattle.fbl_law.proofs.Common.{delivery_events, SendsWell, nat_tests, IsOnce, ◌⊎◌, subst, zero, ◌&&◌, Contains, cases_Bool, contains-insert_same, Mark, member_of, send_of, Has}
+use Rattle.fbl_law.proofs.Common.{Precedes, Has-last, Entry, Includes, Store, in_table, in_message, in_checkpoint, owner, IsThere, Owes, send_mark, Names, Holds, IsHolder, IsTrueEntry}
+use Rattle.fbl_law.proofs.Common.{NamesCauses, IsSoundKnowledge, learned, Precedes-front, ◌↔◌, held_by, All-contains, All-push, map-At, Send, WellFormed, fresh}
 use Rattle.std.specs.FinSet as sets
 use Rattle.fbl_base.specs.declared.trace.Event.TheVariants as event
 use Rattle.std.proofs.Common.{append-nil}
-use Rattle.fbl_law.proofs.Lists.{At-seam, Contains-at, Contains-from_filter, At-behind}
-use Rattle.fbl_law.proofs.Safe.{never_both, up_if_none}
-use Rattle.fbl_law.proofs.Channels.{front_may_follow}
-use Rattle.fbl_law.proofs.Delivery.{taken_off-was, marks_made, made_event, delivery_keeps}
+use Rattle.fbl_law.proofs.Lists.{At-seam, Contains-at, Contains-from_filter, At-behind, Contains-none, Contains-there}
+use Rattle.fbl_law.proofs.Safe.{never_both, up_if_none, nobody_down_empty, Includes-insert_cases, Includes-only, Includes-union, Names-table, learned-keeps, All-from}
+use Rattle.fbl_law.proofs.Channels.{front_may_follow, flight_sent, channel-delivered}
 use Rattle.fbl_law.proofs.Notes.{sent-noted}
 use Rattle.fbl_law.proofs.ReplayedRecords.{replayed-kept, replayed-step, fold-replayed, fold-received, replayed-fold}
-use Rattle.fbl_law.proofs.DistinctTables.{once_noted}
+use Rattle.fbl_law.proofs.GatheredTables.{once_noted}
 use Rattle.fbl_law.proofs.GroupFacts.{up_state, received_counted, log_counted, receipt_is_new, new_not_held, new_not_carried}
+use Rattle.fbl_law.proofs.Receipts.{Has-append, disjoint, Precedes-within, Precedes-entered, added-later, length-receipts_at}
+use Rattle.fbl_law.proofs.Keeping.{KeepsKnowledge, IsSoundAt, NamesCauses-kept, IsTrueEntry-kept, sound_kept, sound_passed, checkpoint_kept, sound_after}
+use Rattle.fbl_law.proofs.Logs.{log-short}
 
 module _ {N : Type 0} where
   pub length-step_events : (p before : ℕ) (sends : List (ℕ × N)) → length (step_events p before sends) ≡ length sends
@@ -27,9 +31,29 @@ module _ {N : Type 0} where
   no_receipts p before [] = refl
   no_receipts p before (s ∷ sends) = no_receipts p (before + 1) sends
 
+  -- what is left of a channel was in it
+  pub taken_off-was : (v : Message N) (q p : ℕ) (xs : List (Message N)) (x : Message N) → Contains (taken_off v q p xs) x → Contains xs x
+  taken_off-was v q p [] x h = elim (cases_Bool (v.from == q && v.to == p)) [ inl is ↦ rw is at h | inr is ↦ rw is at h ]
+  taken_off-was v q p (y ∷ xs) x h = elim (cases_Bool (v.from == q && v.to == p)) [ inl is ↦ Contains-there y xs x (rw is at h) | inr is ↦ rw is at h ]
+
+  -- the events of a step are the sends of its messages
+  pub marks_made : (p before : ℕ) (carried : List Entry) (sends : List (ℕ × N)) → map mark_of (step_events p before sends) ≡ map send_mark (messages_from p before carried sends)
+  marks_made p before carried [] = refl
+  marks_made p before carried (s ∷ sends) = ap (λ ms. Send p (before + 1) s.0 ∷ ms) (marks_made p (before + 1) carried sends)
+
+  -- each message made is of the member, carries what it passes on, and is sent by an event
+  pub made_event : (p before : ℕ) (carried : List Entry) (sends : List (ℕ × N)) (x : Message N) → Contains (messages_from p before carried sends) x
+      → (x.from ≡ p) × (x.carried ≡ carried) × ((i : ℕ) × (slice_get (step_events p before sends) i ≡ Some (event.Send x.from x.ssn x.to x.note)))
+  made_event p before carried [] x among = absurd (Contains-none x among)
+  made_event p before carried (s ∷ sends) x (zero, within, here) = (cc, cc, (0, cc))
+  made_event p before carried (s ∷ sends) x (suc k, within, here) = let r = made_event p (before + 1) carried sends x (k, omega arith, here) in (r.0, r.1, (suc r.2.0, r.2.1))
+
 module _ {S N : Type 0} (next : Next S N) (old new : GroupRecord S N) (v : Message N) (well : SendsWell next) (s : IsDelivery next old new v) (sound : IsSound next old) where
   abbrev n : ℕ
   n = old.config.members
+
+  abbrev f : ℕ
+  f = old.config.f
 
   abbrev was : MemberRecord S N
   was = member old v.to
@@ -79,26 +103,163 @@ module _ {S N : Type 0} (next : Next S N) (old new : GroupRecord S N) (v : Messa
   other_now : (m : ℕ) → m ≢ v.to → member new m ≡ member old m
   other_now m other = rw (s.members, s.outside) (get_or-set_other old.members v.to m (receiver next old v) (blank old.outside) other)
 
-  made_same : made next old v ≡ messages_made old.config.f (knowledge old) (knowledge new) v sends
-  made_same = rw counts.1 (ap (λ (x : MemberRecord S N). messages_from v.to (sends_of (marks old) v.to) (piggybacked old.config.f x.table) sends) (sym receiver_now))
-
-  pub is_delivered : IsDelivered n old.config.f (knowledge old) (knowledge new) v sends
-  is_delivered = record {
-    nobody_down = s.nobody_down;
-    down = nobody_down;
-    front = s.front;
-    allowed = allowed;
-    room = omega (arith, room, length-map old.trace mark_of);
-    trace = rw (marks_split, counts.0, marks_made v.to (length was.log) (piggybacked old.config.f (receiver next old v).table) sends, made_same) refl;
-    receiver = ap (λ (x : MemberRecord S N). x.table) receiver_now ∙ rw counts.0 refl;
-    others = λ m other. ap (λ (x : MemberRecord S N). x.table) (other_now m other);
-    channels = λ q p. rw (← made_same) (s.channels q p);
-    checkpoints = s.checkpoints;
-    outside = s.outside;
-  }
-
   abbrev own : Determinant
   own = next_determinant v.to was v.from v.ssn
+
+  -- the marks of the events added: the receipt, and the sends of the messages made
+  abbrev added_marks : List Mark
+  added_marks = receipt_of own ∷ map send_mark (made next old v)
+
+  trace_now : marks new ≡ marks old ++ added_marks
+  trace_now = rw (marks_split, marks_made v.to (length was.log) (piggybacked f (receiver next old v).table) sends) refl
+
+  obeys : WellFormed n (marks old ++ added_marks)
+  obeys = rw trace_now at is_lawful.well_formed
+
+  up : (m : ℕ) → IsUp (knowledge new) m
+  up = up_if_none nobody_down
+
+  -- what the receiver has now
+  receiver_names : (d : Determinant) → Names (member new v.to).table d ↔ (Names was.table d ⊎ (Names v.carried d ⊎ (own ≡ d)))
+  receiver_names d = rw receiver_now (Names-table v.to was.table v.carried own d)
+
+  Names-delivered : (d : Determinant) (m : ℕ) → Names (member old m).table d → Names (member new m).table d
+  Names-delivered d m named =
+      elim (cases_eq m v.to) [
+        | inl same ↦ rw same ((receiver_names d).1 (inl (rw same at named)))
+        | inr other ↦ rw (other_now m other) named
+      ]
+
+  Has-cases : (e : Mark) → Has (marks new) e → Has (marks old) e ⊎ Has added_marks e
+  Has-cases e there = Has-append (marks old) added_marks e (rw trace_now at there)
+
+  -- the events that were added
+  apart : (e : Mark) → Has added_marks e → ¬ (Has (marks old) e)
+  apart = disjoint n (marks old) added_marks obeys
+
+  held : (d : Determinant) (m : ℕ) → IsHolder (knowledge old) d m → Holds (knowledge new) d m
+  held d m holder = elim holder [ inl holds ↦ (up m, Names-delivered d m holds.1) | inr was_down ↦ never_both old.down m was_down.0 (was_up m) ]
+
+  keeps : KeepsKnowledge n f (knowledge old) (knowledge new)
+  keeps = record {
+    rules = is_lawful.well_formed;
+    down = nobody_down_empty f (knowledge new) nobody_down;
+    channels = λ q p up_q up_p.
+        rw (s.channels q p, trace_now) (channel-delivered n (marks old) v own.rsn (made next old v) (channel old q p) q p obeys (sound.causes.channels q p (was_up q) (was_up p)));
+    held = λ d m up_m. held d m;
+    left = λ b there recorded. rw trace_now (there.0, At-front (marks old) added_marks there.0 b there.1);
+    paths = λ there path. Precedes-within (marks old) added_marks apart there (rw trace_now at path);
+  }
+
+  gained : (d : Determinant) → Names v.carried d → Names (member new v.to).table d
+  gained d named = (receiver_names d).1 (inr (inl named))
+
+  own_named : Names (member new v.to).table own
+  own_named = (receiver_names own).1 (inr (inr refl))
+
+  -- the new table's entries are true
+  abbrev IsGood : Entry → Type 0
+  IsGood e = IsTrueEntry (knowledge new) e × Includes e.known v.to
+
+  still : (e : Entry) (m : ℕ) → Includes e.known m → IsTrueEntry (knowledge old) e → IsTrueEntry (knowledge new) e
+  still e m knows fact = IsTrueEntry-kept keeps sound.causes e m (fact.1 m knows) (inl (m, held e.det m (fact.1 m knows))) fact
+
+  good_table : All IsGood (member new v.to).table
+  good_table =
+      rw receiver_now (All-push IsGood (learned v.to was.table v.carried) _ (learned-keeps IsGood
+      (λ x e q r same. let any = Includes-union x.known e.known in ((q.0.0, λ m h. elim ((any m).0 h) [ inl here ↦ q.0.1 m here | inr there ↦ rw same (r.0.1 m there) ]), (any v.to).1 (inl q.1)))
+      v.to was.table v.carried
+      (All-from IsGood was.table (λ x h. let fact = sound.causes.truth (in_table v.to) x (was_up v.to) h in (still x v.to fact.1 fact.0, fact.1)))
+      (All-from (λ e. IsGood (held_by v.to e)) v.carried (λ e h. let fact = sound.causes.truth (in_message v) e flies h in let now = still e v.from fact.1 fact.0 in (
+        (now.0, λ m k. elim (Includes-insert_cases e.known v.to m k) [ inl self ↦ rw self (inl (up v.to, gained e.det (e, h, refl))) | inr was_known ↦ now.1 m was_known ]),
+        contains-insert_same e.known v.to,
+      ))))
+      (((let r = At-behind (marks old) added_marks 0 (receipt_of own) refl in rw trace_now (r.0, r.2)), λ m h. rw (Includes-only v.to m h) (inl (up v.to, own_named))), contains-insert_same sets.empty v.to))
+
+  -- each is the receiver's and receives nothing but the message, and the one receipt is the one delivered
+  abbrev IsOurs : Mark → Type 0
+  IsOurs e = (member_of e ≡ v.to) × ((a : Mark) → send_of e ≡ Some a → send_mark v ≡ a) × ((d : Determinant) → determinant_of e ≡ Some d → own ≡ d)
+
+  ours : (e : Mark) → Has added_marks e → IsOurs e
+  ours e (zero, is) = (let same : receipt_of own ≡ e = cc in subst IsOurs same (refl, λ a h. cc, λ d h. cc))
+  ours e (suc i, is) =
+      let x = map-At send_mark (made next old v) i e is in
+      let from = (made_event v.to (length was.log) _ sends x.0 (Contains-at (made next old v) i x.0 x.1)).0 in
+      subst IsOurs x.2 (from, λ a h. absurd cc, λ d h. absurd cc)
+
+  -- the receiver's table names the causes of what it or the message named the causes of
+  caught : (b : Mark) → Has (marks old) b → NamesCauses f (knowledge old) was.table b ⊎ NamesCauses f (knowledge old) v.carried b → NamesCauses f (knowledge new) (member new v.to).table b
+  caught b there (inl had) d before =
+      elim (NamesCauses-kept keeps sound.causes was.table b there had d before) [ inl named ↦ inl (Names-delivered d v.to named) | inr stable ↦ inr stable ]
+  caught b there (inr came) d before = elim (NamesCauses-kept keeps sound.causes v.carried b there came d before) [ inl named ↦ inl (gained d named) | inr stable ↦ inr stable ]
+
+  -- and of the events added
+  mine : (b : Mark) → Has added_marks b → NamesCauses f (knowledge new) (member new v.to).table b
+  mine b new_one d before =
+      elim (Precedes-entered (marks old) added_marks apart v.to (send_mark v) (λ e h. let is = ours e h in (is.0, is.1)) new_one (rw trace_now at before)) [
+        | inl late ↦ inl (subst (λ (c : Determinant). Names (member new v.to).table c) ((ours (receipt_of d) late).2 d refl) own_named)
+        | inr entered ↦
+            let whole : Precedes (marks new) (receipt_of d) entered.0 = rw trace_now (Precedes-front (marks old) added_marks entered.1) in
+            elim entered.2 [
+              | inl event ↦ caught entered.0 (Has-last entered.1) (inl (sound.causes.closed.events (in_table v.to) entered.0 (was_up v.to) event)) d whole
+              | inr first ↦ caught entered.0 (Has-last entered.1) (inr (sound.causes.closed.events (in_message v) entered.0 flies first)) d whole
+            ]
+      ]
+
+  either : (b : Mark) → (Has (marks old) b → NamesCauses f (knowledge new) (member new v.to).table b) → NamesCauses f (knowledge new) (member new v.to).table b
+  either b of_old d before = elim (Has-cases b (Has-last before)) [ inl there ↦ of_old there d before | inr new_one ↦ mine b new_one d before ]
+
+  good_receiver : IsSoundAt f (knowledge new) (in_table v.to)
+  good_receiver = record {
+    truth = λ e among. All-contains IsGood (member new v.to).table e good_table among;
+    events = λ b at_to. either b (λ there. caught b there (inl (sound.causes.closed.events (in_table v.to) b (was_up v.to) at_to)));
+    named = λ c named. either (receipt_of c) (λ there. elim ((receiver_names c).0 named) [
+      | inl had_it ↦ caught (receipt_of c) there (inl (sound.causes.closed.named (in_table v.to) c (was_up v.to) had_it))
+      | inr (inl carried) ↦ caught (receipt_of c) there (inr (sound.causes.closed.named (in_message v) c flies carried))
+      | inr (inr same) ↦ mine (receipt_of c) (0, ap (λ (x : Determinant). Some (receipt_of x)) same)
+    ]);
+  }
+
+  -- the trace counts no fewer receipts and sends than a checkpoint has
+  counted : (m : ℕ) → m < n → ((member_checkpoint old m).received ≤ receipts_of (marks old) m) × (length (member_checkpoint old m).log ≤ sends_of (marks old) m)
+  counted m below = (omega (arith, (sound.saved m below).within, length-receipts_at (marks old) m), log-short sound.lawful (sound.saved m below))
+
+  -- no other store owes the causes of an event that was added
+  still_owes : (k : Store N) → IsThere (knowledge old) k → ¬ (k ≡ in_table v.to) → (b : Mark) → Has (marks new) b → Owes (knowledge old) k b → Has (marks old) b × Owes (knowledge old) k b
+  still_owes k there other b has owes = elim (Has-cases b has) [ inl was_there ↦ (was_there, owes) | inr fresh ↦ absurd (none k there other b fresh owes) ] where
+    none : (k : Store N) → IsThere (knowledge old) k → ¬ (k ≡ in_table v.to) → (b : Mark) → Has added_marks b → ¬ (Owes (knowledge old) k b)
+    none (in_table m) there other b fresh at_m = other (ap in_table (sym at_m ∙ (ours b fresh).0))
+    none (in_message x) there other b fresh is = apart b fresh (subst (Has (marks old)) is (flight_sent sound.causes x there))
+    none (in_checkpoint m) there other b fresh reached = added-later n (knowledge old) added_marks obeys counted b fresh (rw reached.0 reached.1)
+
+  -- a message in flight was in its channel, or is one of those made
+  in_flight_cases : (x : Message N) → IsInFlight (knowledge new) x → IsInFlight (knowledge old) x ⊎ Contains (made next old v) x
+  in_flight_cases x flying =
+      elim (Contains-append_cases (taken_off v x.from x.to (channel old x.from x.to)) (between x.from x.to (made next old v)) x (rw (s.channels x.from x.to) at flying)) [
+        | inl left ↦ inl (taken_off-was v x.from x.to (channel old x.from x.to) x left)
+        | inr new_one ↦ inr (Contains-from_filter (is_on x.from x.to) (made next old v) x new_one)
+      ]
+
+  good : (k : Store N) → IsThere (knowledge new) k → IsSoundAt f (knowledge new) k
+  good (in_table m) there = elim (cases_eq m v.to) [
+    | inl same ↦ rw same good_receiver
+    | inr other ↦
+        let is = ap (λ (x : MemberRecord S N). x.table) (other_now m other) in
+        sound_kept keeps sound.causes (in_table m) there (was_up m, is, still_owes (in_table m) (was_up m) (λ same. other (ap owner same)))
+  ]
+  good (in_message x) flying = elim (in_flight_cases x flying) [
+    | inl flew ↦ sound_kept keeps sound.causes (in_message x) flying (flew, refl, still_owes (in_message x) flew (λ same. cc))
+    | inr new_one ↦
+        let is = made_event v.to (length was.log) _ sends x new_one in
+        let carried : x.carried ≡ piggybacked f (member new v.to).table = rw receiver_now is.1 in
+        sound_passed f (knowledge new) x (rw is.0 good_receiver) (rw is.0 carried)
+  ]
+  good (in_checkpoint m) there =
+      let kept = λ (b : Mark) (has : Has (marks new) b) (owes : Owes (knowledge new) (in_checkpoint m) b). still_owes (in_checkpoint m) tt (λ same. cc) b has (rw (s.checkpoints, s.outside) at owes) in
+      sound_kept keeps sound.causes (in_checkpoint m) tt (tt, rw (s.checkpoints, s.outside) refl, kept)
+
+  knows : IsSoundKnowledge n f (knowledge new)
+  knows = sound_after keeps sound.causes good (λ m. checkpoint_kept keeps sound.causes m (rw (s.checkpoints, s.outside) refl))
 
   receipts_now : receipts (marks new) ≡ receipts (marks old) ++ own ∷ []
   receipts_now = rw (marks_split, filter_map-append determinant_of (marks old) (map mark_of added), no_receipts v.to (length was.log) sends) refl
@@ -138,13 +299,10 @@ module _ {S N : Type 0} (next : Next S N) (old new : GroupRecord S N) (v : Messa
 
   notes_kept : (x : Message N) → IsInFlight (knowledge new) x → note_of new.trace x.from x.ssn ≡ Some x.note
   notes_kept x flying =
-      elim (Contains-append_cases (taken_off v x.from x.to (channel old x.from x.to)) (between x.from x.to (made next old v)) x (rw (s.channels x.from x.to) at flying)) [
-        | inl left ↦
-            let of_old = taken_off-was v x.from x.to (channel old x.from x.to) x left in
-            rw s.trace (note_of-front old.trace added x.from x.ssn x.note (sound.notes x of_old))
-        | inr fresh ↦
-            let among = Contains-from_filter (is_on x.from x.to) (made next old v) x fresh in
-            let sent = made_event v.to (length was.log) (piggybacked old.config.f (receiver next old v).table) sends x among in
+      elim (in_flight_cases x flying) [
+        | inl flew ↦ rw s.trace (note_of-front old.trace added x.from x.ssn x.note (sound.notes x flew))
+        | inr new_one ↦
+            let sent = made_event v.to (length was.log) _ sends x new_one in
             let place = At-behind old.trace added (suc sent.2.0) (event.Send x.from x.ssn x.to x.note) sent.2.1 in
             sent-noted n new.trace is_lawful.well_formed place.0 x.from x.ssn x.to x.note (rw s.trace place.2)
       ]
@@ -158,7 +316,7 @@ module _ {S N : Type 0} (next : Next S N) (old new : GroupRecord S N) (v : Messa
     down = λ q down. never_both new.down q down (up_if_none nobody_down q);
     lawful = rw s.config is_lawful;
     room = rw s.config s.room;
-    causes = rw s.config (delivery_keeps n old.config.f (knowledge old) (knowledge new) v sends is_delivered sound.causes);
+    causes = rw s.config knows;
     folds = λ m below up.
         let within : m < n = (rw s.config at below) in
         elim (cases_eq m v.to) [ inl same ↦ rw same own_fold | inr other ↦ other_fold m within other ];

@@ -1,56 +1,121 @@
--- What stays in a recovery: what has its causes recorded; what is left is lawful, the group stays sound, and which receipts are undone.
-use Rattle.fbl_law.proofs.Common.{◌≡◌, ℕ, ◌<◌, ◌≤◌, inl, inr, List, length, map, Some, refl, ap, ◌∙◌, arith, ◌↔◌, Bool, true, subst, sym, Determinant, Event, mark_of}
-use Rattle.fbl_law.proofs.Common.{receipt_of, Has, itself, Next, Lawful, note_of, Message, MemberRecord, IsInFlight, IsUp, Knowledge, IsSoundKnowledge, Stays, IsCut, IsEventCut, IsRecovered}
-use Rattle.fbl_law.proofs.Common.{GroupRecord, member, member_checkpoint, marks, knowledge, receipts_at, IsFold, IsReplayed, IsSound, IsRecovery, length-left, Mark, one_place, ◌+◌, not, slice_get}
-use Rattle.fbl_law.proofs.Common.{filter, determinant_of, receipts, is_receipt, recovered_trace, ◌-◌, nat_le, nat_tests, sends_of, receipts_of, Progress, sent-number, IsDown, stays_by, Send}
-use Rattle.fbl_law.proofs.Common.{Receipt, CutIsLawful, StaysIsRecorded, is_recorded, CutIsOne, length-filter_both, same_from_decides}
-use Rattle.fbl_law.specs.RecoveryLaws.{GroupRecoveryGainsHolders, HoldersGainTheDown, RecoveryLeavesRecorded, RecoveryUndoesLost}
+-- What stays in a recovery, the events before their member's first lost receipt; what is left is lawful, the group stays sound, and which
+-- receipts are undone.
+use Rattle.fbl_law.proofs.Common.{◌≡◌, ℕ, ◌<◌, ◌≤◌, inl, inr, List, length, map, Some, refl, ap, ◌∙◌, arith, true, sym, Determinant, Event, mark_of, receipt_of, Has, itself, Next, Lawful}
+use Rattle.fbl_law.proofs.Common.{note_of, Message, MemberRecord, IsInFlight, IsUp, Stays, IsEventCut, GroupRecord, member, member_checkpoint, marks, knowledge, receipts_at, IsFold}
+use Rattle.fbl_law.proofs.Common.{IsReplayed, IsSound, IsRecovery, length-left, Mark, ◌+◌, not, slice_get, filter, determinant_of, receipts, is_receipt, recovered_trace, nat_tests}
+use Rattle.fbl_law.proofs.Common.{sends_of, Progress, IsDown, stays_by, Send, Receipt, is_recorded, length-filter_both, same_from_decides, At, Bool, Entry, UpTo, before_lost, cases_eq}
+use Rattle.fbl_law.proofs.Common.{cond, count_by, eqb-self, fails_before_first, false, false≢true, get_or_from_slice_get, is_held, is_lost, is_receipt_of, is_send_of, member_of, nat_lt}
+use Rattle.fbl_law.proofs.Common.{passes_at_first, position_or_len, recovery_table, slice_get_within, stays_in, GainsHolders, GainsTheDown, LeavesRecorded, OfRecovery}
+use Rattle.std.specs.FinSet as set
+use Rattle.fbl_base.specs.declared.trace.Event.TheVariants as event
 use Rattle.fbl_law.proofs.Logs.{log-length}
-use Rattle.fbl_law.proofs.Safe.{down_or_up, down_or_both_up, never_both, up_if_none, IsRecorded-reached}
-use Rattle.fbl_law.proofs.DistinctTables.{once_recovery_table}
-use Rattle.fbl_law.proofs.Recovery.{recovery_keeps, cut-recorded, cut_is_recorded, recovery_gains_holders, cut-causes, cut-was, cut-left, cut-obeys, cut-keeps_up, recorded-cut, Stays-recorded}
-use Rattle.fbl_law.proofs.Recovery.{recorded_before}
+use Rattle.fbl_law.proofs.Safe.{down_or_up, down_or_both_up, never_both, up_if_none, IsRecorded-reached, Names-held, held-Names}
+use Rattle.fbl_law.proofs.GatheredTables.{once_recovery_table, gathered_recorded, recorded_gathered}
+use Rattle.fbl_law.proofs.Recovery.{recovery_keeps, cut-recorded, cut_is_recorded, recovery_gains_holders, cut-causes, cut-was, cut-left, cut-obeys, cut-keeps_up, recorded-cut, cut-marks}
 use Rattle.fbl_law.proofs.ReplayedRecords.{all-taken, replayed-kept, fold-replayed, replayed-fold}
-use Rattle.fbl_law.proofs.Receipts.{at-most, Has-receipts_at, length-receipts_at}
-use Rattle.fbl_law.proofs.Numbered.{receipt-number, receipt-there, send-there}
+use Rattle.fbl_law.proofs.Receipts.{at-most, length-receipts_at, receipt-number}
 use Rattle.fbl_law.proofs.GroupFacts.{received_counted}
-use Rattle.fbl_law.proofs.CutInOnePass.{recovered_trace-cut}
-use Rattle.fbl_law.proofs.CutLawful.{marks-filter, note-stays, note-was, KeepsResponses, Lawful-kept}
+use Rattle.fbl_law.proofs.CutLawful.{note-stays, note-was, Lawful-kept, count-front, marks-filter}
 use Rattle.fbl_law.proofs.GroupStrike.{recorded_test}
-use Rattle.fbl_law.proofs.Lists.{filter-agree, filter_map-after}
-use Rattle.fbl_law.proofs.Notes.{one-send, mark-at}
+use Rattle.fbl_law.proofs.Lists.{filter-agree, filter_map-after, some-at}
+use Rattle.fbl_law.proofs.Notes.{mark-at, number-front}
 
-module _ {S N : Type 0} (n f : ℕ) (r : Knowledge S N) (sound : IsSoundKnowledge n f r) (keep : Mark → Bool) (tells : (e : Mark) → Has r.trace e → (keep e ≡ true) ↔ Stays r e) where
-  cut_responses : KeepsResponses keep r.trace
-  cut_responses j q k to here all = (tells (Send q k to) (j, here)).1 (λ down c own up_to. elim up_to [
-    | inl same ↦ absurd cc
-    | inr earlier ↦
-        let place = one_place n r.trace sound.rules (Send q k to) j earlier.1 here earlier.4 in
-        let kept = all earlier.0 c (omega (arith, earlier.2, place)) earlier.3 own in
-        (tells (receipt_of c) (earlier.0, earlier.3)).0 kept (rw own down) c refl (inl refl)
-  ])
+-- the events before their member's first lost receipt
+module _ {S N : Type 0} (next : Next S N) (old : GroupRecord S N) (sound : IsSound next old) where
+  abbrev table : List Entry
+  table = recovery_table (knowledge old)
 
-module _ {N : Type 0} where
-  -- the marks of a cut are a cut of the marks
-  abbrev pub marks-cut : {Kept : Mark → Type 0} (old : List (Event N)) {new : List (Event N)} → IsEventCut Kept old new → IsCut Kept (map mark_of old) (map mark_of new)
-  marks-cut old cut = (cut.0, ap (map mark_of) cut.1 ∙ marks-filter cut.0 old, cut.2)
+  abbrev keep : Mark → Bool
+  keep e = stays_in old e
 
-module _ {S N : Type 0} where
-  pub cut_is_lawful : CutIsLawful S N
-  cut_is_lawful next n f starts r old new sound is cut lawful =
-      let marks : IsCut (Stays r) r.trace (map mark_of new) = subst (λ (t : List Mark). IsCut (Stays r) t (map mark_of new)) (sym is) (marks-cut old cut) in
-      (rw cut.1 (Lawful-kept next n starts cut.0 old lawful (rw is at (cut-causes sound marks)) (rw is at (cut_responses n f r sound cut.0 marks.2))), marks)
+  -- at which place the member has its first lost receipt
+  abbrev first : ℕ → ℕ
+  first m = position_or_len (is_lost table m) (marks old)
 
-  pub stays_is_recorded : StaysIsRecorded S N
-  stays_is_recorded n f r sound e there = (λ stays c before. recorded_before n f r sound.rules sound.closed c stays before, Stays-recorded r e there)
+  -- of a member that is down exactly the events before it stay
+  keep-at : (i : ℕ) (e : Mark) → At (marks old) i e → IsDown (knowledge old) (member_of e) → keep e ≡ nat_lt i (first (member_of e))
+  keep-at i (Send q k p) here down =
+      rw down (number-front (is_send_of q) (marks old) i (first q) k (Send q k p) here (eqb-self q) (sound.lawful.well_formed i (Send q k p) here).3)
+  keep-at i (Receipt p r q k) here down =
+      rw down (number-front (is_receipt_of p) (marks old) i (first p) r (Receipt p r q k) here (eqb-self p) (sound.lawful.well_formed i (Receipt p r q k) here).3)
+
+  keep-up : (e : Mark) → IsUp (knowledge old) (member_of e) → keep e ≡ true
+  keep-up (Send q k p) up = rw up refl
+  keep-up (Receipt p r q k) up = rw up refl
+
+  keep-stays : (e : Mark) → Has (marks old) e → keep e ≡ true → Stays (knowledge old) e
+  keep-stays e has kept down c at_e up_to =
+      gathered_recorded sound.causes c (Names-held table c (held up_to)) where
+        before : (i j : ℕ) → i ≤ j → At (marks old) i (receipt_of c) → At (marks old) j e → is_held table c ≡ true
+        before i j below at_c there =
+            let none = fails_before_first (is_lost table (member_of e)) (marks old) i (receipt_of c) (grind (arith, nat_tests, keep-at j e there down)) in
+            grind (arith, nat_tests, rw (get_or_from_slice_get (marks old) i (receipt_of c) (receipt_of c) at_c) at none)
+
+        held : UpTo (marks old) (receipt_of c) e → is_held table c ≡ true
+        held (inl same) = before has.0 has.0 (omega arith) (rw same has.1) has.1
+        held (inr earlier) = before earlier.0 earlier.1 (omega (arith, earlier.2)) earlier.3 earlier.4
+
+  -- the event at the place is a lost receipt
+  first-lost : (m : ℕ) (e : Mark) → At (marks old) (first m) e → (d : Determinant) × (e ≡ receipt_of d) × (d.to ≡ m) × (is_held table d ≡ false)
+  first-lost m e here =
+      lost_one e (rw (get_or_from_slice_get (marks old) (first m) e e here) at (passes_at_first (is_lost table m) (marks old) e (slice_get_within (marks old) (first m) e here))) where
+        lost_one : (e : Mark) → is_lost table m e ≡ true → (d : Determinant) × (e ≡ receipt_of d) × (d.to ≡ m) × (is_held table d ≡ false)
+        lost_one (Send q k p) is = absurd cc
+        lost_one (Receipt p r q k) is = (record { from = q; ssn = k; to = p; rsn = r }, refl, grind (arith, nat_tests), grind arith)
+
+  stays-keep : (e : Mark) → Has (marks old) e → Stays (knowledge old) e → keep e ≡ true
+  stays-keep e has stays = elim (down_or_up old.down (member_of e)) [
+    | inr up ↦ keep-up e up
+    | inl down ↦
+        let none = λ (past : first (member_of e) ≤ has.0).
+        let there = some-at (marks old) (first (member_of e)) (omega (arith, slice_get_within (marks old) has.0 e has.1)) in
+        let lost = first-lost (member_of e) there.0 there.1 in
+        let here : At (marks old) (first (member_of e)) (receipt_of lost.0) = there.1 ∙ ap Some lost.1 in
+        let up_to : UpTo (marks old) (receipt_of lost.0) e = elim (cases_eq (first (member_of e)) has.0) [
+          | inl same ↦ inl (let h = has.1 in cc)
+          | inr other ↦ inr (first (member_of e), has.0, omega arith, here, has.1)
+        ] in
+        let is = held-Names table lost.0 (recorded_gathered sound.causes lost.0 (stays down lost.0 lost.2 up_to)) in
+        false≢true (sym lost.3 ∙ is) in
+        keep-at has.0 e has.1 down ∙ grind (arith, nat_tests, none)
+  ]
+
+  -- they are the cut
+  pub recovered_trace-cut : IsEventCut (Stays (knowledge old)) old.trace (recovered_trace old)
+  recovered_trace-cut = (keep, refl, λ e has. (keep-stays e has, stays-keep e has))
+
+  -- where each member stops
+  abbrev stop : ℕ → ℕ
+  stop m = cond (set.contains old.down m) (first m) (length old.trace)
+
+  pub recovered_lawful : Lawful next old.config.members old.config.starts (recovered_trace old)
+  unfolding recovered_trace-cut
+  recovered_lawful = Lawful-kept next old.config.members old.config.starts keep old.trace sound.lawful (cut-causes sound recovered_trace-cut) stop tells ends where
+    tells : (i : ℕ) (e : Event N) → slice_get old.trace i ≡ Some e → keep (mark_of e) ≡ nat_lt i (stop (member_of (mark_of e)))
+    tells i e here = elim (down_or_up old.down (member_of (mark_of e))) [
+      | inl down ↦ rw down (keep-at i (mark_of e) (mark-at old.trace i e here) down)
+      | inr up ↦ rw up (keep-up (mark_of e) up ∙ grind (arith, nat_tests, slice_get_within old.trace i e here))
+    ]
+
+    receipt_is : (e : Event N) (d : Determinant) → mark_of e ≡ receipt_of d → e ≡ event.Receipt d.to d.rsn d.from d.ssn
+    receipt_is e d is = grind arith
+
+    ends : (p : ℕ) (e : Event N) → slice_get old.trace (stop p) ≡ Some e → (r : ℕ) × (q : ℕ) × (k : ℕ) × (e ≡ event.Receipt p r q k)
+    ends p e here = elim (down_or_up old.down p) [
+      | inr up ↦ absurd (omega (arith, rw up at (slice_get_within old.trace (stop p) e here)))
+      | inl down ↦
+          let lost = first-lost p (mark_of e) (mark-at old.trace (first p) e (rw down at here)) in
+          (lost.0.rsn, lost.0.from, lost.0.ssn, rw lost.2 at (receipt_is e lost.0 lost.1))
+    ]
 
 -- a cut of a sound group's trace
 module _ {S N : Type 0} {next : Next S N} {old : GroupRecord S N} (sound : IsSound next old) {new : List (Event N)} (cut : IsEventCut (Stays (knowledge old)) old.trace new) where
-  abbrev of_marks : IsCut (Stays (knowledge old)) (marks old) (map mark_of new)
-  of_marks = marks-cut old.trace cut
-
-  pub cut-lawful : Lawful next old.config.members old.config.starts new × IsCut (Stays (knowledge old)) (marks old) (map mark_of new)
-  cut-lawful = cut_is_lawful next old.config.members old.config.f old.config.starts (knowledge old) old.trace new sound.causes refl cut sound.lawful
+  -- two cuts are the same
+  pub cut-one : new ≡ recovered_trace old
+  unfolding recovered_trace-cut
+  cut-one = cut.1 ∙ filter-agree (λ e. cut.0 (mark_of e)) (λ e. stays_in old (mark_of e)) old.trace (λ i e here.
+      let there : Has (marks old) (mark_of e) = (i, mark-at old.trace i e here) in
+      same_from_decides (cut.0 (mark_of e)) (stays_in old (mark_of e)) (cut.2 (mark_of e) there) ((recovered_trace-cut next old sound).2 (mark_of e) there))
 
   pub cut-shorter : length new ≤ length old.trace
   cut-shorter = rw cut.1 (length-left (λ e. cut.0 (mark_of e)) old.trace)
@@ -59,13 +124,13 @@ module _ {S N : Type 0} {next : Next S N} {old : GroupRecord S N} (sound : IsSou
   replay-survives : (m : ℕ) (x : MemberRecord S N) → ((d : Determinant) → Has (marks old) (receipt_of d) → d.to ≡ m → d.rsn ≤ x.received → Has (map mark_of new) (receipt_of d))
       → IsReplayed next old.config.members old.config.starts old.trace m x → IsReplayed next old.config.members old.config.starts new m x
   replay-survives m x left =
-      replayed-kept next old.config.members old.config.starts old.trace new m x sound.lawful.well_formed (cut-obeys sound.causes of_marks)
-      (λ q k x y was now. let kept = note-was old.config.members cut.0 old.trace sound.lawful.well_formed (cut-causes sound.causes of_marks) q k y (rw cut.1 at now) in cc) left
+      replayed-kept next old.config.members old.config.starts old.trace new m x sound.lawful.well_formed (cut-obeys sound cut)
+      (λ q k x y was now. let kept = note-was old.config.members cut.0 old.trace sound.lawful.well_formed (cut-causes sound cut) q k y (rw cut.1 at now) in cc) left
 
   -- a checkpoint's receipts are recorded, so they stay
   pub checkpoint-survives : (m : ℕ) → m < old.config.members → IsReplayed next old.config.members old.config.starts new m (member_checkpoint old m)
   checkpoint-survives m below = replay-survives m (member_checkpoint old m)
-      (λ d there to within. recorded-cut sound.causes of_marks d (IsRecorded-reached old.config.f (knowledge old) sound.causes.closed d (receipt_of d) (rw to within) (itself there)))
+      (λ d there to within. recorded-cut sound cut d (IsRecorded-reached old.config.f (knowledge old) sound.causes.closed d (receipt_of d) (rw to within) (itself there)))
       (sound.saved m below)
 
   -- a survivor's receipts all stay
@@ -73,10 +138,10 @@ module _ {S N : Type 0} {next : Next S N} {old : GroupRecord S N} (sound : IsSou
       → IsReplayed next old.config.members old.config.starts new m (member old m) × ((member old m).received ≡ length (receipts_at (map mark_of new) m))
   survivor-replays m below up =
       let replays = replay-survives m (member old m)
-      (λ d there to within. cut-left sound.causes of_marks (receipt_of d) there (cut-keeps_up sound.causes of_marks m up (receipt_of d) there to))
+      (λ d there to within. cut-left sound cut (receipt_of d) there (cut-keeps_up sound cut m up (receipt_of d) there to))
       (fold-replayed sound.lawful.well_formed (sound.folds m below up)) in
-      let few = at-most old.config.members (map mark_of new) m (member old m).received (cut-obeys sound.causes of_marks) (λ d there to.
-      let number = receipt-number old.config.members (marks old) d.to d.rsn d.from d.ssn sound.lawful.well_formed (cut-was sound.causes of_marks (receipt_of d) there).0 in
+      let few = at-most old.config.members (map mark_of new) m (member old m).received (cut-obeys sound cut) (λ d there to.
+      let number = receipt-number old.config.members (marks old) d.to d.rsn d.from d.ssn sound.lawful.well_formed (cut-was sound cut (receipt_of d) there).0 in
       omega (arith, rw to at number, received_counted next old sound m below up)) in
       (replays, omega (arith, replays.within, few))
 
@@ -87,7 +152,7 @@ module _ {S N : Type 0} {next : Next S N} {old : GroupRecord S N} (sound : IsSou
     | inl down ↦ rebuilt m below down
     | inr up ↦
         let all = survivor-replays m below up in
-        replayed-fold (rw (config, trace) (cut-obeys sound.causes of_marks)) (rw (config, trace, survivors m up) all.0) (rw (trace, survivors m up) all.1)
+        replayed-fold (rw (config, trace) (cut-obeys sound cut)) (rw (config, trace, survivors m up) all.0) (rw (trace, survivors m up) all.1)
   ]
 
   kept-recorded : (i : ℕ) (e : Mark) (d : Determinant) → slice_get (marks old) i ≡ Some e → determinant_of e ≡ Some d → cut.0 e ≡ is_recorded old d
@@ -95,82 +160,57 @@ module _ {S N : Type 0} {next : Next S N} {old : GroupRecord S N} (sound : IsSou
       let receipt = is_receipt e d is in
       let there : Has (marks old) (receipt_of d) = (i, here ∙ ap Some receipt) in
       ap cut.0 receipt ∙ same_from_decides (cut.0 (receipt_of d)) (is_recorded old d) (
-        λ kept. cut-recorded sound.causes of_marks d (cut-left sound.causes of_marks (receipt_of d) there kept),
-        λ recorded. (cut-was sound.causes of_marks (receipt_of d) (recorded-cut sound.causes of_marks d recorded)).1,
+        λ kept. cut-recorded sound cut d (cut-left sound cut (receipt_of d) there kept),
+        λ recorded. (cut-was sound cut (receipt_of d) (recorded-cut sound cut d recorded)).1,
       ) (recorded_test next old d sound)
 
   -- the receipts of the cut are those that are recorded
   pub cut-receipts : receipts (map mark_of new) ≡ filter (is_recorded old) (receipts (marks old))
-  cut-receipts = ap receipts of_marks.1 ∙ filter_map-after cut.0 (is_recorded old) determinant_of (marks old) kept-recorded
+  cut-receipts = ap receipts (cut-marks sound cut) ∙ filter_map-after cut.0 (is_recorded old) determinant_of (marks old) kept-recorded
 
   -- so the receipts that the trace loses are those that aren't
   pub cut-undone : length (receipts (map mark_of new)) + length (filter (λ d. not (is_recorded old d)) (receipts (marks old))) ≡ length (receipts (marks old))
   cut-undone = rw cut-receipts (length-filter_both (is_recorded old) (λ d. not (is_recorded old d)) (λ d. refl) (receipts (marks old)))
 
-  -- the cut, by how far each member has come once all is replayed
-  module _ (work : ℕ → MemberRecord S N) (replays : (p : ℕ) → p < old.config.members → IsDown (knowledge old) p → IsReplayed next old.config.members old.config.starts new p (work p))
-      (all : (p : ℕ) → p < old.config.members → IsDown (knowledge old) p → (work p).received ≡ length (receipts_at (map mark_of new) p)) where
-    -- the log of each member that was down has its sends in the cut
-    log-sent : (p : ℕ) → p < old.config.members → IsDown (knowledge old) p → length (work p).log ≡ sends_of (map mark_of new) p
-    log-sent p below down =
-        let whole = (all-taken old.config.members new p (work p).received (cut-obeys sound.causes of_marks) (all p below down)).0 in
-        ap (λ (x : Progress S N). length x.log) (replays p below down).progress ∙ rw whole (log-length cut-lawful.0 p)
+-- the trace that recovery leaves, by how far each member has come once all is replayed
+module _ {S N : Type 0} {next : Next S N} {old : GroupRecord S N} (sound : IsSound next old) (work : ℕ → MemberRecord S N)
+    (replays : (p : ℕ) → p < old.config.members → IsDown (knowledge old) p → IsReplayed next old.config.members old.config.starts (recovered_trace old) p (work p))
+    (all : (p : ℕ) → p < old.config.members → IsDown (knowledge old) p → (work p).received ≡ length (receipts_at (map mark_of (recovered_trace old)) p)) where
+  abbrev lawful : Lawful next old.config.members old.config.starts (recovered_trace old)
+  lawful = recovered_lawful next old sound
 
-    send-left : (q k to : ℕ) → Has (marks old) (Send q k to) → k ≤ sends_of (map mark_of new) q → cut.0 (Send q k to) ≡ true
-    send-left q k to there within =
-        let number = (sound.lawful.well_formed there.0 (Send q k to) there.1).3 in
-        let some = send-there old.config.members (map mark_of new) q k (cut-obeys sound.causes of_marks) (omega (arith, number)) within in
-        let left = cut-was sound.causes of_marks (Send q k some.0) some.1 in
-        rw (one-send old.config.members (marks old) sound.lawful.well_formed q k some.0 to left.0 there) at left.1
+  -- the log of each member that was down has its sends in the cut
+  log-sent : (p : ℕ) → p < old.config.members → IsDown (knowledge old) p → length (work p).log ≡ sends_of (map mark_of (recovered_trace old)) p
+  log-sent p below down =
+      let whole = (all-taken old.config.members (recovered_trace old) p (work p).received lawful.well_formed (all p below down)).0 in
+      ap (λ (x : Progress S N). length x.log) (replays p below down).progress ∙ rw whole (log-length lawful p)
 
-    receipt-left : (p r q k : ℕ) → Has (marks old) (Receipt p r q k) → r ≤ receipts_of (map mark_of new) p → cut.0 (Receipt p r q k) ≡ true
-    receipt-left p r q k there within =
-        let number = (sound.lawful.well_formed there.0 (Receipt p r q k) there.1).3 in
-        let some = receipt-there old.config.members (map mark_of new) p r (cut-obeys sound.causes of_marks) (omega (arith, number)) within in
-        let left = cut-was sound.causes of_marks (Receipt p r some.0 some.1) some.2 in
-        let c : Determinant = record { from = some.0; ssn = some.1; to = p; rsn = r } in
-        let d : Determinant = record { from = q; ssn = k; to = p; rsn = r } in
-        let first = Has-receipts_at old.config.members (marks old) p (r - 1) d sound.lawful.well_formed there refl (omega (arith, number)) in
-        let second = Has-receipts_at old.config.members (marks old) p (r - 1) c sound.lawful.well_formed left.0 refl (omega (arith, number)) in
-        let same : c ≡ d = cc in
-        subst (λ (x : Determinant). cut.0 (receipt_of x) ≡ true) same left.1
+  -- and those are the ones before its first lost receipt
+  left-before : (p : ℕ) (kind : Mark → Bool) → IsDown (knowledge old) p → ((e : Mark) → kind e ≡ true → member_of e ≡ p)
+      → count_by kind (map mark_of (recovered_trace old)) ≡ count_by kind (before_lost (recovery_table (knowledge old)) (marks old) p)
+  left-before p kind down own = rw (marks-filter (λ e. stays_in old e) old.trace) (count-front (λ e. stays_in old e) kind _ (marks old) (λ i e here is.
+      rw (own e is) at (keep-at next old sound i e here (rw (own e is) down))))
 
-    -- an event is kept exactly where its number is at most a count, if it is left so and its number in the cut is
-    counted : (e : Mark) (k count : ℕ) → Has (marks old) e → (k ≤ count → cut.0 e ≡ true) → (Has (map mark_of new) e → k ≤ count) → nat_le k count ≡ cut.0 e
-    counted e k count there left number =
-        same_from_decides (nat_le k count) (cut.0 e) (λ is. grind (arith, nat_tests), λ within. grind (arith, nat_tests)) (λ kept. number (cut-left sound.causes of_marks e there kept), left)
+  -- the events that stay by the members' counts are the cut
+  pub stays_by-cut : filter (λ e. stays_by old.down work (mark_of e)) old.trace ≡ recovered_trace old
+  stays_by-cut = filter-agree (λ e. stays_by old.down work (mark_of e)) (λ e. stays_in old (mark_of e)) old.trace (λ i e here. agrees (mark_of e)) where
+    is-sender : (q : ℕ) (e : Mark) → is_send_of q e ≡ true → member_of e ≡ q
+    is-sender q e is = grind (arith, nat_tests)
 
-    agrees : (e : Mark) → Has (marks old) e → stays_by old.down work e ≡ cut.0 e
-    agrees (Send q k to) there =
-        let up = λ (up : IsUp (knowledge old) q). cut-keeps_up sound.causes of_marks q up (Send q k to) there refl in
-        let number = sent-number old.config.members (map mark_of new) (cut-obeys sound.causes of_marks) q k to in
-        grind (arith, up, log-sent q, sound.down q, counted (Send q k to) k (sends_of (map mark_of new) q) there (send-left q k to there) number)
-    agrees (Receipt p r q k) there =
-        let up = λ (up : IsUp (knowledge old) p). cut-keeps_up sound.causes of_marks p up (Receipt p r q k) there refl in
-        let number = receipt-number old.config.members (map mark_of new) p r q k (cut-obeys sound.causes of_marks) in
-        grind (arith, up, all p, sound.down p, length-receipts_at, counted (Receipt p r q k) r (receipts_of (map mark_of new) p) there (receipt-left p r q k there) number)
+    is-receiver : (p : ℕ) (e : Mark) → is_receipt_of p e ≡ true → member_of e ≡ p
+    is-receiver p e is = grind (arith, nat_tests)
 
-    -- the events that stay by the members' counts are the cut
-    pub stays_by-cut : filter (λ e. stays_by old.down work (mark_of e)) old.trace ≡ new
-    stays_by-cut =
-        filter-agree (λ e. stays_by old.down work (mark_of e)) (λ e. cut.0 (mark_of e)) old.trace (λ i e here. agrees (mark_of e) (i, mark-at old.trace i e here))
-        ∙ sym cut.1
+    agrees : (e : Mark) → stays_by old.down work e ≡ stays_in old e
+    agrees (Send q k to) = elim (down_or_up old.down q) [
+      | inr up ↦ rw up refl
+      | inl down ↦ rw (log-sent q (sound.down q down) down, left-before q (is_send_of q) down (is-sender q)) refl
+    ]
+    agrees (Receipt p r q k) = elim (down_or_up old.down p) [
+      | inr up ↦ rw up refl
+      | inl down ↦ rw (all p (sound.down p down) down, length-receipts_at (map mark_of (recovered_trace old)) p, left-before p (is_receipt_of p) down (is-receiver p)) refl
+    ]
 
 module _ {S N : Type 0} (next : Next S N) (old new : GroupRecord S N) (step : IsRecovery next old new) (sound : IsSound next old) where
-  -- the tables' part of the recovery
-  pub recovery-knowledge : IsRecovered old.config.f (knowledge old) (knowledge new)
-  recovery-knowledge = record {
-    nobody_down = step.rest.nobody_down;
-    trace = marks-cut old.trace step.trace;
-    tables = λ m up. ap (λ (x : MemberRecord S N). x.table) (step.rest.survivors m up);
-    gathered = λ m down. step.gathered m (sound.down m down) down;
-    channels = step.rest.channels;
-    rebuilt = λ q p down. (step.made_again q p down).sends;
-    checkpoints = step.rest.checkpoints;
-    outside = step.rest.outside;
-    messages = λ v flies down. rw step.rest.config at ((step.made_again v.from v.to down).carried v flies);
-  }
-
   note-flies : (v : Message N) → IsInFlight (knowledge new) v → note_of new.trace v.from v.ssn ≡ Some v.note
   note-flies v among =
       elim (down_or_both_up old.down v.from v.to) [
@@ -178,7 +218,7 @@ module _ {S N : Type 0} (next : Next S N) (old new : GroupRecord S N) (step : Is
         | inr up ↦
             let was = sound.notes v (rw (step.rest.channels v.from v.to up.0 up.1) at among) in
             rw step.trace.1 (note-stays old.config.members step.trace.0 old.trace sound.lawful.well_formed
-            (cut-causes sound.causes (marks-cut old.trace step.trace)) v.from v.ssn v.note (cut-keeps_up sound.causes (marks-cut old.trace step.trace) v.from up.0) was)
+            (cut-causes sound step.trace) v.from v.ssn v.note (cut-keeps_up sound step.trace v.from up.0) was)
       ]
 
   pub group_recovery_keeps : IsSound next new
@@ -188,9 +228,9 @@ module _ {S N : Type 0} (next : Next S N) (old new : GroupRecord S N) (step : Is
     checkpoints = rw step.rest.config (ap length step.rest.checkpoints ∙ sound.checkpoints);
     saved = λ m below. rw (step.rest.config, step.rest.checkpoints, step.rest.outside) (checkpoint-survives sound step.trace m (rw step.rest.config at below));
     down = λ m down. never_both new.down m down (up_if_none step.rest.nobody_down m);
-    lawful = rw step.rest.config (cut-lawful sound step.trace).0;
+    lawful = rw (step.rest.config, cut-one sound step.trace) (recovered_lawful next old sound);
     room = rw step.rest.config (omega (arith, cut-shorter sound step.trace, sound.room));
-    causes = rw step.rest.config (recovery_keeps old.config.members old.config.f (knowledge old) (knowledge new) recovery-knowledge sound.causes);
+    causes = rw step.rest.config (recovery_keeps next old new step sound);
     folds = λ m below up. folds-all sound step.trace new refl step.rest.config step.rest.survivors step.folds m (rw step.rest.config at below);
     blanks = λ m below down. never_both new.down m down (up_if_none step.rest.nobody_down m);
     distinct = λ m. elim (down_or_up old.down m) [
@@ -203,40 +243,15 @@ module _ {S N : Type 0} (next : Next S N) (old new : GroupRecord S N) (step : Is
   }
 
 module _ (S N : Type 0) where
-  pub group_recovery_gains_holders : GroupRecoveryGainsHolders S N
-  unfolding GroupRecoveryGainsHolders
-  group_recovery_gains_holders next old new step sound =
-      recovery_gains_holders old.config.members old.config.f (knowledge old) (knowledge new) (recovery-knowledge next old new step sound) sound.causes
+  pub group_recovery_gains_holders : OfRecovery S N (λ old new. GainsHolders (knowledge old) (knowledge new))
+  group_recovery_gains_holders = recovery_gains_holders
 
-  pub holders_gain_the_down : HoldersGainTheDown S N
-  unfolding HoldersGainTheDown GroupRecoveryGainsHolders
-  holders_gain_the_down next old new d m step sound recorded =
-      let stay = group_recovery_gains_holders next old new step sound d m in (
+  pub recovery_leaves_recorded : OfRecovery S N LeavesRecorded
+  recovery_leaves_recorded next old new step sound = record { exactly = cut_is_recorded next old new step sound; order = cut-receipts sound step.trace }
+
+  pub gains_the_down : OfRecovery S N GainsTheDown
+  gains_the_down next old new step sound d m recorded =
+      let stay = recovery_gains_holders next old new step sound d m in (
         λ holds. elim (stay.0 holds) [ inl was ↦ inl was | inr down ↦ inr down.0 ],
         elim [ inl was ↦ stay.1 (inl was) | inr down ↦ stay.1 (inr (down, recorded)) ],
       )
-
-  pub recovery_leaves_recorded : RecoveryLeavesRecorded S N
-  unfolding RecoveryLeavesRecorded
-  recovery_leaves_recorded next old new step sound = record {
-    exactly = cut_is_recorded old.config.members old.config.f (knowledge old) (knowledge new) (recovery-knowledge next old new step sound) sound.causes;
-    order = cut-receipts sound step.trace;
-  }
-
-  pub recovery_undoes_lost : RecoveryUndoesLost S N
-  unfolding RecoveryUndoesLost
-  recovery_undoes_lost next old new step sound = cut-undone sound step.trace
-
-module _ {S N : Type 0} where
-  -- two cuts are the same
-  pub cut_is_one : CutIsOne S N
-  cut_is_one next old new step sound =
-      step.trace.1 ∙ filter-agree (λ e. step.trace.0 (mark_of e)) (λ e. cut.0 (mark_of e)) old.trace agree ∙ sym cut.1
-    where
-      cut : IsEventCut (Stays (knowledge old)) old.trace (recovered_trace old)
-      cut = recovered_trace-cut next old sound
-
-      agree : (i : ℕ) (e : Event N) → slice_get old.trace i ≡ Some e → step.trace.0 (mark_of e) ≡ cut.0 (mark_of e)
-      agree i e here =
-          let there : Has (marks old) (mark_of e) = (i, mark-at old.trace i e here) in
-          same_from_decides (step.trace.0 (mark_of e)) (cut.0 (mark_of e)) (step.trace.2 (mark_of e) there) (cut.2 (mark_of e) there)

@@ -1,19 +1,16 @@
 -- A group in which nothing is received yet is sound.
-use Rattle.fbl_law.proofs.Common.{Bool, ◌≡◌, ℕ, suc, ◌+◌, ◌<◌, ◌≤◌, ◌==◌, List, [], ◌∷◌, ◌++◌, length, get_or, map, Option, Some, None, slice_get, refl, sym, ap}
-use Rattle.fbl_law.proofs.Common.{◌∙◌, arith, append_assoc, length-append, Contains, filter, filter_map, cons_option, length-map, map-append, take_all, get_or_past, filter_map-append, Start}
-use Rattle.fbl_law.proofs.Common.{Event, Mark, mark_of, determinant_of, receipt_of, in_flight, sent_on, taken_on, sends_of, WellFormed, MayFollow, Next, Lawful, sent, action_of, actions_of, notes_of}
-use Rattle.fbl_law.proofs.Common.{start_of, starts_of, filter_map-At, WellFormed-none, WellFormed-push, fresh, Message, MemberRecord, blank, send_mark, starts, is_on, GroupRecord, channel, knowledge}
-use Rattle.fbl_law.proofs.Common.{receipts, IsSound, received_notes, if◌then◌else◌, Send, Settings, IsConfig, StartAllowed, notes_of-sent, IsStart, IsGroupStart, start_events, message_of_send}
-use Rattle.fbl_law.proofs.Common.{At-filter_map, nat_tests, IsOnce-none}
+use Rattle.fbl_law.proofs.Common.{Bool, ◌≡◌, ℕ, suc, ◌+◌, ◌<◌, ◌≤◌, ◌==◌, List, [], ◌∷◌, ◌++◌, length, get_or, map, Option, Some, None, slice_get, refl, sym, ap, ◌∙◌, arith, append_assoc}
+use Rattle.fbl_law.proofs.Common.{length-append, Contains, filter, filter_map, cons_option, length-map, map-append, take_all, get_or_past, filter_map-append, Start, Event, Mark, mark_of}
+use Rattle.fbl_law.proofs.Common.{determinant_of, receipt_of, in_flight, sent_on, taken_on, sends_of, WellFormed, MayFollow, Next, Lawful, sent, action_of, actions_of, notes_of, start_of}
+use Rattle.fbl_law.proofs.Common.{starts_of, filter_map-At, WellFormed-none, WellFormed-push, fresh, Message, MemberRecord, blank, send_mark, is_on, GroupRecord, channel, knowledge}
+use Rattle.fbl_law.proofs.Common.{receipts, IsSound, received_notes, if◌then◌else◌, Send, Settings, IsConfig, StartAllowed, notes_of-sent, IsGroupStart, start_events, message_of_send}
+use Rattle.fbl_law.proofs.Common.{At-filter_map, nat_tests, IsOnce-none, Entry, Has, Has-first, IsSoundKnowledge, IsThere, NamesCauses, Store, entries, in_checkpoint, in_message, in_table}
 use Rattle.fbl_base.specs.declared.trace.Event.TheVariants as event
 use Rattle.std.proofs.Common.{append-nil}
-use Rattle.fbl_law.specs.Laws.{RunIsSound}
-use Rattle.fbl_law.proofs.InOrder.{fifo}
-use Rattle.fbl_law.proofs.Lists.{Contains-from_filter, Contains-place}
-use Rattle.fbl_law.proofs.Safe.{never_both, up_if_none}
-use Rattle.fbl_law.proofs.Run.{run_is_sound}
+use Rattle.fbl_law.proofs.Channels.{fifo}
+use Rattle.fbl_law.proofs.Lists.{Contains-from_filter, Contains-place, Contains-none}
+use Rattle.fbl_law.proofs.Safe.{never_both, up_if_none, nobody_down_empty}
 use Rattle.fbl_law.proofs.Notes.{sent-noted}
-use Rattle.fbl_law.proofs.Logs.{log-length}
 use Rattle.fbl_law.proofs.ReplayedRecords.{replayed-fresh, replayed-fold}
 
 module _ {N : Type 0} where
@@ -102,41 +99,48 @@ module _ {S N : Type 0} (next : Next S N) (config : Settings N) (r : GroupRecord
   unreceived : receipts (map mark_of events) ≡ []
   unreceived = no_receipts [] config.starts
 
-  -- the records of fresh members, and what is past them
-  started : (xs : List (MemberRecord S N)) → length xs ≡ n → ((m : ℕ) → m < n → get_or xs m (blank r.outside) ≡ fresh (next.initial m n) m config.starts) → (m : ℕ)
-      → ((get_or xs m (blank r.outside)).table ≡ []) × ((get_or xs m (blank r.outside)).received ≡ 0) × (length (get_or xs m (blank r.outside)).log ≤ sends_of (map mark_of r.trace) m)
-  started xs size each m = grind (arith, s.trace, size, each m, get_or_past xs m (blank r.outside), rw (no_notes m) at (log-length is_lawful m))
+  -- the tables of fresh members, and what is past them
+  started : (xs : List (MemberRecord S N)) → length xs ≡ n → ((m : ℕ) → m < n → get_or xs m (blank r.outside) ≡ fresh (next.initial m n) m config.starts) → (m : ℕ) → (get_or xs m (blank r.outside)).table ≡ []
+  started xs size each m = grind (arith, size, each m, get_or_past xs m (blank r.outside))
 
   among_starts : (v : Message N) → Contains (channel r v.from v.to) v → Contains (filter_map message_of_send r.trace) v
   among_starts v flies = Contains-from_filter (is_on v.from v.to) (filter_map message_of_send r.trace) v (rw (s.channels v.from v.to) at flies)
 
-  is_start : IsStart n (knowledge r)
-  is_start = record {
+  -- no store has an entry, and no receipt is in the trace
+  nothing : (k : Store N) (e : Entry) → IsThere (knowledge r) k → ¬ (Contains (entries (knowledge r) k) e)
+  nothing (in_table m) e there among = Contains-none e (rw (started r.members s.size s.members m) at among)
+  nothing (in_message v) e flies among = Contains-none e (rw (message_sent r.trace v (among_starts v flies)).0 at among)
+  nothing (in_checkpoint m) e there among = Contains-none e (rw (started r.checkpoints s.checkpoints s.saved m) at among)
+
+  no_causes : (es : List Entry) (b : Mark) → NamesCauses config.f (knowledge r) es b
+  no_causes es b d before =
+      let has : Has (map mark_of events) (receipt_of d) = rw s.trace at (Has-first before) in
+      let place = filter_map-At determinant_of (map mark_of events) has.0 (receipt_of d) d has.1 refl in
+      absurd (let none = rw unreceived at place.1 in cc)
+
+  knows : IsSoundKnowledge n config.f (knowledge r)
+  knows = record {
     rules = rw s.trace obeys;
-    nobody_down = s.nobody_down;
-    unreceived = rw s.trace (λ d has.
-        let place = filter_map-At determinant_of (map mark_of events) has.0 (receipt_of d) d has.1 refl in
-        cc (rw unreceived at place.1));
-    tables = λ m. (started r.members s.size s.members m).0;
-    checkpoints = started r.checkpoints s.checkpoints s.saved;
-    channels = λ q p.
+    truth = λ k e there among. absurd (nothing k e there among);
+    closed = record { events = λ k b there owes. no_causes (entries (knowledge r) k) b; named = λ k c there named. no_causes (entries (knowledge r) k) (receipt_of c) };
+    channels = λ q p up_q up_p.
         let none = ap (λ (ks : List ℕ). ks ++ in_flight (map mark_of events) q p) (none_taken q p (map mark_of events) unreceived) in
         rw (s.channels q p, s.trace) (marks_between q p events ∙ ap (map (λ ssn. Send q ssn p)) (fifo n (map mark_of events) q p obeys ∙ none));
-    messages = λ v flies. (message_sent r.trace v (among_starts v flies)).0;
+    down = nobody_down_empty config.f (knowledge r) s.nobody_down;
+    checkpoints = λ m d up named. absurd (nothing (in_checkpoint m) named.0 tt named.1);
   }
 
   pub group_start_is_sound : IsSound next r
-  unfolding RunIsSound
   group_start_is_sound = record {
     config = rw s.parameters is;
     members = rw s.parameters s.size;
     checkpoints = rw s.parameters s.checkpoints;
     saved = λ m below. rw (s.parameters, s.saved m (rw s.parameters at below)) (replayed-fresh next n config.starts r.trace m);
-    distinct = λ m. rw (started r.members s.size s.members m).0 IsOnce-none;
+    distinct = λ m. rw (started r.members s.size s.members m) IsOnce-none;
     down = λ q down. never_both r.down q down (up_if_none s.nobody_down q);
     lawful = rw (s.parameters, s.trace) is_lawful;
     room = rw (s.parameters, s.trace) omega (arith, length-starts [] config.starts, is.room);
-    causes = rw s.parameters (run_is_sound S N n config.f (knowledge r) (knowledge r) is_start starts);
+    causes = rw s.parameters knows;
     folds = λ m below up_m.
         let fresh_m = s.members m (rw s.parameters at below) in
         replayed-fold (rw (s.parameters, s.trace) obeys) (rw (fresh_m, s.parameters) (replayed-fresh next n config.starts r.trace m)) (rw (fresh_m, s.trace, unreceived) refl);

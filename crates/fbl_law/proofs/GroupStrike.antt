@@ -1,19 +1,43 @@
 -- A strike keeps a group sound, and what the tables of a sound group say of recorded receipts.
-use Rattle.fbl_law.proofs.Common.{◌≡◌, ℕ, ◌≤◌, List, inl, inr, Some, get_or, ap, ◌∙◌, list_any, get_or_default, Any-from_list_any, Determinant, AllBelow, Members, Next, note_of}
-use Rattle.fbl_law.proofs.Common.{is_held, Message, MemberRecord, blank, IsInFlight, IsUp, Names, IsStruck, GroupRecord, knowledge, IsFold, IsSound, list_any_at, IsStrike, RecordedTest, map, mark_of}
-use Rattle.fbl_law.proofs.Common.{IsDown, Decides, Decides-like, Decides-or, IsOnce-none}
+use Rattle.fbl_law.proofs.Common.{◌≡◌, ℕ, ◌≤◌, List, inl, inr, Some, get_or, ap, ◌∙◌, list_any, get_or_default, Any-from_list_any, Determinant, AllBelow, Members, Next, note_of, is_held}
+use Rattle.fbl_law.proofs.Common.{Message, MemberRecord, blank, IsInFlight, IsUp, Names, GroupRecord, knowledge, IsFold, IsSound, list_any_at, IsStrike, RecordedTest, Decides}
+use Rattle.fbl_law.proofs.Common.{Decides-like, Decides-or, IsOnce-none, IsSoundKnowledge, IsThere, Store, false, in_checkpoint, in_message, in_table, refl, table}
 use Rattle.std.specs.FinSet as sets
-use Rattle.fbl_law.proofs.Safe.{down_or_up, up_at_ends, up_if_named}
-use Rattle.fbl_law.proofs.Tables.{Names-held, held-Names, Includes-union, named_record}
-use Rattle.fbl_law.proofs.Strike.{was_up, strike_keeps}
+use Rattle.fbl_law.proofs.Safe.{down_or_up, up_at_ends, up_if_named, never_both, Names-held, held-Names, Includes-union, named_record}
+use Rattle.fbl_law.proofs.Keeping.{IsSameStore, KeepsKnowledge, checkpoint_kept, sound_after, sound_kept}
+
+-- who is up after a strike was up before it
+pub was_up : (old struck : Members) (m : ℕ) → sets.contains (sets.union old struck) m ≡ false → sets.contains old m ≡ false
+was_up old struck m up = elim (down_or_up old m) [ inl down ↦ never_both (sets.union old struck) m ((Includes-union old struck m).1 (inl down)) up | inr h ↦ h ]
 
 module _ {S N : Type 0} (next : Next S N) (old new : GroupRecord S N) (struck : Members) (s : IsStrike next old new struck) where
-  pub is_struck : IsStruck (knowledge old) (knowledge new) struck
-  is_struck = assumption (
-    ap (map mark_of) s.trace,
-    λ (m : ℕ) (up : IsUp (knowledge new) m). ap (λ (x : MemberRecord S N). x.table) (s.survivors m up),
-    λ (m : ℕ) (down : IsDown (knowledge new) m). ap (λ (x : MemberRecord S N). x.table) (s.blanks m down),
-  )
+  up : (m : ℕ) → IsUp (knowledge new) m → IsUp (knowledge old) m
+  up m now = was_up old.down struck m (rw s.down at now)
+
+  table_still : (m : ℕ) → IsUp (knowledge new) m → table (knowledge new) m ≡ table (knowledge old) m
+  table_still m now = ap (λ (x : MemberRecord S N). x.table) (s.survivors m now)
+
+  module _ (few : sets.len new.down ≤ old.config.f) (sound : IsSound next old) where
+    keeps : KeepsKnowledge old.config.members old.config.f (knowledge old) (knowledge new)
+    keeps = record {
+      rules = rw s.trace sound.causes.rules;
+      down = record { few = few; tables = λ m down. ap (λ (x : MemberRecord S N). x.table) (s.blanks m down); channels = s.emptied };
+      channels = λ q p up_q up_p. rw (s.channels q p up_q up_p, s.trace) (sound.causes.channels q p (up q up_q) (up p up_p));
+      held = λ d m now holder. elim holder [ inl holds ↦ (now, rw (table_still m now) holds.1) | inr was ↦ never_both old.down m was.0 (up m now) ];
+      left = λ b there recorded. rw s.trace there;
+      paths = λ there path. rw s.trace at path;
+    }
+
+    same : (k : Store N) → IsThere (knowledge new) k → IsSameStore (knowledge old) (knowledge new) k
+    same (in_table m) now = (up m now, table_still m now, λ b there owes. (rw s.trace at there, owes))
+    same (in_message v) flies =
+        let ends = up_at_ends (knowledge new) s.emptied v.from v.to v flies in
+        (rw (s.channels v.from v.to ends.0 ends.1) at flies, refl, λ b there owes. (rw s.trace at there, owes))
+    same (in_checkpoint m) there = (tt, rw (s.checkpoints, s.outside) refl, λ b there owes. (rw s.trace at there, rw (s.checkpoints, s.outside) at owes))
+
+    pub strike_keeps : IsSoundKnowledge old.config.members old.config.f (knowledge new)
+    strike_keeps =
+        sound_after keeps sound.causes (λ k there. sound_kept keeps sound.causes k there (same k there)) (λ m. checkpoint_kept keeps sound.causes m (rw (s.checkpoints, s.outside) refl))
 
   notes_kept : IsSound next old → (v : Message N) → IsInFlight (knowledge new) v → note_of new.trace v.from v.ssn ≡ Some v.note
   notes_kept sound v flying =
@@ -36,10 +60,10 @@ module _ {S N : Type 0} (next : Next S N) (old new : GroupRecord S N) (struck : 
     down = λ q down. rw s.config elim ((Includes-union old.down struck q).0 (rw s.down at down)) [ inl was ↦ sound.down q was | inr now ↦ within q now ];
     lawful = rw (s.config, s.trace) sound.lawful;
     room = rw (s.config, s.trace) sound.room;
-    causes = rw s.config (strike_keeps old.config.members old.config.f (knowledge old) (knowledge new) struck is_struck few sound.causes);
-    folds = λ m below up. fold_kept m up (sound.folds m (rw s.config at below) (was_up old.down struck m (rw s.down at up)));
+    causes = rw s.config (strike_keeps few sound);
+    folds = λ m below now. fold_kept m now (sound.folds m (rw s.config at below) (up m now));
     blanks = λ m below down. rw s.config (s.blanks m down);
-    distinct = λ m. elim (down_or_up new.down m) [ inl down ↦ rw (s.blanks m down) IsOnce-none | inr up ↦ rw (s.survivors m up) (sound.distinct m) ];
+    distinct = λ m. elim (down_or_up new.down m) [ inl down ↦ rw (s.blanks m down) IsOnce-none | inr now ↦ rw (s.survivors m now) (sound.distinct m) ];
     shape = rw s.config s.shape;
     notes = notes_kept sound;
     counted = rw (s.trace, s.undone_ever, s.receipts_ever) sound.counted;

@@ -1,11 +1,8 @@
 -- What every step keeps that leaves up members what they were holders of.
-use Rattle.fbl_law.proofs.Common.{◌≡◌, ℕ, zero, suc, ◌≤◌, length, List, inl, inr, arith, subst, refl, Contains, Determinant, Mark, member_of, receipt_of, Has, Precedes, Has-last}
-use Rattle.fbl_law.proofs.Common.{some_outside, Entry, piggybacked, Message, Includes, Knowledge, Store, in_table, in_message, in_checkpoint, owner, entries, table, checkpoint, IsThere, Owes, IsUp}
-use Rattle.fbl_law.proofs.Common.{Names, Holds, IsRecorded, IsHolder, IsStable, IsTrueEntry, NamesCauses, IsDownEmpty, IsBeforeCheckpoint, IsCheckpointKept, IsSoundKnowledge, MatchesTrace, WellFormed}
-use Rattle.fbl_law.proofs.Common.{receipts_of, sends_of, sent-number, Send, Receipt}
-use Rattle.fbl_law.proofs.Numbered.{receipt-there, send-there, receipt-number}
-use Rattle.fbl_law.proofs.Safe.{down_or_up, up_at_ends, IsRecorded-before, IsRecorded-reached, recorded_holder}
-use Rattle.fbl_law.proofs.Tables.{Contains-piggybacked, passed_or_known}
+use Rattle.fbl_law.proofs.Common.{◌≡◌, ℕ, List, inl, inr, arith, subst, refl, Contains, Determinant, Mark, member_of, receipt_of, Has, Precedes, Has-last, some_outside, Entry, piggybacked}
+use Rattle.fbl_law.proofs.Common.{Message, Includes, Knowledge, Store, in_table, in_message, in_checkpoint, owner, entries, table, checkpoint, IsThere, Owes, IsUp, Names, Holds}
+use Rattle.fbl_law.proofs.Common.{IsRecorded, IsHolder, IsStable, IsTrueEntry, NamesCauses, IsDownEmpty, IsCheckpointKept, IsSoundKnowledge, MatchesTrace, WellFormed}
+use Rattle.fbl_law.proofs.Safe.{down_or_up, up_at_ends, IsRecorded-before, recorded_holder, Contains-piggybacked, passed_or_known}
 
 module _ {S N : Type 0} where
   -- what is true of one store of a sound record
@@ -94,31 +91,11 @@ module _ {S N : Type 0} {n f : ℕ} {old new : Knowledge S N} (keeps : KeepsKnow
         (subst (λ (x : Determinant). Has old.trace (receipt_of x)) was_named.2 fact.0.0) (sound.closed.named k c same.0 was_named));
   }
 
-  -- an event from before its member's checkpoint is left, so a checkpoint that stays is kept
-  reached_left : (b : Mark) → Has old.trace b → IsBeforeCheckpoint old b → Has new.trace b
-  reached_left b there reached = keeps.left b there (λ c. IsRecorded-reached f old sound.closed c b reached)
-
-  receipts_left : (m k : ℕ) → k ≤ (checkpoint old m).received → k ≤ receipts_of new.trace m
-  receipts_left m zero within = omega arith
-  receipts_left m (suc k) within =
-      let there = receipt-there n old.trace m (suc k) sound.rules (omega arith) (omega (arith, within, (sound.checkpoints m).receipts)) in
-      receipt-number n new.trace m (suc k) there.0 there.1 keeps.rules (reached_left (Receipt m (suc k) there.0 there.1) there.2 within)
-
-  sends_left : (m k : ℕ) → k ≤ length (checkpoint old m).log → k ≤ sends_of new.trace m
-  sends_left m zero within = omega arith
-  sends_left m (suc k) within =
-      let there = send-there n old.trace m (suc k) sound.rules (omega arith) (omega (arith, within, (sound.checkpoints m).sends)) in
-      sent-number n new.trace keeps.rules m (suc k) there.0 (reached_left (Send m (suc k) there.0) there.1 within)
-
+  -- a checkpoint that stays is kept
   pub checkpoint_kept : (m : ℕ) → checkpoint new m ≡ checkpoint old m → IsCheckpointKept new m
-  checkpoint_kept m same = record {
-    receipts = rw same (receipts_left m (checkpoint old m).received (omega arith));
-    sends = rw same (sends_left m (length (checkpoint old m).log) (omega arith));
-    table = λ d up named. (keeps.held d m up (holder d (rw same at named))).1;
-  }
-    where
-      holder : (d : Determinant) → Names (checkpoint old m).table d → IsHolder old d m
-      holder d named = elim (down_or_up old.down m) [ inl down ↦ inr (down, inr (m, named)) | inr up ↦ inl (up, (sound.checkpoints m).table d up named) ]
+  checkpoint_kept m same d up named = (keeps.held d m up (holder (rw same at named))).1 where
+    holder : Names (checkpoint old m).table d → IsHolder old d m
+    holder was_named = elim (down_or_up old.down m) [ inl down ↦ inr (down, inr (m, was_named)) | inr was_up ↦ inl (was_up, sound.checkpoints m d was_up was_named) ]
 
   -- a record of which each store is sound after the step, and each checkpoint kept, is sound
   pub sound_after : ((k : Store N) → IsThere new k → IsSoundAt f new k) → ((m : ℕ) → IsCheckpointKept new m) → IsSoundKnowledge n f new

@@ -6,7 +6,7 @@ use Rattle.fbl_law.proofs.Common.{starts_of, begun, advanced, after_notes, actio
 use Rattle.fbl_law.proofs.Common.{length-numbered, received_notes, slice_get, Mark, MemberRecord, IsReplayed, append-nil, fold-append, numbered-append, take-more, progress_of, take-map}
 use Rattle.fbl_base.specs.declared.trace.Mark.TheVariants as mark
 use Rattle.fbl_base.specs.declared.trace.Event.TheVariants.{Send, Receipt}
-use Rattle.fbl_law.proofs.Appended.{MayFollow-seam}
+use Rattle.fbl_law.proofs.Receipts.{MayFollow-seam}
 use Rattle.fbl_law.proofs.Notes.{mark-at}
 
 module _ {N : Type 0} where
@@ -32,6 +32,40 @@ module _ {N : Type 0} where
     | inr other ↦ let later = numbered-has (before + 1) ssn sends (omega arith) (omega (arith, within)) in (later.0, grind (arith, nat_tests, other, later.1))
   ]
 
+  -- the send, as the member's log has it
+  abbrev pub logged_of : ℕ → Event N → Option (Logged N)
+  logged_of p (Send from ssn to note) = cond (from == p) (Some (record { ssn = ssn; to = to; note = note })) None
+  logged_of p (Receipt to rsn from ssn) = None
+
+  -- the sends of the rest of a trace that obeys the rules, numbered on
+  log_from : (n p : ℕ) (all u rest : List (Event N)) → WellFormed n (map mark_of u ++ map mark_of rest)
+      → numbered (sends_of (map mark_of u) p) (sends_in (filter_map (action_of all p) rest)) ≡ filter_map (logged_of p) rest
+  log_from n p all u [] obeys = refl
+  log_from n p all u (e ∷ rest) obeys =
+      let may = MayFollow-seam n (map mark_of u) (mark_of e) (map mark_of rest) obeys in
+      let ih = log_from n p all (u ++ e ∷ []) rest (rw (map-append, append_assoc) obeys) in
+      grind (arith, nat_tests, may, map-append mark_of u (e ∷ []), sends-step (map mark_of u) (mark_of e) p, ih)
+
+  -- the log of a trace's sends names the note of each
+  pub logged_note-trace : (t : List (Event N)) (p ssn : ℕ) → logged_note (filter_map (logged_of p) t) ssn ≡ note_of t p ssn
+  logged_note-trace [] p ssn = refl
+  logged_note-trace (e ∷ t) p ssn = grind (arith, logged_note-trace t p ssn)
+
+  -- what the front of a log names, the log names
+  logged_note-front : (xs ys : List (Logged N)) (ssn : ℕ) (note : N) → logged_note xs ssn ≡ Some note → logged_note (xs ++ ys) ssn ≡ Some note
+  logged_note-front [] ys ssn note is = cc
+  logged_note-front (l ∷ xs) ys ssn note is = grind (arith, logged_note-front xs ys ssn note)
+
+  -- how many sends a member's actions have
+  sends-count : (all u : List (Event N)) (p : ℕ) → length (sends_in (filter_map (action_of all p) u)) ≡ sends_of (map mark_of u) p
+  sends-count all [] p = refl
+  sends-count all (e ∷ u) p = grind (arith, sum_by-cons (λ y. cond (is_send_of p y) 1 0) (mark_of e) (map mark_of u), sends-count all u p)
+
+  -- at most how many notes a member's actions have
+  notes-count : (all u : List (Event N)) (p : ℕ) → length (notes_of (filter_map (action_of all p) u)) ≤ receipts_of (map mark_of u) p
+  notes-count all [] p = omega arith
+  notes-count all (e ∷ u) p = grind (arith, sum_by-cons (λ y. cond (is_receipt_of p y) 1 0) (mark_of e) (map mark_of u), notes-count all u p)
+
 module _ {S N : Type 0} where
   -- the sends that a fold adds to the log
   pub log-fold : (next : Next S N) (p n : ℕ) (from : Progress S N) (notes : List N)
@@ -51,45 +85,12 @@ module _ {S N : Type 0} where
   log-after next p n starts notes =
       log-fold next p n (begun (next.initial p n) p starts) notes ∙ simp (zero-add, length-numbered, sends_in-append, sends_in-sent, numbered-append)
 
-module _ {N : Type 0} where
-  -- the send, as the member's log has it
-  abbrev pub logged_of : ℕ → Event N → Option (Logged N)
-  logged_of p (Send from ssn to note) = cond (from == p) (Some (record { ssn = ssn; to = to; note = note })) None
-  logged_of p (Receipt to rsn from ssn) = None
-
-  -- the sends of the rest of a trace that obeys the rules, numbered on
-  log_from : (n p : ℕ) (all u rest : List (Event N)) → WellFormed n (map mark_of u ++ map mark_of rest)
-      → numbered (sends_of (map mark_of u) p) (sends_in (filter_map (action_of all p) rest)) ≡ filter_map (logged_of p) rest
-  log_from n p all u [] obeys = refl
-  log_from n p all u (e ∷ rest) obeys =
-      let may = MayFollow-seam n (map mark_of u) (mark_of e) (map mark_of rest) obeys in
-      let ih = log_from n p all (u ++ e ∷ []) rest (rw (map-append, append_assoc) obeys) in
-      grind (arith, nat_tests, may, map-append mark_of u (e ∷ []), sends-step (map mark_of u) (mark_of e) p, ih)
-
-module _ {S N : Type 0} where
   -- in a lawful trace the log after all the member's notes has the member's sends
   pub log-sends : {next : Next S N} {n : ℕ} {starts : List (Start N)} {t : List (Event N)} (lawful : Lawful next n starts t) (p : ℕ)
       → (after_notes next p n starts (received_notes t p)).log ≡ filter_map (logged_of p) t
   log-sends {next} {n} {starts} {t} lawful p =
       rw (log-after next p n starts (received_notes t p), ← lawful.responds p) (log_from n p t [] t lawful.well_formed)
 
-module _ {N : Type 0} where
-  -- the log of a trace's sends names the note of each
-  pub logged_note-trace : (t : List (Event N)) (p ssn : ℕ) → logged_note (filter_map (logged_of p) t) ssn ≡ note_of t p ssn
-  logged_note-trace [] p ssn = refl
-  logged_note-trace (e ∷ t) p ssn = grind (arith, logged_note-trace t p ssn)
-
-  -- what the front of a log names, the log names
-  logged_note-front : (xs ys : List (Logged N)) (ssn : ℕ) (note : N) → logged_note xs ssn ≡ Some note → logged_note (xs ++ ys) ssn ≡ Some note
-  logged_note-front [] ys ssn note is = cc
-  logged_note-front (l ∷ xs) ys ssn note is = grind (arith, logged_note-front xs ys ssn note)
-
-  -- how many sends a member's actions have
-  sends-count : (all u : List (Event N)) (p : ℕ) → length (sends_in (filter_map (action_of all p) u)) ≡ sends_of (map mark_of u) p
-  sends-count all [] p = refl
-  sends-count all (e ∷ u) p = grind (arith, sum_by-cons (λ y. cond (is_send_of p y) 1 0) (mark_of e) (map mark_of u), sends-count all u p)
-
-module _ {S N : Type 0} where
   -- the log after all notes is as long as the member's sends are many
   pub log-length : {next : Next S N} {n : ℕ} {starts : List (Start N)} {t : List (Event N)} (lawful : Lawful next n starts t) (p : ℕ)
       → length (after_notes next p n starts (received_notes t p)).log ≡ sends_of (map mark_of t) p
@@ -106,12 +107,6 @@ module _ {S N : Type 0} where
       sends-by next p n (next.step p n state note).state k (next.step p n state note).sends.items notes xs ys (cc) (omega (arith, few))
   sends-by next p n state k (s ∷ sends) notes (sent s' ∷ xs) ys is few = omega (arith, sends-by next p n state k sends notes xs ys (cc) few)
   sends-by _ _ _ _ _ _ _ _ _ is few = absurd cc
-
-module _ {N : Type 0} where
-  -- at most how many notes a member's actions have
-  notes-count : (all u : List (Event N)) (p : ℕ) → length (notes_of (filter_map (action_of all p) u)) ≤ receipts_of (map mark_of u) p
-  notes-count all [] p = omega arith
-  notes-count all (e ∷ u) p = grind (arith, sum_by-cons (λ y. cond (is_receipt_of p y) 1 0) (mark_of e) (map mark_of u), notes-count all u p)
 
 -- the log of a member that has replayed its first receipts of a lawful trace
 module _ {S N : Type 0} {next : Next S N} {n : ℕ} {starts : List (Start N)} {t : List (Event N)} (lawful : Lawful next n starts t) {p : ℕ} {m : MemberRecord S N} (replayed : IsReplayed next n starts t p m) where

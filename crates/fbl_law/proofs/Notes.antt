@@ -1,6 +1,6 @@
 -- The notes of a trace's messages.
-use Rattle.fbl_law.proofs.Common.{◌≡◌, ℕ, suc, ◌<◌, ◌==◌, ◌&&◌, inl, inr, List, [], ◌∷◌, take, map, Some, slice_get, refl, ◌∙◌, arith, cases_Bool, nat_tests}
-use Rattle.fbl_law.proofs.Common.{slice_get-map, Event, Mark, At, mark_of, Has, WellFormed, note_of, slice_get-take, map-At, WellFormed-take, sent-number, sent-note, ap}
+use Rattle.fbl_law.proofs.Common.{◌≡◌, ℕ, suc, ◌==◌, ◌&&◌, inl, inr, List, [], ◌∷◌, take, map, Some, slice_get, refl, ◌∙◌, arith, cases_Bool, nat_tests, slice_get-map, Event, Mark, At}
+use Rattle.fbl_law.proofs.Common.{mark_of, Has, WellFormed, note_of, map-At, sent-note, ap, Bool, cond, count_by, eqb-self, is_send_of, nat_le, nat_lt, sum_by-cons, true, zero, ◌+◌}
 use Rattle.fbl_base.specs.declared.trace.Mark.TheVariants as mark
 use Rattle.fbl_base.specs.declared.trace.Event.TheVariants.{Send, Receipt}
 
@@ -14,13 +14,28 @@ module _ {N : Type 0} where
   ]
   noted-sent (Receipt to' r q' k' ∷ t) q k x is = let r = noted-sent t q k x is in (suc r.0, r.1, r.2)
 
--- the sends of a member have different numbers
-number-once : (n : ℕ) (t : List Mark) → WellFormed n t → (q k to to' i j : ℕ) → At t i (mark.Send q k to) → At t j (mark.Send q k to') → ¬ (i < j)
-number-once n t obeys q k to to' i j here there below =
-    omega (arith, sent-number n (take j t) (WellFormed-take n j t obeys) q k to (i, slice_get-take t j i (mark.Send q k to) below here), (obeys j (mark.Send q k to') there).3)
+-- an event's number, one more than the count before it, is within the count of the first events exactly where it is one of these
+pub number-front : (p : Mark → Bool) (u : List Mark) (i stop k : ℕ) (e : Mark) → At u i e → p e ≡ true → k ≡ count_by p (take i u) + 1 → nat_le k (count_by p (take stop u)) ≡ nat_lt i stop
+number-front p [] i stop k e here passes number = absurd cc
+number-front p (x ∷ u) zero zero k e here passes number = grind (arith, nat_tests)
+number-front p (x ∷ u) zero (suc stop) k e here passes number = grind (arith, nat_tests, sum_by-cons (λ y. cond (p y) 1 0) x (take stop u))
+number-front p (x ∷ u) (suc i) zero k e here passes number = grind (arith, nat_tests)
+number-front p (x ∷ u) (suc i) (suc stop) k e here passes number =
+    grind (
+      arith,
+      nat_tests,
+      number,
+      sum_by-cons (λ y. cond (p y) 1 0) x (take i u),
+      sum_by-cons (λ y. cond (p y) 1 0) x (take stop u),
+      number-front p u i stop (count_by p (take i u) + 1) e here passes refl,
+    )
 
+-- so the sends of a member have different numbers
 one-place : (n : ℕ) (t : List Mark) → WellFormed n t → (q k to to' i j : ℕ) → At t i (mark.Send q k to) → At t j (mark.Send q k to') → i ≡ j
-one-place n t obeys q k to to' i j here there = omega (arith, number-once n t obeys q k to to' i j here there, number-once n t obeys q k to' to j i there here)
+one-place n t obeys q k to to' i j here there =
+    let a = (obeys i (mark.Send q k to) here).3 in
+    let b = (obeys j (mark.Send q k to') there).3 in
+    grind (arith, nat_tests, a, b, number-front (is_send_of q) t i j k (mark.Send q k to) here (eqb-self q) a, number-front (is_send_of q) t j i k (mark.Send q k to') there (eqb-self q) b)
 
 -- so a sender's number names one message
 pub one-send : (n : ℕ) (t : List Mark) → WellFormed n t → (q k to to' : ℕ) → Has t (mark.Send q k to) → Has t (mark.Send q k to') → to ≡ to'

@@ -1,27 +1,22 @@
--- What soundness promises.
-use Rattle.fbl_law.proofs.Common.{◌≡◌, ℕ, inl, inr, arith, take, cases_order, At, receipt_of, itself, step, slice_get-take, some_outside, WellFormed-take, in_table, IsUp, IsHolder, member}
-use Rattle.fbl_law.proofs.Common.{knowledge, Receipt, IsHeldBy, ClosedRecordsFirst, AnySurvivorsHold, SoundRecordsFirst}
-use Rattle.fbl_law.specs.Headline.{SoundHoldsEachReceipt, SoundIsAlwaysHeld, SoundHasNoOrphan, NoSurvivorIsOrphan, SoundSurvivorsHold}
-use Rattle.fbl_law.proofs.Tables.{held-Names}
-use Rattle.fbl_law.proofs.Numbered.{receipt-number}
-use Rattle.fbl_law.proofs.Safe.{down_or_up, never_both, up_if_none, no_orphan, IsRecorded-before, Has-recorded}
-use Rattle.fbl_law.proofs.Decide.{IsAlwaysHeld-closed}
-use Rattle.fbl_law.proofs.Strike.{strike_keeps}
-use Rattle.fbl_law.proofs.GroupStrike.{is_struck}
+-- What soundness promises, also of dumps.
+use Rattle.fbl_law.proofs.Common.{◌≡◌, ℕ, inl, inr, arith, take, cases_order, receipt_of, itself, step, some_outside, in_table, IsUp, IsHolder, member, knowledge, IsHeldBy, Includes}
+use Rattle.fbl_law.proofs.Common.{IsDown, IsSoundKnowledge, Knowledge, Members, SurvivorsHold, marks, ◌≤◌, HoldsEachReceipt, OfSound, RecordsCauses, RecordsFirst, eqb-self, is_receipt_of}
+use Rattle.fbl_law.proofs.Common.{nat_tests, receipts_of, ◌+◌, zero, suc, ◌<◌, List, [], ◌∷◌, length, map, get_or, refl, length-append, Contains, zero-add, length-map}
+use Rattle.fbl_law.proofs.Common.{Contains-append_left, Contains-append_right, length-filter_map, Determinant, mark_of, determinant_of, same_determinant, Has, Next, filter_map-At}
+use Rattle.fbl_law.proofs.Common.{At-below, Decides-same_determinant, Entry, Message, MemberRecord, blank, IsInFlight, Names, GroupRecord, receipts, IsSound, ◌*◌, IsOnce, decided}
+use Rattle.fbl_law.proofs.Common.{add-zero, All-append, All-contains, All-map, All-nil, All, length-le_from_is_member, is_member-Decides, Send, Receipt, HeldAt, pairs_of, pairs_from}
+use Rattle.fbl_law.proofs.Common.{held_pairs, dump_of}
+use Rattle.std.specs.FinSet as set
+use Rattle.fbl_law.proofs.Safe.{held-Names, down_or_up, never_both, up_if_none, IsRecorded-before, Has-recorded, IsAlwaysHeld-closed, All-from}
+use Rattle.fbl_law.proofs.Notes.{number-front}
+use Rattle.fbl_law.specs.Dumps.{DumpObeysRules, DumpHasNoOrphan}
+use Rattle.fbl_law.proofs.Lists.{Contains-at, Contains-map, Contains-changed, Contains-none}
+use Rattle.fbl_law.proofs.GroupFacts.{named_received, carried_received, trace_fits}
 
 module _ (S N : Type 0) where
-  pub sound_is_always_held : SoundIsAlwaysHeld S N
-  unfolding SoundIsAlwaysHeld
-  sound_is_always_held next r sound = IsAlwaysHeld-closed r.config.f (knowledge r) sound.causes.closed
-
-  pub sound_has_no_orphan : SoundHasNoOrphan S N
-  unfolding SoundHasNoOrphan
-  sound_has_no_orphan next r m sound = no_orphan r.config.f (knowledge r) sound.causes.closed m
-
-  pub sound_holds_each_receipt : SoundHoldsEachReceipt S N
-  unfolding SoundHoldsEachReceipt SoundIsAlwaysHeld
+  pub sound_holds_each_receipt : OfSound S N HoldsEachReceipt
   sound_holds_each_receipt next r sound nobody d there =
-      elim (sound_is_always_held next r sound d there) [
+      elim (IsAlwaysHeld-closed r.config.f (knowledge r) sound.causes.closed d there) [
         | inl stable ↦ inl (stable.0, stable.1, λ m among. holder m (stable.2 m among))
         | inr held ↦ inr (λ m depends. held-Names (member r m).table d (held m (up_if_none nobody m) depends).1)
       ]
@@ -30,15 +25,9 @@ module _ (S N : Type 0) where
       holder m (inl holds) = held-Names (member r m).table d holds.1
       holder m (inr down) = never_both r.down m down.0 (up_if_none nobody m)
 
-  pub no_survivor_is_orphan : NoSurvivorIsOrphan S N
-  unfolding NoSurvivorIsOrphan
-  no_survivor_is_orphan next old new struck m sound s few =
-      let keeps = strike_keeps old.config.members old.config.f (knowledge old) (knowledge new) struck (is_struck next old new struck s) few sound.causes in
-      no_orphan old.config.f (knowledge new) keeps.closed m
-
 module _ {S N : Type 0} where
   -- of more than f holders one is outside a set of at most f members, and up
-  pub any_survivors_hold : AnySurvivorsHold S N
+  pub any_survivors_hold : (n f : ℕ) (r : Knowledge S N) (s : Members) → IsSoundKnowledge n f r → ((q : ℕ) → IsDown r q → Includes s q) → set.len s ≤ f → SurvivorsHold r s
   any_survivors_hold n f r s sound covers few m d out depends =
       let up : IsUp r m = elim (down_or_up r.down m) [ inl down ↦ never_both s m (covers m down) out | inr up ↦ up ] in
       elim (sound.closed.events (in_table m) depends.0 up depends.2 d depends.1) [
@@ -48,29 +37,86 @@ module _ {S N : Type 0} where
             elim (stable.2 one.0 one.1) [ inl holds ↦ (one.0, one.2, holds.1) | inr down ↦ never_both s one.0 (covers one.0 down.0) one.2 ]
       ]
 
-module _ (S N : Type 0) where
-  pub sound_survivors_hold : SoundSurvivorsHold S N
-  unfolding SoundSurvivorsHold
-  sound_survivors_hold next r s sound covers few =
-      any_survivors_hold r.config.members r.config.f (knowledge r) s sound.causes covers few
+  pub sound_records_causes : OfSound S N (λ r. RecordsCauses (knowledge r))
+  sound_records_causes next r sound = IsRecorded-before r.config.f (knowledge r) sound.causes.closed
 
-module _ {S N : Type 0} where
   -- the numbers of a member's receipts rise, so the one with the lower number comes first
-  pub closed_records_first : ClosedRecordsFirst S N
-  closed_records_first n f r rules truth closed c d there same before recorded =
-      let found = Has-recorded r truth d recorded in
-      IsRecorded-before f r closed c d recorded (elim (cases_order there.0 found.0) [
+  pub sound_records_first : OfSound S N (λ r. RecordsFirst (knowledge r))
+  sound_records_first next r sound c d there same before recorded =
+      let found = Has-recorded (knowledge r) sound.causes.truth d recorded in
+      let number : d.rsn ≡ receipts_of (take found.0 (marks r)) c.to + 1 = rw same (sound.lawful.well_formed found.0 (receipt_of d) found.1).3 in
+      let first = number-front (is_receipt_of c.to) (marks r) found.0 there.0 d.rsn (receipt_of d) found.1 (rw same (eqb-self d.to)) number in
+      sound_records_causes next r sound c d recorded (elim (cases_order there.0 found.0) [
         | inl place ↦
             let one : receipt_of c ≡ receipt_of d = cc (rw place at there.1, found.1) in
             rw one (itself found)
         | inr (inl earlier) ↦ step (itself there) ((there.0, found.0, earlier, there.1, found.1), inl same)
-        | inr (inr later) ↦
-            let at_same : At r.trace there.0 (Receipt d.to c.rsn c.from c.ssn) = rw (← same) there.1 in
-            let first = slice_get-take r.trace there.0 found.0 (receipt_of d) later found.1 in
-            let number = receipt-number n (take there.0 r.trace) d.to d.rsn d.from d.ssn (WellFormed-take n there.0 r.trace rules) (found.0, first) in
-            absurd (omega (arith, before, number, (rules there.0 (Receipt d.to c.rsn c.from c.ssn) at_same).3))
+        | inr (inr later) ↦ absurd (let last = (sound.lawful.well_formed there.0 (receipt_of c) there.1).3 in grind (arith, nat_tests, first, last))
       ])
 
-  pub sound_records_first : SoundRecordsFirst S N
-  sound_records_first next r sound =
-      closed_records_first r.config.members r.config.f (knowledge r) sound.causes.rules sound.causes.truth sound.causes.closed
+  -- what holds of each member with each determinant of its table holds of the held pairs
+  pairs_from-all : (outside : S) (P : ℕ × Determinant → Type 0) (m : ℕ) (members : List (MemberRecord S N))
+      → ((j : ℕ) (e : Entry) → j < length members → Contains (get_or members j (blank outside)).table e → P (m + j, e.det)) → All P (pairs_from m members)
+  pairs_from-all outside P m [] each = All-nil P
+  pairs_from-all outside P m (x ∷ members) each =
+      let next : (j : ℕ) → m + suc j ≡ m + 1 + j = λ j. omega arith in
+      All-append P (pairs_of m x.table) (pairs_from (m + 1) members)
+      (All-map P (λ (e : Entry). (m, e.det)) x.table (All-from (λ e. P (m, e.det)) x.table (λ e among. rw (add-zero m) at (each 0 e (omega arith) among))))
+      (pairs_from-all outside P (m + 1) members (λ j e below among. rw (next j) at (each (suc j) e (omega arith) among)))
+
+  -- and each determinant of a table is held by its member
+  pairs_from-Names : (outside : S) (m : ℕ) (members : List (MemberRecord S N)) (j : ℕ) (d : Determinant) → Names (get_or members j (blank outside)).table d → Contains (pairs_from m members) (m + j, d)
+  pairs_from-Names outside m [] j d named = absurd (Contains-none named.0 named.1)
+  pairs_from-Names outside m (x ∷ members) zero d named =
+      let there = Contains-map (λ (e : Entry). (m, e.det)) x.table named.0 named.1 in
+      rw (add-zero m, ← named.2) (Contains-append_left (pairs_of m x.table) (pairs_from (m + 1) members) (m, named.0.det) there)
+  pairs_from-Names outside m (x ∷ members) (suc j) d named =
+      (let e : m + suc j ≡ m + 1 + j = omega arith in rw e (Contains-append_right (pairs_of m x.table) (pairs_from (m + 1) members) (m + 1 + j, d) (pairs_from-Names outside (m + 1) members j d named)))
+
+  pairs_fit : (outside : S) (m : ℕ) (members : List (MemberRecord S N)) → ((j : ℕ) → j < length members → length (get_or members j (blank outside)).table ≤ 8192)
+      → length (pairs_from m members) ≤ 8192 * length members
+  pairs_fit outside m [] fit = omega arith
+  pairs_fit outside m (x ∷ members) fit =
+      simp (length-append, length-map) (omega (arith, fit 0 (omega arith), pairs_fit outside (m + 1) members (λ j below. fit (suc j) (omega arith))))
+
+module _ {S N : Type 0} (next : Next S N) (r : GroupRecord S N) (sound : IsSound next r) where
+  -- entries in which no determinant stands twice, all of receipts of the trace, are at most as many as its receipts
+  entries_fit : (entries : List Entry) → IsOnce entries → ((d : Determinant) → Names entries d → Has (marks r) (receipt_of d)) → length entries ≤ length (receipts (marks r))
+  entries_fit entries distinct received =
+      let dets : List Determinant = map (λ (e : Entry). e.det) entries in
+      let fits : length dets ≤ length (receipts (marks r)) = length-le_from_is_member (decided same_determinant Decides-same_determinant) dets (receipts (marks r)) distinct
+      (λ q among.
+      let has = received q (Contains-changed (λ (e : Entry). e.det) entries q ((is_member-Decides Decides-same_determinant dets q).0 among)) in
+      let place = filter_map-At determinant_of (marks r) has.0 (receipt_of q) q has.1 refl in
+      (is_member-Decides Decides-same_determinant (receipts (marks r)) q).1 (Contains-at (receipts (marks r)) place.0 q place.1)) in
+      omega (arith, fits, length-map entries (λ (e : Entry). e.det))
+
+  -- so are those of a table, and those that a message in flight carries
+  pub table_fits : (m : ℕ) → length (member r m).table ≤ length (receipts (marks r))
+  table_fits m = entries_fit (member r m).table (sound.distinct m) (named_received next r sound m)
+
+  pub carried_fits : (v : Message N) → IsInFlight (knowledge r) v → IsOnce v.carried → length v.carried ≤ length r.trace
+  carried_fits v flies distinct =
+      omega (arith, entries_fit v.carried distinct (λ d. carried_received next r sound v d flies), length-filter_map determinant_of (marks r), length-map r.trace mark_of)
+
+  held_at : (strike : Members) (i : ℕ) → HeldAt (dump_of r strike) i
+  held_at strike i h at =
+      let all = pairs_from-all r.outside (λ x. (x.0 < r.config.members) × Has (marks r) (receipt_of x.1)) 0 r.members
+      (λ j e below among. (omega (arith, below, sound.members), named_received next r sound j e.det (e, among, refl))) in
+      let held = All-contains (λ x. (x.0 < r.config.members) × Has (marks r) (receipt_of x.1)) (held_pairs r) h all (Contains-at (held_pairs r) i h at) in
+      let fits : length (held_pairs r) ≤ 8192 * length r.members =
+      pairs_fit r.outside 0 r.members (λ j below. (let t = table_fits j in omega (arith, t, length-filter_map determinant_of (marks r), trace_fits next r sound))) in
+      (omega (arith, fits, At-below (held_pairs r) i h at, sound.members, sound.config.members.1), held.0, held.1)
+
+module _ (S N : Type 0) where
+  pub dump_obeys_rules : DumpObeysRules S N
+  unfolding DumpObeysRules
+  dump_obeys_rules next r strike sound within = assumption (held_at next r sound strike)
+
+  pub dump_has_no_orphan : DumpHasNoOrphan S N
+  unfolding DumpHasNoOrphan
+  dump_has_no_orphan next r strike m sound covers few (out, (Send from ssn to, lost, depends)) = absurd lost
+  dump_has_no_orphan next r strike m sound covers few (out, (Receipt to rsn from ssn, lost, depends)) =
+      let d : Determinant = record { from = from; ssn = ssn; to = to; rsn = rsn } in
+      let one = any_survivors_hold r.config.members r.config.f (knowledge r) strike sound.causes covers few m d out depends in
+      lost (one.0, rw (zero-add one.0) at (pairs_from-Names r.outside 0 r.members one.0 d one.2), one.1)

@@ -1,23 +1,133 @@
--- How the members that are down replay what the survivors have recorded, and from there to a recovery.
-use Rattle.fbl_law.proofs.Common.{◌≡◌, ℕ, ◌+◌, ◌-◌, ◌<◌, ◌≤◌, ◌⊎◌, inl, inr, List, [], ◌∷◌, length, map, Some, slice_get, refl, sym, subst, ap, ◌∙◌, arith}
-use Rattle.fbl_law.proofs.Common.{slice_set, length-append, cases_Bool, cases_eq, nat_tests, length-map, length-set, get_or-set_same, get_or-set_other, count_by-le-length, slice_get_within}
-use Rattle.fbl_law.proofs.Common.{slice_index_or, filter, Determinant, mark_of, receipt_of, Has, is_receipt_of, is_send_of, Next, Lawful, sent-before, Entry, found, MemberRecord, blank}
-use Rattle.fbl_law.proofs.Common.{logged_note, replayed_by, length-numbered, Names, IsDown, Stays, IsEventCut, recovery_table, GroupRecord, member_checkpoint, knowledge, receipts, receipts_at}
-use Rattle.fbl_law.proofs.Common.{IsReplayed, IsFold, IsSound, IsRecovery, IsMadeAgain, IsSentAgain, IsStuck, IsNextReplay, recovered_trace, stays_by, true, Send, is_of_receipt, is_replayed, working}
-use Rattle.fbl_law.proofs.Common.{IsReplaying, IsWaiting, replayed_in, IsRebuilt, position_or_len, fails_before_first, find_at, get_or, slice_get-get_or, option_map}
+-- How the members that are down replay what the survivors have recorded, why they never get stuck, how many receipts they replay, and from there to a recovery.
+use Rattle.fbl_law.proofs.Common.{ℕ, zero, suc, ◌<◌, ◌≤◌, List, arith, subst, Determinant, Mark, At, receipt_of, WellFormed, sent-before, one_place, Send, ◌≡◌, ◌+◌, Earlier, Has, ◌≢◌, ◌-◌}
+use Rattle.fbl_law.proofs.Common.{◌==◌, ◌&&◌, Some, slice_get, Bool, true, [], ◌∷◌, length, map, refl, sym, ap, ◌∙◌, nat_lt, filter, nat_tests, length-map, Event, mark_of, determinant_of}
+use Rattle.fbl_law.proofs.Common.{AllBelow, Members, Next, MemberRecord, Stays, IsEventCut, GroupRecord, knowledge, receipts, receipts_at, IsReplayed, IsSound, length-left}
+use Rattle.fbl_law.proofs.Common.{length-filter_map, count_in, cond, ◌⊎◌, inl, inr, slice_set, length-append, cases_Bool, cases_eq, length-set, get_or-set_same, get_or-set_other}
+use Rattle.fbl_law.proofs.Common.{count_by-le-length, slice_get_within, slice_index_or, is_receipt_of, is_send_of, Lawful, Entry, found, blank, logged_note, replayed_by, length-numbered}
+use Rattle.fbl_law.proofs.Common.{Names, IsDown, recovery_table, member_checkpoint, IsFold, IsRecovery, IsMadeAgain, IsNextReplay, recovered_trace, stays_by, is_of_receipt, is_replayed}
+use Rattle.fbl_law.proofs.Common.{working, IsReplaying, IsWaiting, replayed_in, IsRebuilt, position_or_len, fails_before_first, find_at, get_or, slice_get-get_or, option_map}
+use Rattle.std.specs.FinSet as set
+use Rattle.fbl_law.proofs.Receipts.{at-most-before, receipts_at-Has, at-most, Has-receipts_at, length-receipts_at}
+use Rattle.fbl_law.proofs.ChannelCounts.{sum_below-agree, sum_below-none, sum_below-at}
+use Rattle.fbl_law.proofs.Recovery.{cut-obeys, cut-recorded, recorded-cut}
+use Rattle.fbl_law.proofs.GroupRecovery.{recovered_trace-cut, recovered_lawful, cut-shorter, stays_by-cut, survivor-replays, folds-all, checkpoint-survives}
 use Rattle.fbl_law.proofs.Lists.{Contains-here, Contains-there}
 use Rattle.fbl_law.proofs.Safe.{down_or_up}
 use Rattle.fbl_law.proofs.GatheredTables.{gathered_recorded, recorded_gathered}
-use Rattle.fbl_law.proofs.NeverStuck.{never_stuck}
 use Rattle.fbl_law.proofs.Notes.{send-at}
-use Rattle.fbl_law.proofs.Recovery.{cut-recorded, recorded-cut}
-use Rattle.fbl_law.proofs.GroupRecovery.{stays_by-cut, marks-cut, cut-lawful, cut-shorter, survivor-replays, folds-all, checkpoint-survives}
 use Rattle.fbl_law.proofs.Logs.{logged-noted, logged-by, log-short}
-use Rattle.fbl_law.proofs.Receipts.{at-most, at-most-before, receipts_at-Has, Has-receipts_at, length-receipts_at}
 use Rattle.fbl_law.proofs.ReplayedRecords.{replayed-step, replayed-fold}
-use Rattle.fbl_law.proofs.Counting.{count_in-most, count_in-step, replayed-most, replayed-count}
-use Rattle.fbl_law.proofs.CutInOnePass.{recovered_trace-cut}
-use Rattle.fbl_law.proofs.ChannelsMadeAgain.{made-again, made-again-if}
+use Rattle.fbl_law.proofs.Channels.{made-again, made-again-if}
+
+-- the member has replayed each receipt that comes before the send, so it has sent that message again
+abbrev pub IsSentAgain : List Mark → (ℕ → ℕ) → ℕ → ℕ → ℕ → Type 0
+IsSentAgain trace done from ssn to =
+    (c : Determinant) → c.to ≡ from → Earlier trace (receipt_of c) (Send from ssn to) → c.rsn ≤ done from
+
+-- each member m has replayed its first `done m` receipts, and none can go on: where the trace has its next one, that
+-- message isn't sent again
+abbrev pub IsStuck : List Mark → (ℕ → ℕ) → Type 0
+IsStuck trace done = (d : Determinant) → Has trace (receipt_of d) → d.rsn ≡ done d.to + 1 → ¬ (IsSentAgain trace done d.from d.ssn d.to)
+
+module _ (n : ℕ) (t : List Mark) (done : ℕ → ℕ) (obeys : WellFormed n t) (stuck : IsStuck t done) where
+  abbrev DoneBefore : ℕ → Type 0
+  DoneBefore i = (j : ℕ) (c : Determinant) → j < i → At t j (receipt_of c) → c.rsn ≤ done c.to
+
+  done_at : (i : ℕ) (d : Determinant) → DoneBefore i → At t i (receipt_of d) → d.rsn ≤ done d.to
+  done_at i d before here =
+      let count = at-most-before n t d.to (done d.to) i obeys (λ j c below there to. subst (λ (x : ℕ). c.rsn ≤ done x) to (before j c below there)) in
+      omega (arith, (obeys i (receipt_of d) here).3, count, λ (next : d.rsn ≡ done d.to + 1). stuck d (i, here) next sent_again)
+    where
+      sent_again : IsSentAgain t done d.from d.ssn d.to
+      sent_again c to earlier =
+          let sent = sent-before n t obeys i d.to d.rsn d.from d.ssn here in
+          let same = one_place n t obeys (Send d.from d.ssn d.to) sent.0 earlier.1 sent.2 earlier.4 in
+          subst (λ (x : ℕ). c.rsn ≤ done x) to (before earlier.0 c (omega (arith, earlier.2, same, sent.1)) earlier.3)
+
+  all_done : (k : ℕ) → DoneBefore k
+  all_done zero j c below = absurd (omega arith)
+  all_done (suc k) j c below = done_at j c (λ i d less. all_done k i d (omega arith))
+
+  -- so where replay can go on nowhere, each receipt is replayed
+  pub never_stuck : (d : Determinant) → Has t (receipt_of d) → d.rsn ≤ done d.to
+  never_stuck d there = all_done (suc there.0) there.0 d (omega arith) there.1
+
+-- counts that are no more on the set
+pub count_in-most : (s : Members) (a b : ℕ → ℕ) (n : ℕ) → ((q : ℕ) → q < n → set.contains s q ≡ true → a q ≤ b q) → count_in s a n ≤ count_in s b n
+count_in-most s a b zero most = omega arith
+count_in-most s a b (suc n) most = grind (arith, most n, count_in-most s a b n (λ q below. most q (omega arith)))
+
+-- counts that agree on the set
+pub count_in-same : (s : Members) (a b : ℕ → ℕ) (n : ℕ) → ((q : ℕ) → q < n → set.contains s q ≡ true → a q ≡ b q) → count_in s a n ≡ count_in s b n
+count_in-same s a b n agree = sum_below-agree n _ _ (λ q below. grind (arith, agree q below))
+
+-- one more of a member of the set
+pub count_in-step : (s : Members) (a b : ℕ → ℕ) (n p : ℕ) → p < n → set.contains s p ≡ true → b p ≡ a p + 1 → ((q : ℕ) → q ≢ p → b q ≡ a q)
+    → count_in s b n ≡ count_in s a n + 1
+count_in-step s a b n p below in' one others =
+    grind (arith, nat_tests, sum_below-at n p 1 (λ q. cond (set.contains s q) (a q) 0) (λ q. cond (set.contains s q) (b q) 0) (λ q. grind (arith, nat_tests, one, others q)))
+
+-- the determinant of a receipt of a member of the set
+abbrev pub is_of : Members → Determinant → Bool
+is_of s d = set.contains s d.to
+
+-- how many of the receipts are the member's
+abbrev count_to : List Determinant → ℕ → ℕ
+count_to ds p = length (filter (λ (d : Determinant). d.to == p) ds)
+
+-- the receipts of the members of a set, counted member by member
+count_in-determinants : (s : Members) (n : ℕ) (ds : List Determinant) → AllBelow s n → count_in s (count_to ds) n ≡ length (filter (is_of s) ds)
+count_in-determinants s n [] within = sum_below-none n _ (λ q. grind arith)
+count_in-determinants s n (d ∷ ds) within =
+    let more = sum_below-at n d.to (cond (set.contains s d.to) 1 0) (λ q. cond (set.contains s q) (count_to ds q) 0) (λ q. cond (set.contains s q) (count_to (d ∷ ds) q) 0)
+    (λ q. grind (arith, nat_tests)) in
+    grind (arith, nat_tests, within d.to, more, count_in-determinants s n ds within)
+
+-- the receipts of a member beyond a number of them
+abbrev beyond : (ℕ → ℕ) → Determinant → Bool
+beyond past d = nat_lt (past d.to) d.rsn
+
+beyond-numbered : (k b : ℕ) (ds : List Determinant) → ((j : ℕ) (d : Determinant) → slice_get ds j ≡ Some d → d.rsn ≡ b + j + 1)
+    → length (filter (λ (d : Determinant). nat_lt k d.rsn) ds) ≡ length ds - (k - b)
+beyond-numbered k b [] numbers = omega arith
+beyond-numbered k b (d ∷ ds) numbers = grind (arith, nat_tests, numbers 0 d refl, beyond-numbered k (b + 1) ds (λ j e here. omega (arith, numbers (suc j) e here)))
+
+beyond-of : (past : ℕ → ℕ) (p : ℕ) (ds : List Determinant)
+    → filter (λ (d : Determinant). d.to == p) (filter (beyond past) ds) ≡ filter (λ (d : Determinant). nat_lt (past p) d.rsn) (filter (λ (d : Determinant). d.to == p) ds)
+beyond-of past p [] = refl
+beyond-of past p (d ∷ ds) = grind (arith, nat_tests, beyond-of past p ds)
+
+filter-both : (p q : Determinant → Bool) (ds : List Determinant) → filter p (filter q ds) ≡ filter (λ d. p d && q d) ds
+filter-both p q [] = refl
+filter-both p q (d ∷ ds) = grind (arith, filter-both p q ds)
+
+-- the receipts of the members of a set beyond a number of each member's, counted member by member
+pub count_in-beyond : (s : Members) (past : ℕ → ℕ) (n m : ℕ) (t : List Mark) → AllBelow s n → WellFormed m t
+    → count_in s (λ p. length (receipts_at t p) - past p) n ≡ length (filter (λ d. set.contains s d.to && nat_lt (past d.to) d.rsn) (receipts t))
+count_in-beyond s past n m t within obeys =
+    count_in-same s (λ p. length (receipts_at t p) - past p) (count_to (filter (beyond past) (receipts t))) n
+    (λ p below among. sym (ap length (beyond-of past p (receipts t))
+    ∙ beyond-numbered (past p) 0 (receipts_at t p) (λ j d here. omega (arith, (receipts_at-Has m t p j d obeys here).2)) ∙ omega arith))
+    ∙ count_in-determinants s n (filter (beyond past) (receipts t)) within ∙ ap length (filter-both (is_of s) (beyond past) (receipts t))
+
+module _ {S N : Type 0} {next : Next S N} {old : GroupRecord S N} (sound : IsSound next old) {new : List (Event N)} (cut : IsEventCut (Stays (knowledge old)) old.trace new) where
+  -- the members that are down replay no more than the trace has
+  pub replayed-most : (work : ℕ → MemberRecord S N)
+      → ((p : ℕ) → p < old.config.members → set.contains old.down p ≡ true → IsReplayed next old.config.members old.config.starts new p (work p))
+      → count_in old.down (λ p. (work p).received) old.config.members ≤ length old.trace
+  replayed-most work replays =
+      let most = count_in-most old.down (λ p. (work p).received) (λ p. length (receipts_at (map mark_of new) p)) old.config.members (λ p below down. (replays p below down).within) in
+      let all = count_in-determinants old.down old.config.members (receipts (map mark_of new)) sound.down in
+      let some = length-left (is_of old.down) (receipts (map mark_of new)) in
+      omega (arith, most, all, some, cut-shorter sound cut, length-filter_map determinant_of (map mark_of new), length-map new mark_of)
+
+  -- and at the end exactly its receipts of theirs, but for what they had replayed before
+  pub replayed-count : (work : ℕ → MemberRecord S N) (past : ℕ → ℕ)
+      → ((p : ℕ) → p < old.config.members → set.contains old.down p ≡ true → (work p).received ≡ length (receipts_at (map mark_of new) p))
+      → count_in old.down (λ p. (work p).received - past p) old.config.members ≡ length (filter (λ d. set.contains old.down d.to && nat_lt (past d.to) d.rsn) (receipts (map mark_of new)))
+  replayed-count work past all =
+      count_in-same old.down (λ p. (work p).received - past p) (λ p. length (receipts_at (map mark_of new) p) - past p) old.config.members (λ p below down. ap (λ k. k - past p) (all p below down))
+      ∙ count_in-beyond old.down past old.config.members old.config.members (map mark_of new) sound.down (cut-obeys sound cut)
 
 -- what a table finds is one of its entries' determinants, of that receipt
 pub found-named : (p k : ℕ) (table : List Entry) (d : Determinant) → found p k table ≡ Some d → Names table d × (d.to ≡ p) × (d.rsn ≡ k)
@@ -45,7 +155,7 @@ module _ {S N : Type 0} (next : Next S N) (old : GroupRecord S N) (sound : IsSou
   cut = recovered_trace-cut next old sound
 
   abbrev lawful : Lawful next old.config.members old.config.starts (recovered_trace old)
-  lawful = (cut-lawful sound cut).0
+  lawful = recovered_lawful next old sound
 
   -- the member has come so far in its replay of the cut
   abbrev Replays : ℕ → MemberRecord S N → Type 0
@@ -63,13 +173,13 @@ module _ {S N : Type 0} (next : Next S N) (old : GroupRecord S N) (sound : IsSou
   found-receipt p k d is =
       let named = found-named p (k + 1) (recovery_table (knowledge old)) d is in
       let recorded = gathered_recorded sound.causes d named.0 in
-      Has-receipts_at old.config.members (map mark_of (recovered_trace old)) p k d lawful.well_formed (recorded-cut sound.causes (marks-cut old.trace cut) d recorded) named.1 named.2
+      Has-receipts_at old.config.members (map mark_of (recovered_trace old)) p k d lawful.well_formed (recorded-cut sound cut d recorded) named.1 named.2
 
   -- and they find each receipt of the cut
   found-all : (p k : ℕ) (d : Determinant) → slice_get (left p) k ≡ Some d → found p (k + 1) (recovery_table (knowledge old)) ≡ Some d
   found-all p k d here =
       let has = receipts_at-Has old.config.members (map mark_of (recovered_trace old)) p k d lawful.well_formed here in
-      let named = recorded_gathered sound.causes d (cut-recorded sound.causes (marks-cut old.trace cut) d has.0) in
+      let named = recorded_gathered sound.causes d (cut-recorded sound cut d has.0) in
       let some = found-some p (k + 1) (recovery_table (knowledge old)) d named has.1 has.2 in
       some.1 ∙ sym (found-receipt p k some.0 some.1) ∙ here
 
@@ -204,7 +314,7 @@ module _ {S N : Type 0} (next : Next S N) (old : GroupRecord S N) (sound : IsSou
 
       -- the events that stay are those that the counts of the members that were down cover
       pub recovered_trace-rebuilt : filter (λ e. stays_by old.down current (mark_of e)) old.trace ≡ recovered_trace old
-      recovered_trace-rebuilt = stays_by-cut sound cut current replaying.replayed replay_ends
+      recovered_trace-rebuilt = stays_by-cut sound current replaying.replayed replay_ends
 
       -- so a group with these records, and with channels made again, is the group recovered
       module _ (new : GroupRecord S N) (step : IsRebuilt old new rebuilt) where

@@ -6,7 +6,14 @@ use Rattle.fbl_law.proofs.Common.{take-more, fold_next}
 use Rattle.fbl_law.proofs.Lists.{some-at}
 use Rattle.fbl_law.proofs.Logs.{received-fold}
 use Rattle.fbl_law.proofs.Notes.{receipt-at}
-use Rattle.fbl_law.proofs.Receipts.{receipts_at-Has, Has-receipts_at, length-received_notes, note-at, last_taken-among}
+use Rattle.fbl_law.proofs.Receipts.{receipts_at-Has, Has-receipts_at, length-received_notes, note-at, last-from}
+
+module _ {N : Type 0} where
+  -- a member with as many receipts as the trace has of it has them all
+  pub all-taken : (n : ℕ) (t : List (Event N)) (p k : ℕ) → WellFormed n (map mark_of t) → k ≡ length (receipts_at (map mark_of t) p)
+      → (take k (received_notes t p) ≡ received_notes t p) × (take k (receipts_at (map mark_of t) p) ≡ receipts_at (map mark_of t) p)
+  all-taken n t p k obeys count =
+      (take_all k (received_notes t p) (omega (arith, length-received_notes n t p obeys)), take_all k (receipts_at (map mark_of t) p) (omega arith))
 
 module _ {S N : Type 0} where
   -- a fresh member has replayed nothing
@@ -39,14 +46,6 @@ module _ {S N : Type 0} where
       let count = received-fold next m r.config.members (begun (next.initial m r.config.members) m r.config.starts) (received_notes r.trace m) in
       omega (arith, ap (λ (x : Progress S N). x.received) fold'.progress, count, length-received_notes r.config.members r.trace m obeys)
 
-module _ {N : Type 0} where
-  -- a member with as many receipts as the trace has of it has them all
-  pub all-taken : (n : ℕ) (t : List (Event N)) (p k : ℕ) → WellFormed n (map mark_of t) → k ≡ length (receipts_at (map mark_of t) p)
-      → (take k (received_notes t p) ≡ received_notes t p) × (take k (receipts_at (map mark_of t) p) ≡ receipts_at (map mark_of t) p)
-  all-taken n t p k obeys count =
-      (take_all k (received_notes t p) (omega (arith, length-received_notes n t p obeys)), take_all k (receipts_at (map mark_of t) p) (omega arith))
-
-module _ {S N : Type 0} where
   pub fold-replayed : {next : Next S N} {r : GroupRecord S N} {m : ℕ} → WellFormed r.config.members (marks r) → IsFold next r m → IsReplayed next r.config.members r.config.starts r.trace m (member r m)
   fold-replayed {next} {r} {m} obeys fold' =
       let count = fold-received obeys fold' in
@@ -55,7 +54,7 @@ module _ {S N : Type 0} where
         within = omega (arith, count);
         progress = rw all.0 fold'.progress;
         places = fold'.places;
-        last = λ q below. rw all.1 (fold'.last q below ∙ last_taken-among (marks r) q m);
+        last = λ q below. rw all.1 (fold'.last q below ∙ last-from q m 0 (marks r));
       }
 
   -- and the other way round
@@ -66,7 +65,7 @@ module _ {S N : Type 0} where
       record {
         progress = rw all.0 at replayed.progress;
         places = replayed.places;
-        last = λ q below. rw all.1 at (replayed.last q below) ∙ sym (last_taken-among (marks r) q m);
+        last = λ q below. rw all.1 at (replayed.last q below) ∙ sym (last-from q m 0 (marks r));
       }
 
   -- a member that has replayed its first receipts of a trace has replayed them of another trace that has them too, where the

@@ -1,19 +1,143 @@
--- What the step keeps of a weight, the group keeps.
-use Rattle.fbl_law.proofs.Common.{◌≡◌, ℕ, zero, suc, ◌+◌, ◌<◌, ◌≤◌, ◌==◌, cond, List, [], ◌∷◌, ◌++◌, map, Option, Some, None, slice_get, refl, sym, ap, ◌∙◌}
-use Rattle.fbl_law.proofs.Common.{arith, All, filter_map, fold, nat_tests, All-head, All-tail, sum_by-cons, sum_by-append, Event, Mark, mark_of, WellFormed, MayFollow, in_flight, Next, Action}
-use Rattle.fbl_law.proofs.Common.{took, sent, action_of, actions_of, note_of, responses, starts_of, in_flight-send, in_flight-receipt, receipts-noted, WellFormed-keeps, Message, send_mark, IsUp}
-use Rattle.fbl_law.proofs.Common.{StepKeeps, HoldsFirst, GroupRecord, member, channel, marks, knowledge, sum_below, IsSound, received_notes, sum_by, option_map_or, fold-map, sum_by_push}
-use Rattle.fbl_law.proofs.Common.{sum_by-drop_more, get_or_from_slice_get, slice_get_within, StepMakesNone, StepLosesNone, StepConserves, weight_after, weight_flying, weight_of, weight_at_first, weight_of_starts}
-use Rattle.fbl_law.proofs.Common.{WeighsNoMore, WeighsNoLess, WeighsTheSame, messages_in_flight, nil_from_length}
-use Rattle.std.specs.FinSet as set
+-- What each step keeps, of predicates and of a weight, the whole group keeps.
+use Rattle.fbl_law.proofs.Common.{◌≡◌, ℕ, zero, suc, ◌<◌, ◌==◌, inl, inr, List, [], ◌∷◌, ◌++◌, take, drop, map, Some, slice_get, subst, refl, sym, ap, ◌∙◌, arith, length-take, All}
+use Rattle.fbl_law.proofs.Common.{filter_map, fold, cases_eq, eq-eqb, ne_eqb, take-append-drop, All-head, All-tail, filter_map-append, Start, Event, mark_of, WellFormed, Next, Progress}
+use Rattle.fbl_law.proofs.Common.{Action, took, sent, Lawful, action_of, actions_of, notes_of, note_of, responses, starts_of, At-front, At-below, split-at, after_notes-state, eqb-self}
+use Rattle.fbl_law.proofs.Common.{sent-before, StepKeeps, HoldsFirst, GroupRecord, member_checkpoint, marks, IsSound, received_notes, All-cons, All-nil, All-take, HoldsOf, At-filter_map}
+use Rattle.fbl_law.proofs.Common.{All-contains, Option, None, cond, nat_tests, ◌+◌, ◌≤◌, sum_by-cons, sum_by-append, Mark, MayFollow, in_flight, in_flight-send, in_flight-receipt}
+use Rattle.fbl_law.proofs.Common.{receipts-noted, WellFormed-keeps, Message, send_mark, IsUp, member, channel, knowledge, sum_below, sum_by, option_map_or, fold-map, sum_by_push}
+use Rattle.fbl_law.proofs.Common.{sum_by-drop_more, get_or_from_slice_get, slice_get_within, StepMakesNone, StepLosesNone, StepConserves, weight_after, weight_flying, weight_of}
+use Rattle.fbl_law.proofs.Common.{weight_at_first, weight_of_starts, WeighsNoMore, WeighsNoLess, WeighsTheSame, messages_in_flight, nil_from_length}
 use Rattle.fbl_base.specs.declared.trace.Mark.TheVariants as mark
+use Rattle.std.specs.FinSet as set
 use Rattle.fbl_base.specs.declared.trace.Event.TheVariants.{Send, Receipt}
-use Rattle.fbl_law.proofs.ChannelCounts.{sum_below-none, sum_below-at}
-use Rattle.fbl_law.proofs.Channels.{flight_at}
+use Rattle.fbl_law.proofs.Lists.{Contains-at, Contains-place}
+use Rattle.fbl_law.proofs.Safe.{down_or_up, All-from, down_or_both_up, up_if_none}
+use Rattle.fbl_law.proofs.Notes.{noted-sent, one-send, sent-noted, mark-at, send-at}
+use Rattle.fbl_law.proofs.Channels.{flight_sent, flight_at}
 use Rattle.fbl_law.proofs.GroupFacts.{up_state}
-use Rattle.fbl_law.proofs.Safe.{down_or_up, down_or_both_up, up_if_none}
-use Rattle.fbl_law.proofs.KeptByStep.{Came, all-came}
-use Rattle.fbl_law.proofs.Notes.{sent-noted, mark-at}
+use Rattle.fbl_law.proofs.ChannelCounts.{sum_below-none, sum_below-at}
+
+module _ {N : Type 0} where
+  -- a trace that obeys the rules has the send of each receipt before it, with the note
+  receipt-noted : (n : ℕ) (t : List (Event N)) (i p r q s : ℕ) → WellFormed n (map mark_of t) → slice_get t i ≡ Some (Receipt p r q s)
+      → (x : N) × (note_of t q s ≡ Some x) × (j : ℕ) × (j < i) × (slice_get t j ≡ Some (Send q s p x))
+  receipt-noted n t i p r q s obeys here =
+      let before = sent-before n (map mark_of t) obeys i p r q s (mark-at t i (Receipt p r q s) here) in
+      let sent = send-at t before.0 q s p before.2 in
+      (sent.0, sent-noted n t obeys before.0 q s p sent.0 sent.1, before.0, before.1, sent.1)
+
+module _ {S N : Type 0} (next : Next S N) (n : ℕ) (P : ℕ → S → Type 0) (Q : ℕ → ℕ → N → Type 0) (keeps : StepKeeps next n P Q) where
+  -- a send of the member, and a start, that has Q
+  abbrev Sends : ℕ → ℕ × N → Type 0
+  Sends m s = Q m s.0 s.1
+
+  abbrev Starts : Start N → Type 0
+  Starts s = Q s.from s.to s.note
+
+  -- some member sent the note to the member
+  abbrev pub Came : ℕ → N → Type 0
+  Came m x = (q : ℕ) × Q q m x
+
+  -- a member's send has Q, if what it took in before came from some member
+  sent-kept : (m : ℕ) (state : S) (sends : List (ℕ × N)) (notes : List N) (xs ys : List (Action N)) (s : ℕ × N) → m < n → P m state → All (Sends m) sends
+      → All (Came m) (notes_of xs) → xs ++ sent s ∷ ys ≡ map sent sends ++ responses next m n state notes → Sends m s
+  sent-kept m state [] [] [] ys s below holds each came is = absurd cc
+  sent-kept m state [] (note ∷ notes) (took x ∷ xs) ys s below holds each came is =
+      let same : x ≡ note = cc in
+      let here = rw same at (All-head (Came m) x (notes_of xs) came) in
+      let step = keeps m here.0 state note below holds here.1 in
+      sent-kept m (next.step m n state note).state (next.step m n state note).sends.items notes xs ys s below step.0 step.1 (All-tail (Came m) x (notes_of xs) came) (cc)
+  sent-kept m state (x ∷ sends) notes [] ys s below holds each came is = (let same : x ≡ s = cc in rw same at (All-head (Sends m) x sends each))
+  sent-kept m state (x ∷ sends) notes (sent y ∷ xs) ys s below holds each came is =
+      sent-kept m state sends notes xs ys s below holds (All-tail (Sends m) x sends each) came (cc)
+  sent-kept m state sends notes xs ys s below holds each came is = absurd cc
+
+  starts-kept : (m : ℕ) (starts : List (Start N)) → All Starts starts → All (Sends m) (starts_of m starts)
+  starts-kept m starts each = All-from (Sends m) (starts_of m starts) (λ y among.
+      let from : Start N → Option (ℕ × N) = λ s. cond (s.from == m) (Some (s.to, s.note)) None in
+      let at = At-filter_map from starts among.0 y (Contains-place (starts_of m starts) y among) in
+      let own : (at.1.from ≡ m) × (at.1.to ≡ y.0) × (at.1.note ≡ y.1) = grind (arith, nat_tests, at.3) in
+      rw (own.0, own.1, own.2) at (All-contains Starts starts at.1 each (Contains-at starts at.0 at.1 at.2)))
+
+  -- each send of the events has Q
+  abbrev pub AllSent : List (Event N) → Type 0
+  AllSent t = (i q s p : ℕ) (x : N) → slice_get t i ≡ Some (Send q s p x) → Q q p x
+
+  module _ (starts : List (Start N)) (t : List (Event N)) (lawful : Lawful next n starts t) (at_first : (m : ℕ) → m < n → P m (next.initial m n)) (started : All Starts starts) where
+    -- what a member takes in with these events came from some member, if each message received was sent with Q
+    came-in : (m : ℕ) (u : List (Event N)) → ((i p r q s : ℕ) → slice_get u i ≡ Some (Receipt p r q s) → (x : N) × (note_of t q s ≡ Some x) × Q q p x)
+        → All (Came m) (notes_of (filter_map (action_of t m) u))
+    came-in m [] each = All-nil (Came m)
+    came-in m (Send q s p x ∷ u) each =
+        let same : notes_of (filter_map (action_of t m) (Send q s p x ∷ u)) ≡ notes_of (filter_map (action_of t m) u) = grind arith in
+        rw same (came-in m u (λ i. each (suc i)))
+    came-in m (Receipt p r q s ∷ u) each =
+        let noted = each 0 p r q s refl in
+        let rest = came-in m u (λ i. each (suc i)) in
+        elim (cases_eq p m) [
+          | inl own ↦ rw (eq-eqb p m own, noted.1) (All-cons (Came m) noted.0 (notes_of (filter_map (action_of t m) u)) (q, subst (λ (k : ℕ). Q q k noted.0) own noted.2) rest)
+          | inr other ↦ rw (ne_eqb p m other) rest
+        ]
+
+    sent-below : (k i q s p : ℕ) (x : N) → i < k → slice_get t i ≡ Some (Send q s p x) → Q q p x
+    sent-below zero i q s p x below here = absurd (omega arith)
+    sent-below (suc k) i q s p x below here =
+        let may = lawful.well_formed i (mark.Send q s p) (mark-at t i (Send q s p x) here) in
+        let acts : actions_of t q ≡ filter_map (action_of t q) (take i t) ++ sent (p, x) ∷ filter_map (action_of t q) (drop (suc i) t) =
+        ap (filter_map (action_of t q)) (split-at t i (Send q s p x) here) ∙ filter_map-append (action_of t q) (take i t) _ ∙ rw (eqb-self q) refl in
+        sent-kept q (next.initial q n) (starts_of q starts) (received_notes t q) (filter_map (action_of t q) (take i t)) _ (p, x) may.0 (at_first q may.0) (starts-kept q starts started)
+        (came-in q (take i t) (λ j p' r q' s' front.
+        let at : slice_get t j ≡ Some (Receipt p' r q' s') = rw take-append-drop at (At-front (take i t) (drop i t) j (Receipt p' r q' s') front) in
+        let noted = receipt-noted n t j p' r q' s' lawful.well_formed at in
+        let early = At-below (take i t) j (Receipt p' r q' s') front in
+        (noted.0, noted.1, sent-below k noted.2 q' s' p' noted.0 (omega (arith, noted.3, early, length-take i t, below)) noted.4)))
+        (sym acts ∙ lawful.responds q)
+
+    -- each send of the trace has Q
+    pub all-sent : AllSent t
+    all-sent i q s p x here = sent-below (suc i) i q s p x (omega arith) here
+
+    -- each note that a member received has Q
+    pub all-came : (m : ℕ) → All (Came m) (received_notes t m)
+    all-came m = came-in m t (λ i p r q s here.
+        let noted = receipt-noted n t i p r q s lawful.well_formed here in (noted.0, noted.1, all-sent noted.2 q s p noted.0 noted.4))
+
+  -- so the member's state has P, after each of its receipts
+  pub state-kept : (m : ℕ) (state : S) (notes : List N) → m < n → P m state → All (Came m) notes → P m (fold (λ s x. (next.step m n s x).state) state notes)
+  state-kept m state [] below holds came = holds
+  state-kept m state (x ∷ notes) below holds came =
+      let here = All-head (Came m) x notes came in
+      state-kept m (next.step m n state x).state notes below (keeps m here.0 state x below holds here.1).0 (All-tail (Came m) x notes came)
+
+module _ {S N : Type 0} where
+  -- what each step of n members keeps holds of a sound group of them, if it holds at first
+  pub holds-of_sound : (next : Next S N) (r : GroupRecord S N) (P : ℕ → S → Type 0) (Q : ℕ → ℕ → N → Type 0) → IsSound next r
+      → StepKeeps next r.config.members P Q → HoldsFirst next r.config P Q → HoldsOf r P Q
+  holds-of_sound next r P Q sound keeps first = record {
+    states = λ m below. elim (down_or_up r.down m) [
+      | inl down ↦ rw (sound.blanks m below down) (first.0 m below)
+      | inr up ↦ rw (up_state next r sound m below up) (state-kept next n P Q keeps m (next.initial m n) (received_notes r.trace m) below (first.0 m below) (came m))
+    ];
+    checkpoints = λ m below.
+        let first_ones = take (member_checkpoint r m).received (received_notes r.trace m) in
+        let e : (member_checkpoint r m).state ≡ fold (λ s x. (next.step m n s x).state) (next.initial m n) first_ones = ap (λ (x : Progress S N). x.state) (sound.saved m below).progress
+        ∙ after_notes-state next m n r.config.starts first_ones in
+        rw e (state-kept next n P Q keeps m (next.initial m n) first_ones below (first.0 m below) (All-take (Came next n P Q keeps m) (member_checkpoint r m).received (received_notes r.trace m) (came m)));
+    flying = λ v flies.
+        let sent = noted-sent r.trace v.from v.ssn v.note (sound.notes v flies) in
+        let e : sent.1 ≡ v.to = one-send n (marks r) sound.lawful.well_formed v.from v.ssn sent.1 v.to
+        (sent.0, mark-at r.trace sent.0 (Send v.from v.ssn sent.1 v.note) sent.2) (flight_sent sound.causes v flies) in
+        rw e at (every sent.0 v.from v.ssn sent.1 v.note sent.2);
+    sent = every;
+  } where
+    n : ℕ
+    n = r.config.members
+
+    every : AllSent next n P Q keeps r.trace
+    every = all-sent next n P Q keeps r.config.starts r.trace sound.lawful first.0 first.1
+
+    came : (m : ℕ) → All (Came next n P Q keeps m) (received_notes r.trace m)
+    came m = all-came next n P Q keeps r.config.starts r.trace sound.lawful first.0 first.1 m
 
 -- sums over members
 sum_below-plus : (n : ℕ) (a b : ℕ → ℕ) → sum_below n (λ x. a x + b x) ≡ sum_below n a + sum_below n b
@@ -85,15 +209,14 @@ module _ {X Y : Type 0} (n : ℕ) (part : ℕ → X → Option Y) (g : Y → ℕ
       let all = sum_below-at n one.0 (h x) (λ m. sum_by g (filter_map (part m) xs)) (λ m. sum_by g (filter_map (part m) (x ∷ xs))) (λ m. grind (arith, one.2 m, sum_by-cons)) in
       grind (arith, nat_tests, all, one.1, shared xs (λ i. each (suc i)), sum_by-cons h x xs)
 
-module _ {S N : Type 0} where
-  -- what the channel from q to p weighs
-  abbrev channel_weight : (N → ℕ) → GroupRecord S N → ℕ → ℕ → ℕ
-  channel_weight weight r q p = sum_by (λ (v : Message N). weight v.note) (channel r q p)
-
 module _ {S N : Type 0} (next : Next S N) (r : GroupRecord S N) (P : ℕ → S → Type 0) (Q : ℕ → ℕ → N → Type 0) (mass : ℕ → S → ℕ) (weight : N → ℕ)
     (sound : IsSound next r) (keeps : StepKeeps next r.config.members P Q) (first : HoldsFirst next r.config P Q) where
   abbrev n : ℕ
   n = r.config.members
+
+  -- what the channel from q to p weighs
+  abbrev channel_weight : ℕ → ℕ → ℕ
+  channel_weight q p = sum_by (λ (v : Message N). weight v.note) (channel r q p)
 
   abbrev acts : ℕ → List (Action N)
   acts m = actions_of r.trace m
@@ -162,7 +285,7 @@ module _ {S N : Type 0} (next : Next S N) (r : GroupRecord S N) (P : ℕ → S �
   up-weighs m below up = ap (mass m) (up_state next r sound m below up)
 
   -- the channel between two members that are up weighs what the trace has in flight there
-  channel-weighs : (q p : ℕ) → IsUp (knowledge r) q → IsUp (knowledge r) p → channel_weight weight r q p ≡ weight_in n w (marks r) q p
+  channel-weighs : (q p : ℕ) → IsUp (knowledge r) q → IsUp (knowledge r) p → channel_weight q p ≡ weight_in n w (marks r) q p
   channel-weighs q p up_q up_p =
       sum_by-agree (λ (v : Message N). weight v.note) (λ (v : Message N). w v.from v.ssn) (channel r q p) noted
       ∙ sym (fold-map (λ a x. a + out n w x) send_mark 0 (channel r q p)) ∙ ap (sum_by (out n w)) (sound.causes.channels q p up_q up_p)
@@ -200,11 +323,11 @@ module _ {S N : Type 0} (next : Next S N) (r : GroupRecord S N) (P : ℕ → S �
         joined _ _ _ _ _ _ one (same 0 0 refl) (omega (arith, gives, takes))
 
     -- what the group weighs is related to what it began with, where what its members and channels weigh is to what they do by the trace
-    group-related : ((m : ℕ) → m < n → R (cond (set.contains r.down m) 0 (mass m (member r m).state)) (by_trace m)) → ((q p : ℕ) → R (channel_weight weight r q p) (weight_in n w (marks r) q p))
+    group-related : ((m : ℕ) → m < n → R (cond (set.contains r.down m) 0 (mass m (member r m).state)) (by_trace m)) → ((q p : ℕ) → R (channel_weight q p) (weight_in n w (marks r) q p))
         → R (weight_of mass weight r) (weight_at_first next mass weight r.config)
     group-related states cells =
         let held = sums-related n _ _ states in
-        let flying = sums-related n _ _ (λ q below. sums-related n (channel_weight weight r q) (weight_in n w (marks r) q) (λ p below_p. cells q p)) in
+        let flying = sums-related n _ _ (λ q below. sums-related n (channel_weight q) (weight_in n w (marks r) q) (λ p below_p. cells q p)) in
         let now : R (weight_of mass weight r) (sum_below n by_trace + weight_on n w (marks r)) = joined _ _ _ _ _ _ held flying (omega arith) in
         joined _ _ _ _ _ _ now (sums-related n _ _ all-related)
         (omega (arith, flows, starts-weigh, sum_below-plus n by_trace (λ m. sum_by given (acts m)), sum_below-plus n firsts (λ m. begins m + sum_by taken (acts m)), sum_below-plus n begins (λ m. sum_by taken (acts m))))
@@ -218,7 +341,7 @@ module _ {S N : Type 0} (next : Next S N) (r : GroupRecord S N) (P : ℕ → S �
 
   -- where nothing is in flight, that weighs nothing
   none-flying : messages_in_flight r ≡ 0 → weight_flying weight r ≡ 0
-  none-flying = sum_below-nothing n _ _ (λ q. sum_below-nothing n _ (channel_weight weight r q) (λ p none. rw (nil_from_length (channel r q p) none) refl))
+  none-flying = sum_below-nothing n _ _ (λ q. sum_below-nothing n _ (channel_weight q) (λ p none. rw (nil_from_length (channel r q p) none) refl))
 
   -- where each step loses none, and nobody is down, it weighs at least that
   pub weighs_no_less : StepLosesNone next n P Q mass weight → WeighsNoLess next mass weight r

@@ -1,18 +1,25 @@
--- The laws of a group's record, for the functions that state them.
-use Rattle.std.specs.Prelude.{◌≡◌, ℕ, ◌<◌, ◌≤◌, ◌↔◌, true, length}
+-- The laws of a group's record, for the functions that state them: what keeps it sound, what family-based logging promises of it
+-- between any two calls (always no orphans: Alvisi and Marzullo 1998), and what a recovery leaves.
+use Rattle.std.specs.Prelude.{ℕ, ◌≤◌, ◌≡◌, ◌<◌, ◌↔◌, true, length, ◌+◌, ◌⊎◌, not, List, map, slice_index_or, slice_set, Some}
+use Rattle.std.specs.List.{filter}
 use Rattle.std.specs.FinSet as set
-use Rattle.fbl_base.specs.declared.trace.Determinant.{Determinant}
 use Rattle.fbl_base.specs.Configs.{Settings, IsConfig}
-use Rattle.fbl_base.specs.Events.{receipt_of}
-use Rattle.fbl_base.specs.MemberSets.{AllBelow, Members}
-use Rattle.fbl_base.specs.Precedence.{Has}
 use Rattle.fbl_base.specs.Fold.{Next}
-use Rattle.fbl_base.specs.Steps.{SendsAllowed}
-use Rattle.fbl_member.specs.Members.{Message}
-use Rattle.fbl_law.specs.Knowledge.{IsRecorded}
-use Rattle.fbl_law.specs.Groups.{GroupRecord, member_checkpoint, marks, knowledge, is_recorded}
-use Rattle.fbl_law.specs.Sound.{receipts_at, IsSound}
+use Rattle.fbl_base.specs.MemberSets.{AllBelow, Members}
+use Rattle.fbl_member.specs.Members.{Message, MemberRecord, blank, logged_note, replayed_by}
+use Rattle.fbl_law.specs.Groups.{GroupRecord, member_checkpoint, marks, knowledge, is_recorded, receipts}
 use Rattle.fbl_law.specs.GroupSteps.{IsGroupStart, IsDelivery, IsStrike, IsCheckpoint, IsRecovery}
+use Rattle.fbl_base.specs.declared.trace.Determinant.{Determinant}
+use Rattle.fbl_base.specs.Events.{receipt_of, mark_of}
+use Rattle.fbl_base.specs.Precedence.{Has, Precedes}
+use Rattle.fbl_base.specs.Steps.{SendsAllowed}
+use Rattle.fbl_law.specs.Knowledge.{IsRecorded, Includes, IsDown, IsOrphan, Holds}
+use Rattle.fbl_law.specs.Sound.{receipts_at, IsSound, OfSound}
+use Rattle.fbl_law.specs.Promises.{SurvivorsHold}
+use Rattle.fbl_base.specs.declared.trace.Mark.{Mark}
+use Rattle.fbl_table.specs.Tables.{found}
+use Rattle.fbl_law.specs.Steps.{Stays, recovery_table}
+use Rattle.fbl_law.specs.Replaying.{recovered_trace, working, IsReplaying, IsWaiting, IsRebuilt}
 
 -- the behaviour's sends go to other members of the group, at most four at a step
 abbrev pub SendsWell : {S N : Type 0} → Next S N → Type 0
@@ -37,7 +44,7 @@ GroupStrikeKeeps S N =
     → IsStrike next old new struck → AllBelow struck old.config.members → set.len new.down ≤ old.config.f → IsSound next old → IsSound next new
 
 -- so does a checkpoint of a member
-unfoldable pub GroupCheckpointKeeps : Type 0 → Type 0 → Type 0
+abbrev pub GroupCheckpointKeeps : Type 0 → Type 0 → Type 0
 GroupCheckpointKeeps S N =
     (next : Next S N) (old new : GroupRecord S N) (p : ℕ)
     → IsCheckpoint old new p → IsSound next old → IsSound next new
@@ -48,6 +55,19 @@ GroupRecoveryKeeps S N =
     (next : Next S N) (old new : GroupRecord S N)
     → IsRecovery next old new → IsSound next old → IsSound next new
 
+-- from a start of a group a run of deliveries, of strikes after which at most f members are down, of checkpoints, and of recoveries
+pub data Run {S N : Type 0} (next : Next S N) (config : Settings N) : GroupRecord S N → Type 0 where
+  starts : {new : GroupRecord S N} → IsGroupStart next config new → Run next config new
+  delivers : {old new : GroupRecord S N} {v : Message N} → Run next config old → IsDelivery next old new v → Run next config new
+  strikes : {old new : GroupRecord S N} {struck : Members}
+      → Run next config old → IsStrike next old new struck → AllBelow struck old.config.members → set.len new.down ≤ old.config.f → Run next config new
+  checkpoints : {old new : GroupRecord S N} {p : ℕ} → Run next config old → IsCheckpoint old new p → Run next config new
+  recovers : {old new : GroupRecord S N} → Run next config old → IsRecovery next old new → Run next config new
+
+-- so a group is sound after every run
+abbrev pub RunIsSound : Type 0 → Type 0 → Type 0
+RunIsSound S N = (next : Next S N) (config : Settings N) (r : GroupRecord S N) → SendsWell next → IsConfig next.allowed config → Run next config r → IsSound next r
+
 -- in a sound group the test of who has recorded a receipt is right
 abbrev pub RecordedTest : Type 0 → Type 0 → Type 0
 RecordedTest S N =
@@ -56,9 +76,76 @@ RecordedTest S N =
 
 -- the receipts of a member's checkpoint are always recorded: the trace has them, and each of the member's first receipts,
 -- as many as the checkpoint has, is recorded
-unfoldable pub CheckpointIsRecorded : Type 0 → Type 0 → Type 0
+abbrev pub CheckpointIsRecorded : Type 0 → Type 0 → Type 0
 CheckpointIsRecorded S N =
     (next : Next S N) (r : GroupRecord S N) (m : ℕ)
     → IsSound next r → m < r.config.members
     → ((member_checkpoint r m).received ≤ length (receipts_at (marks r) m))
     × ((d : Determinant) → Has (marks r) (receipt_of d) → d.to ≡ m → d.rsn ≤ (member_checkpoint r m).received → IsRecorded (knowledge r) d)
+
+-- no survivor of a strike after which at most f members are down is an orphan
+abbrev pub NoSurvivorIsOrphan : Type 0 → Type 0 → Type 0
+NoSurvivorIsOrphan S N =
+    (next : Next S N) (old new : GroupRecord S N) (struck : Members) (m : ℕ)
+    → IsSound next old → IsStrike next old new struck → set.len new.down ≤ old.config.f → ¬ (IsOrphan (knowledge new) m)
+
+-- in a sound group, whichever at most f members have those that are down among them, the other members hold what they
+-- depend on
+abbrev pub SoundSurvivorsHold : Type 0 → Type 0 → Type 0
+SoundSurvivorsHold S N =
+    OfSound S N (λ r. (s : Members) → ((q : ℕ) → IsDown (knowledge r) q → Includes s q) → set.len s ≤ r.config.f → SurvivorsHold (knowledge r) s)
+
+-- what holds of a sound group and of what a recovery leaves of it
+abbrev pub OfRecovery : (S N : Type 0) → (GroupRecord S N → GroupRecord S N → Type 0) → Type 0
+OfRecovery S N P = (next : Next S N) (old new : GroupRecord S N) → IsRecovery next old new → IsSound next old → P old new
+
+-- the holders of a recorded receipt are those before, and the members that were down
+abbrev pub GainsTheDown : {S N : Type 0} → GroupRecord S N → GroupRecord S N → Type 0
+GainsTheDown old new =
+    (d : Determinant) (m : ℕ) → IsRecorded (knowledge old) d → Holds (knowledge new) d m ↔ Holds (knowledge old) d m ⊎ IsDown (knowledge old) m
+
+-- the receipts left and the lost ones are as many as there were
+abbrev pub UndoesLost : {S N : Type 0} → GroupRecord S N → GroupRecord S N → Type 0
+UndoesLost old new =
+    length (receipts (marks new)) + length (filter (λ d. not (is_recorded old d)) (receipts (marks old))) ≡ length (receipts (marks old))
+
+-- an event of a sound group stays exactly where each receipt that precedes it is recorded
+abbrev pub StaysIsRecorded : Type 0 → Type 0 → Type 0
+StaysIsRecorded S N = OfSound S N (λ r. (e : Mark) → Has (marks r) e
+    → Stays (knowledge r) e ↔ ((c : Determinant) → Precedes (marks r) (receipt_of c) e → IsRecorded (knowledge r) c))
+
+-- so what precedes an event that a recovery leaves is left
+abbrev pub CutIsClosed : Type 0 → Type 0 → Type 0
+CutIsClosed S N = OfRecovery S N (λ old new. (a b : Mark) → Precedes (marks old) a b → Has (marks new) b → Has (marks new) a)
+
+-- replay begins at the checkpoints of the members that are down
+abbrev pub ReplayBegins : Type 0 → Type 0 → Type 0
+ReplayBegins S N =
+    (next : Next S N) (old : GroupRecord S N) (rebuilt : List (MemberRecord S N))
+    → IsSound next old → length rebuilt ≡ old.config.members
+    → ((p : ℕ) → p < old.config.members → IsDown (knowledge old) p → slice_index_or rebuilt p (blank old.outside) ≡ member_checkpoint old p)
+    → IsReplaying next old rebuilt
+
+-- a receipt that the gathered tables find is the member's next one, and its replay, with the note that the sender's log
+-- has, is right
+abbrev pub ReplayIsRight : Type 0 → Type 0 → Type 0
+ReplayIsRight S N =
+    (next : Next S N) (old : GroupRecord S N) (rebuilt : List (MemberRecord S N)) (p : ℕ) (d : Determinant) (note : N)
+    → IsSound next old → IsReplaying next old rebuilt → p < old.config.members → IsDown (knowledge old) p
+    → found p ((slice_index_or rebuilt p (blank old.outside)).received + 1) (recovery_table (knowledge old)) ≡ Some d
+    → logged_note (working old rebuilt d.from).log d.ssn ≡ Some note
+    → IsReplaying next old (slice_set rebuilt p (replayed_by next p old.config.members (slice_index_or rebuilt p (blank old.outside)) d note))
+
+-- replay never gets stuck: where each member that is down waits, each has replayed all its receipts that stay
+abbrev pub ReplayEnds : Type 0 → Type 0 → Type 0
+ReplayEnds S N =
+    (next : Next S N) (old : GroupRecord S N) (rebuilt : List (MemberRecord S N))
+    → IsSound next old → IsReplaying next old rebuilt → ((p : ℕ) → p < old.config.members → IsDown (knowledge old) p → IsWaiting old rebuilt p)
+    → (p : ℕ) → p < old.config.members → IsDown (knowledge old) p → (slice_index_or rebuilt p (blank old.outside)).received ≡ length (receipts_at (map mark_of (recovered_trace old)) p)
+
+-- and the records then rebuilt make a recovery
+abbrev pub RebuiltIsRecovered : Type 0 → Type 0 → Type 0
+RebuiltIsRecovered S N =
+    (next : Next S N) (old new : GroupRecord S N) (rebuilt : List (MemberRecord S N))
+    → IsSound next old → IsReplaying next old rebuilt → ((p : ℕ) → p < old.config.members → IsDown (knowledge old) p → IsWaiting old rebuilt p)
+    → IsRebuilt old new rebuilt → IsRecovery next old new

@@ -12,7 +12,7 @@ use Rattle.fbl_base.specs.declared.trace.Mark.{Mark}
 use Rattle.fbl_base.specs.declared.trace.Mark.TheVariants.{Send, Receipt}
 use Rattle.fbl_base.specs.Events.{member_of}
 use Rattle.fbl_base.specs.Precedence.{Has, Precedes, Depends}
-use Rattle.fbl_base.specs.Rules.{WellFormed, in_flight, receipts_of, sends_of}
+use Rattle.fbl_base.specs.Rules.{WellFormed, in_flight}
 use Rattle.fbl_base.specs.Events.{receipt_of}
 use Rattle.fbl_table.specs.declared.entry.Entry.{Entry}
 use Rattle.fbl_member.specs.Members.{Message, MemberRecord, blank}
@@ -153,12 +153,9 @@ pub record IsDownEmpty {S N : Type 0} (f : ℕ) (r : Knowledge S N) : Type 0 whe
   pub tables : (m : ℕ) → IsDown r m → table r m ≡ []
   pub channels : (q p : ℕ) → IsDown r q ⊎ IsDown r p → r.channel q p ≡ []
 
--- the trace has the receipts and sends that a member had when its checkpoint was taken, and an up member's table names
--- what the checkpoint's table names
-pub record IsCheckpointKept {S N : Type 0} (r : Knowledge S N) (m : ℕ) : Type 0 where
-  pub receipts : (checkpoint r m).received ≤ receipts_of r.trace m
-  pub sends : length (checkpoint r m).log ≤ sends_of r.trace m
-  pub table : (d : Determinant) → IsUp r m → Names (checkpoint r m).table d → Names (table r m) d
+-- an up member's table names what its checkpoint's table names
+abbrev pub IsCheckpointKept : {S N : Type 0} → Knowledge S N → ℕ → Type 0
+IsCheckpointKept r m = (d : Determinant) → IsUp r m → Names (checkpoint r m).table d → Names (table r m) d
 
 -- what holds of what a group of n members knows, between two calls: its trace is well formed, knowledge is true and closed,
 -- the channels between members that are up have what the trace has in flight, at most f members are down and have nothing,

@@ -1,19 +1,21 @@
 -- Where a member that replays its receipts has come.
-use Rattle.std.specs.Prelude.{◌≡◌, ◌≢◌, ℕ, ◌+◌, ◌-◌, ◌<◌, ◌≤◌, ◌&&◌, ◌||◌, ◌⊎◌, not, nat_le, nat_lt, Bool, false, List, [], ◌∷◌, length, map, slice_index_or, Some, None, if◌then◌else◌}
+use Rattle.std.specs.Prelude.{◌≡◌, ◌≢◌, ℕ, ◌+◌, ◌-◌, ◌<◌, ◌≤◌, ◌==◌, ◌&&◌, ◌||◌, ◌⊎◌, not, nat_le, nat_lt, Bool, false, List, [], length, map, slice_index_or, take, Some, None, if◌then◌else◌}
+use Rattle.std.specs.List.{filter, position_or_len}
 use Rattle.std.specs.FinSet as set
 use Rattle.fbl_base.specs.MemberSets.{Members}
 use Rattle.fbl_base.specs.declared.trace.Determinant.{Determinant}
 use Rattle.fbl_base.specs.declared.trace.Event.{Event}
 use Rattle.fbl_base.specs.declared.trace.Mark.{Mark}
 use Rattle.fbl_base.specs.declared.trace.Mark.TheVariants.{Send, Receipt}
-use Rattle.fbl_base.specs.Events.{mark_of, member_of}
+use Rattle.fbl_base.specs.Events.{mark_of}
 use Rattle.fbl_base.specs.Fold.{Next}
+use Rattle.fbl_base.specs.Rules.{receipts_of, sends_of}
 use Rattle.fbl_table.specs.declared.entry.Entry.{Entry}
 use Rattle.fbl_table.specs.Tables.{is_held, found, piggybacked}
 use Rattle.fbl_member.specs.Members.{Message, MemberRecord, last_from, blank, logged_note, logged_beyond}
 use Rattle.fbl_law.specs.Knowledge.{IsDown}
 use Rattle.fbl_law.specs.Steps.{recovery_table}
-use Rattle.fbl_law.specs.Groups.{GroupRecord, member, member_checkpoint, channel, knowledge, sum_below}
+use Rattle.fbl_law.specs.Groups.{GroupRecord, member, member_checkpoint, channel, marks, knowledge, sum_below}
 use Rattle.fbl_law.specs.Sound.{IsReplayed}
 use Rattle.fbl_law.specs.GroupSteps.{IsBroughtBack}
 
@@ -33,27 +35,33 @@ count_in s count n = sum_below n (λ m. if set.contains s m then count m else 0)
 abbrev pub is_replayed : {S N : Type 0} → GroupRecord S N → Determinant → Bool
 is_replayed r d = set.contains r.down d.to && nat_lt (member_checkpoint r d.to).received d.rsn
 
--- whether the event is a receipt, of a member of the set, whose determinant isn't in the table
-abbrev pub stops_at : Members → List Entry → Mark → Bool
-stops_at s held (Send from ssn to) = false
-stops_at s held (Receipt to rsn from ssn) = set.contains s to && not (is_held held (record { from = from; ssn = ssn; to = to; rsn = rsn }))
+-- whether the event is a receipt of the member whose determinant isn't in the table
+abbrev pub is_lost : List Entry → ℕ → Mark → Bool
+is_lost held m (Send from ssn to) = false
+is_lost held m (Receipt to rsn from ssn) = to == m && not (is_held held (record { from = from; ssn = ssn; to = to; rsn = rsn }))
 
--- the trace in one pass, where the members that have stopped are left out, and a member stops at its first lost receipt
-abbrev pub cut_from : {N : Type 0} → Members → List Entry → Members → List (Event N) → List (Event N)
-cut_from s held stopped [] = []
-cut_from s held stopped (e ∷ trace) =
-    if set.contains stopped (member_of (mark_of e)) then cut_from s held stopped trace
-    else (if stops_at s held (mark_of e) then cut_from s held (set.insert stopped (member_of (mark_of e))) trace
-    else e ∷ cut_from s held stopped trace)
+-- the events that come before the member's first lost receipt
+abbrev pub before_lost : List Entry → List Mark → ℕ → List Mark
+before_lost held trace m = take (position_or_len (is_lost held m) trace) trace
 
--- the trace that recovery leaves
-abbrev pub recovered_trace : {S N : Type 0} → GroupRecord S N → List (Event N)
-recovered_trace r = cut_from r.down (recovery_table (knowledge r)) set.empty r.trace
+-- whether the event stays, by how many sends and receipts of the members of the set stay
+abbrev pub stays_within : Members → (ℕ → ℕ) → (ℕ → ℕ) → Mark → Bool
+stays_within s sends receipts (Send from ssn to) = not (set.contains s from) || nat_le ssn (sends from)
+stays_within s sends receipts (Receipt to rsn from ssn) = not (set.contains s to) || nat_le rsn (receipts to)
 
 -- whether the event stays, by how many receipts and sends the members of the set have after their replay
 abbrev pub stays_by : {S N : Type 0} → Members → (ℕ → MemberRecord S N) → Mark → Bool
-stays_by s work (Send from ssn to) = not (set.contains s from) || nat_le ssn (length (work from).log)
-stays_by s work (Receipt to rsn from ssn) = not (set.contains s to) || nat_le rsn (work to).received
+stays_by s work e = stays_within s (λ p. length (work p).log) (λ p. (work p).received) e
+
+-- whether the event stays in a recovery: where its member is down, it comes before the member's first lost receipt
+abbrev pub stays_in : {S N : Type 0} → GroupRecord S N → Mark → Bool
+stays_in r e =
+    let before = before_lost (recovery_table (knowledge r)) (marks r) in
+    stays_within r.down (λ p. sends_of (before p) p) (λ p. receipts_of (before p) p) e
+
+-- the trace that recovery leaves
+abbrev pub recovered_trace : {S N : Type 0} → GroupRecord S N → List (Event N)
+recovered_trace r = filter (λ e. stays_in r (mark_of e)) r.trace
 
 -- messages from one member to another with these numbers and notes, all with the same entries
 abbrev pub resent : {N : Type 0} → ℕ → ℕ → List Entry → List (ℕ × N) → List (Message N)

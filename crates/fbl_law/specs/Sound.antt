@@ -69,3 +69,7 @@ pub record IsSound {S N : Type 0} (next : Next S N) (r : GroupRecord S N) : Type
   pub shape : HasChannels r.config.members r.channels
   pub notes : (v : Message N) → IsInFlight (knowledge r) v → note_of r.trace v.from v.ssn ≡ Some v.note
   pub counted : length (receipts (marks r)) + r.undone_ever ≡ r.receipts_ever
+
+-- what holds of every sound group
+abbrev pub OfSound : (S N : Type 0) → (GroupRecord S N → Type 0) → Type 0
+OfSound S N P = (next : Next S N) (r : GroupRecord S N) → IsSound next r → P r

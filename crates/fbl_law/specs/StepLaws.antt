@@ -73,17 +73,13 @@ weight_flying {N = N} weight r =
 abbrev pub weight_of : {S N : Type 0} → (ℕ → S → ℕ) → (N → ℕ) → GroupRecord S N → ℕ
 weight_of mass weight r = weight_held mass r + weight_flying weight r
 
--- what the first states of n members weigh
-abbrev pub weight_of_firsts : {S N : Type 0} → Next S N → ℕ → (ℕ → S → ℕ) → ℕ
-weight_of_firsts next n mass = sum_below n (λ m. mass m (next.initial m n))
-
 -- what the starts weigh
 abbrev pub weight_of_starts : {N : Type 0} → (N → ℕ) → Settings N → ℕ
 weight_of_starts {N} weight c = sum_by (λ (s : Start N). weight s.note) c.starts
 
 -- what a group begins with: its members' first states and its starts
 abbrev pub weight_at_first : {S N : Type 0} → Next S N → (ℕ → S → ℕ) → (N → ℕ) → Settings N → ℕ
-weight_at_first next mass weight c = weight_of_firsts next c.members mass + weight_of_starts weight c
+weight_at_first next mass weight c = sum_below c.members (λ m. mass m (next.initial m c.members)) + weight_of_starts weight c
 
 -- the group weighs no more than it began with
 abbrev pub WeighsNoMore : {S N : Type 0} → Next S N → (ℕ → S → ℕ) → (N → ℕ) → GroupRecord S N → Type 0

@@ -1,57 +1,84 @@
-//! Laws of the whole record as knowledge: that tables name their causes, and what each step and each run keep. Each is the
+//! The laws of a group's record: what keeps it sound, what the promise is made of, and how a recovery's replay goes. Each is the
 //! contract of a function that does nothing, so that the check of the crate proves it.
-//!
-//! Here a *record* is the part of a group's record that causes are about: the trace without notes, the members' tables and
-//! checkpoints, the channels, and who is down. It is *sound* where it is `IsSoundKnowledge`. `group_laws` and
-//! `recovery_laws` speak of the whole record of a group, and the contracts of `fbl_group` stand on those.
 
-ghost use Rattle.fbl_law.specs.Laws.{ClosedIsHeld, ClosedHasNoOrphan, ClosedRecordsCauses, ClosedRecordsFirst, AnySurvivorsHold, DeliveryKeeps, StrikeKeeps, CheckpointKeeps, RecoveryKeeps, StaysIsRecorded, CutIsClosed, CutIsRecorded, RecoveryGainsHolders, CutIsLawful, NeverStuck, RunIsSound, RunIsHeld};
+ghost use Rattle.std.specs.Prelude.{◌≡◌, ℕ};
+ghost use Rattle.fbl_law.specs.Dumps.{DumpHasNoOrphan, DumpObeysRules};
+ghost use Rattle.fbl_law.specs.GroupLaws.{CheckpointIsRecorded, CutIsClosed, GainsTheDown, GroupCheckpointKeeps, GroupDeliveryKeeps, GroupRecoveryKeeps, GroupStartIsSound, GroupStrikeKeeps, NoSurvivorIsOrphan, OfRecovery, RebuiltIsRecovered, RecordedTest, ReplayBegins, ReplayEnds, ReplayIsRight, RunIsSound, SoundSurvivorsHold, StaysIsRecorded, UndoesLost};
+ghost use Rattle.fbl_law.specs.Groups.{knowledge};
+ghost use Rattle.fbl_law.specs.Knowledge.{IsAlwaysHeld, IsOrphan};
+ghost use Rattle.fbl_law.specs.Promises.{GainsHolders, HoldsEachReceipt, LeavesRecorded, RecordsCauses, RecordsFirst};
+ghost use Rattle.fbl_law.specs.Replaying.{recovered_trace};
+ghost use Rattle.fbl_law.specs.Sound.{OfSound};
+ghost use Rattle.fbl_law.specs.Steps.{IsEventCut, Stays};
 
-/// Where tables name their causes, each receipt is stable or held by each up member that depends on it, so no up member is
-/// an orphan; what precedes a recorded receipt is recorded, so that, where the trace is well formed and knowledge true, a
-/// member's recorded receipts are its first ones.
-pub fn closed_law<S, N>()
-    ensures held { ClosedIsHeld S N }
-    ensures orphans { ClosedHasNoOrphan S N }
-    ensures causes { ClosedRecordsCauses S N }
-    ensures first { ClosedRecordsFirst S N }
+/// A group in which nothing is received yet is sound: its trace has the starts alone, so there is no determinant to hold.
+///
+/// A delivery keeps it so: the determinants of the receipts that the message depends on come with it, but for stable ones, so
+/// the receiver's table names what it depends on, but for stable receipts; and its state is again the fold of its receipts. So
+/// does a strike after which at most f members are down: of the more than f holders of a stable receipt one survives. So does a
+/// checkpoint: the member is at the fold of its receipts, and its table names what they depend on, but for stable receipts. And
+/// so does a recovery, and every run of these.
+pub fn sound_law<S, N>()
+    ensures start { GroupStartIsSound S N }
+    ensures delivery { GroupDeliveryKeeps S N }
+    ensures strike { GroupStrikeKeeps S N }
+    ensures checkpoint { GroupCheckpointKeeps S N }
+    ensures recovery { GroupRecoveryKeeps S N }
+    ensures run { RunIsSound S N }
 {}
 
-/// A delivery keeps a record sound.
-pub fn delivery_law<S, N>()
-    ensures { DeliveryKeeps S N }
+/// In a sound group a receipt is recorded exactly where some member's table or some checkpoint's has its determinant; the
+/// receipts of a member's checkpoint are always recorded. What precedes a recorded receipt is recorded, and the recorded
+/// receipts of a member, up or down, are its first ones, so that it can be put at the fold of them.
+pub fn recorded_law<S, N>()
+    ensures test { RecordedTest S N }
+    ensures checkpoint { CheckpointIsRecorded S N }
+    ensures causes { OfSound S N (λ r. RecordsCauses (knowledge r)) }
+    ensures first { OfSound S N (λ r. RecordsFirst (knowledge r)) }
 {}
 
-/// A strike after which at most f members are down keeps a record sound. Whichever members are struck, at most f with those
-/// that are down: what a survivor depends on, the table of a survivor has.
-pub fn strike_law<S, N>()
-    ensures sound { StrikeKeeps S N }
-    ensures survivors { AnySurvivorsHold S N }
+/// The promise. In a sound group in which nobody is down each receipt is held by more than f members or by each member that
+/// depends on it; whoever is down, each receipt has more than f holders or is held by each up member that depends on it. This is
+/// the condition of "always no orphans" (Alvisi and Marzullo 1998).
+///
+/// Whichever at most f members are struck, in one call or several, no survivor is an orphan: what a survivor depends on, a
+/// survivor has recorded.
+pub fn no_orphan_law<S, N>()
+    ensures tables { OfSound S N HoldsEachReceipt }
+    ensures holders { OfSound S N (λ r. IsAlwaysHeld r.config.f (knowledge r)) }
+    ensures sound { OfSound S N (λ r. (m : ℕ) → ¬ (IsOrphan (knowledge r) m)) }
+    ensures struck { NoSurvivorIsOrphan S N }
+    ensures recorded { SoundSurvivorsHold S N }
 {}
 
-/// A checkpoint of a member keeps a record sound.
-pub fn checkpoint_law<S, N>()
-    ensures { CheckpointKeeps S N }
+/// A dump of a sound group obeys the rules of dumps, and where its strike set has those that are down and at most f
+/// members in all, the audit finds no orphan in it.
+#[tactic(auto, using(crate::proofs::Promises::dump_obeys_rules, crate::proofs::Promises::dump_has_no_orphan))]
+pub fn dump_law<S, N>()
+    ensures rules { DumpObeysRules S N }
+    ensures no_orphan { DumpHasNoOrphan S N }
 {}
 
-/// A recovery keeps a record sound. An event stays exactly where each receipt that precedes it is recorded, so all that
-/// precedes it stays with it, and exactly the recorded receipts stay; a receipt's holders stay, the trace stays lawful, and
-/// replay never gets stuck.
+/// The holders of a receipt after a recovery are those before it: of a recorded receipt, with all members that were down. A
+/// recovery leaves the recorded receipts, in their order, and undoes the lost ones. What it leaves of the trace are the events
+/// before their member's first lost receipt. An event stays exactly where each receipt that precedes it is recorded, so all that
+/// precedes it stays with it.
 pub fn recovery_law<S, N>()
-    ensures sound { RecoveryKeeps S N }
+    ensures stay { OfRecovery S N (λ old new. GainsHolders (knowledge old) (knowledge new)) }
+    ensures gain { OfRecovery S N GainsTheDown }
+    ensures left { OfRecovery S N LeavesRecorded }
+    ensures undone { OfRecovery S N UndoesLost }
+    ensures cut { OfSound S N (λ r. IsEventCut (Stays (knowledge r)) r.trace (recovered_trace r)) }
+    ensures one { OfRecovery S N (λ old new. new.trace ≡ recovered_trace old) }
     ensures stays { StaysIsRecorded S N }
     ensures closed { CutIsClosed S N }
-    ensures recorded { CutIsRecorded S N }
-    ensures holders { RecoveryGainsHolders S N }
-    ensures lawful { CutIsLawful S N }
-    ensures replay { NeverStuck }
 {}
 
-/// After every run of deliveries, strikes after which at most f members are down, checkpoints and recoveries the record is
-/// sound, each receipt has more than f holders or is held by each up member that depends on it, and no up member depends on
-/// a receipt that isn't recorded.
-#[tactic(auto, using(crate::proofs::Run::run_is_sound, crate::proofs::Run::run_is_held))]
-pub fn run_law<S, N>()
-    ensures sound { RunIsSound S N }
-    ensures held { RunIsHeld S N }
+/// Replay begins at the checkpoints; that of what the gathered tables find, with the notes of the senders' logs, is right
+/// and never gets stuck, and what it rebuilds makes a recovery.
+pub fn replay_law<S, N>()
+    ensures begins { ReplayBegins S N }
+    ensures right { ReplayIsRight S N }
+    ensures ends { ReplayEnds S N }
+    ensures recovered { RebuiltIsRecovered S N }
 {}

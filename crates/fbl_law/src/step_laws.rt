@@ -42,8 +42,8 @@ pub trait Keeping: Behaviour {
     ghost keeps: { (c : Settings Self.Note) → IsConfig Self.next.allowed c → StepKeeps Self.next c.members (states c) (notes c) };
 }
 
-/// A behaviour with predicates that each step keeps, and with a weight, of which one of the traits below says what becomes in
-/// a step that starts from the predicates.
+/// A behaviour with predicates that each step keeps, and with a weight, of which the traits below say what becomes in a step
+/// that starts from the predicates. Where both hold, each step keeps the weight, and so does the group.
 ///
 /// `mass` is what a member's state weighs, `weight` what a note weighs, both by the group's parameters.
 pub trait Weighing: Keeping {
@@ -53,14 +53,6 @@ pub trait Weighing: Keeping {
     ghost mass: { Settings Self.Note → ℕ → Self.State → ℕ };
 
     ghost weight: { Settings Self.Note → Self.Note → ℕ };
-}
-
-/// Each step keeps the weight.
-pub trait KeepingWeight: Weighing {
-    ghost use Rattle.fbl_base.specs.Configs.{Settings, IsConfig};
-    ghost use Rattle.fbl_law.specs.StepLaws.{StepConserves};
-
-    ghost keeps_weight: { (c : Settings Self.Note) → IsConfig Self.next.allowed c → StepConserves Self.next c.members (Self.states c) (Self.notes c) (Self.mass c) (Self.weight c) };
 }
 
 /// No step makes weight.
@@ -88,11 +80,6 @@ pub fn conserved_law<B: Conserving>()
 /// send of the trace.
 pub fn kept_law<B: Keeping>()
     ensures { (r : GroupRecord B.State B.Note) → IsSound B.next r → HoldsOf r (B.states r.config) (B.notes r.config) }
-{}
-
-/// Where each step from the predicates keeps the weight, every sound group weighs what it began with, its first states and its starts.
-pub fn weight_kept_law<B: KeepingWeight>()
-    ensures { (r : GroupRecord B.State B.Note) → IsSound B.next r → WeighsTheSame B.next (B.mass r.config) (B.weight r.config) r }
 {}
 
 /// Where no step from the predicates makes weight, every sound group weighs no more than it began with, whoever is down.

@@ -1,11 +1,13 @@
 -- Why events have no order.
 use Rattle.std.specs.Prelude.{ℕ, ◌≡◌, ◌≢◌, ◌≤◌, ◌+◌, ◌-◌, ◌⊎◌, List, length, Some, map, slice_get, take, AllPairs}
-use Rattle.fbl_base.specs.declared.fault.DumpFault.{DumpFault}
-use Rattle.fbl_base.specs.declared.fault.DumpFault.TheVariants.{BadEvent, Memory}
+use Rattle.fbl_base.specs.declared.fault.Breach.{Breach}
+use Rattle.fbl_base.specs.declared.fault.Breach.TheVariants as breach
+use Rattle.fbl_base.specs.declared.refusal.DumpRefusal.{DumpRefusal}
+use Rattle.fbl_base.specs.declared.refusal.DumpRefusal.TheVariants.{BadEvent, Memory}
 use Rattle.fbl_base.specs.declared.fault.EventRule.TheVariants.{TooMany, NothingInFlight}
 use Rattle.fbl_base.specs.declared.trace.Mark.{Mark}
 use Rattle.fbl_base.specs.Audit.{Parts, RefusesDump}
-use Rattle.fbl_base.specs.Breaches.{BreaksEvent, IsOfDump, dump_refusal}
+use Rattle.fbl_base.specs.Breaches.{BreaksEvent, IsDumpBreach}
 use Rattle.fbl_base.specs.Configs.{FAllowed, IsFirstBreach, MembersAllowed}
 use Rattle.fbl_base.specs.Events.{At, destination_of, member_of, send_of, source_of}
 use Rattle.fbl_base.specs.Precedence.{Has}
@@ -67,15 +69,15 @@ RefusesOrder n events (NoOrder chain) =
     HasNoOrder n events
     × ((run : List Mark) × IsFurthest n events run × IsChain n events run chain.items)
     × ((first : ℕ) × StartsAt chain.items first × IsFirstBreach (CanCome n events) first)
-RefusesOrder n events (Dump (BadEvent fault)) =
-    HasNoOrder n events × (fault.place ≡ 8192) × At events fault.place fault.event × (fault.rule ≡ TooMany)
-RefusesOrder n events (Dump Memory) = Unit {0}
-RefusesOrder n events (Dump fault) = ⊥
+RefusesOrder n events (Dump (BadEvent place) (breach.Event fault)) =
+    HasNoOrder n events × (place ≡ 8192) × (fault.place ≡ place) × At events place fault.event × (fault.rule ≡ TooMany)
+RefusesOrder n events (Dump Memory breach.Memory) = Unit {0}
+RefusesOrder n events (Dump _ _) = ⊥
 
 -- the members and f are allowed, and the events have no order; or the dump is refused in whichever order they are
 abbrev pub RefusesUnordered : {A : Type 0} → Parts → OrderFault A → Type 0
 RefusesUnordered dump fault =
     (MembersAllowed dump.members × FAllowed dump.members dump.f × RefusesOrder dump.members dump.events fault)
-    ⊎ ((other : DumpFault) × (fault ≡ Dump other) × ((events : List Mark)
+    ⊎ ((refusal : DumpRefusal) × (broken : Breach) × (fault ≡ Dump refusal broken) × ((events : List Mark)
     × (MembersAllowed dump.members → FAllowed dump.members dump.f → IsOrder dump.members dump.events events)
-    × RefusesDump (with_events events dump) (dump_refusal other) × IsOfDump (with_events events dump) other))
+    × RefusesDump (with_events events dump) refusal × IsDumpBreach (with_events events dump) refusal broken))

@@ -1,6 +1,6 @@
 //! Why the events of a run have no order.
 
-use fbl_base::{DumpFault, EventRule, Mark};
+use fbl_base::{Breach, DumpRefusal, EventRule, Mark};
 use std::alloc::{AllocError, Allocator, Global};
 use std::convert::From;
 use thiserror::Error;
@@ -40,18 +40,19 @@ pub enum OrderFault<A: Allocator = Global> {
     /// No order of the events obeys the rules. The first event here is the first, as they were given, that comes in no part of an
     /// order. Each waits for the next one; the last waits for one of these, so that they go round in a circle, or for none.
     NoOrder(Vec<Stuck, A>),
-    /// A dump of the events, in whichever order, has this fault.
-    Dump(DumpFault),
+    /// A dump of the events, in whichever order, is refused, for this.
+    Dump(DumpRefusal, Breach),
 }
 
 impl<A: Allocator> From<AllocError> for OrderFault<A> {
     ghost use Rattle.std.specs.Prelude.{◌≡◌};
-    ghost use Rattle.fbl_base.specs.declared.fault.DumpFault.TheVariants.{Memory};
+    ghost use Rattle.fbl_base.specs.declared.fault.Breach.TheVariants as breach;
+    ghost use Rattle.fbl_base.specs.declared.refusal.DumpRefusal.TheVariants.{Memory};
     ghost use Rattle.fbl_order.specs.declared.fault.OrderFault.TheVariants.{Dump};
 
-    ghost from_gives = { λ _ e. e ≡ Dump Memory };
+    ghost from_gives = { λ _ e. e ≡ Dump Memory breach.Memory };
 
     fn from(_: AllocError) -> OrderFault<A> {
-        OrderFault::Dump(DumpFault::Memory)
+        OrderFault::Dump(DumpRefusal::Memory, Breach::Memory)
     }
 }

@@ -2,7 +2,7 @@
 
 ghost use Rattle.std.specs.Prelude.{◌<◌};
 
-use fbl_base::{DumpFault, EventFault, EventRule, Mark, Member};
+use fbl_base::{Breach, DumpRefusal, EventFault, EventRule, Mark, Member};
 use fbl_fixtures::Refusing;
 use fbl_order::{Obstacle, OrderFault, Stuck, order};
 use std::alloc::Global;
@@ -142,10 +142,12 @@ fn names_the_event_behind_a_gap(rt: HostRuntime) -> Result<(), Fail> {
     Ok(())
 }
 
-/// Whether these events are refused in a group of three with this fault.
-fn has_fault(alloc: Global, events: &[Mark], fault: DumpFault) -> bool {
+/// Whether these events are refused in a group of three for their event at place 8192.
+fn has_fault(alloc: Global, events: &[Mark], breach: Breach) -> bool {
     match &order(alloc, 3, events) {
-        Err(OrderFault::Dump(found)) => *found == fault,
+        Err(OrderFault::Dump(refusal, found)) => {
+            *refusal == DumpRefusal::BadEvent(8192) && *found == breach
+        }
         _ => false,
     }
 }
@@ -159,12 +161,12 @@ fn refuses_too_many(rt: HostRuntime) -> Result<(), Fail> {
     }
     assert!(rt; has_order(rt.alloc(), events.as_slice(), events.as_slice()));
     events.push(send(1, 1, 0))?;
-    let fault = DumpFault::BadEvent(EventFault {
+    let breach = Breach::Event(EventFault {
         place: 8192,
         event: send(1, 1, 0),
         rule: EventRule::TooMany,
     });
-    assert!(rt; has_fault(rt.alloc(), events.as_slice(), fault));
+    assert!(rt; has_fault(rt.alloc(), events.as_slice(), breach));
     Ok(())
 }
 
@@ -174,7 +176,9 @@ fn answers_with_one_refused(alloc: Global, request: u64, events: &[Mark], length
     let as_ever = match order(&heap, 3, events) {
         Ok(found) => found.len() == length,
         Err(OrderFault::NoOrder(chain)) => chain.len() == length,
-        Err(OrderFault::Dump(fault)) => return heap.has_refused() && fault == DumpFault::Memory,
+        Err(OrderFault::Dump(refusal, _)) => {
+            return heap.has_refused() && refusal == DumpRefusal::Memory;
+        }
     };
     as_ever && !heap.has_refused()
 }

@@ -22,9 +22,8 @@ pub use Rattle.fbl_history.specs.declared.column.Column.{Column}
 pub use Rattle.fbl_input.proofs.Inputs.{over_fault, over_input}
 pub use Rattle.fbl_input.specs.declared.fault.RunFault.{RunFault}
 pub use Rattle.fbl_input.specs.declared.output.OutputFault.{OutputFault}
-pub use Rattle.fbl_law.proofs.GroupStrike.{recorded_test}
+pub use Rattle.fbl_law.proofs.GroupStrike.{recorded_test, was_up}
 pub use Rattle.fbl_law.proofs.Safe.{no_orphan, up_if_none}
-pub use Rattle.fbl_law.proofs.Strike.{was_up}
 pub use Rattle.fbl_law.specs.GroupSteps.{IsGroupStart, IsStrike}
 pub use Rattle.fbl_law.specs.Groups.{GroupRecord, is_recorded, knowledge, marks}
 pub use Rattle.fbl_law.specs.Knowledge.{IsRecorded, IsUp, Names}

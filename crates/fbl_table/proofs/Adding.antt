@@ -1,9 +1,10 @@
--- Tables as a map has them, and what adding an entry does to them.
-use Rattle.fbl_table.proofs.Common.{not, count_by, ◌≡◌, ℕ, zero, suc, ◌+◌, ◌<◌, ◌≤◌, true, false, cond, ◌||◌, ◌&&◌, List, [], ◌∷◌, ◌++◌, map, Some, None, refl}
-use Rattle.fbl_table.proofs.Common.{sym, ap, ◌∙◌, arith, take, drop, length, slice_get, lookup, values_of, keys_of, nat_cmp, nat_cmp_total, false≢true, fold, AllByRecursion, append-nil}
-use Rattle.fbl_table.proofs.Common.{length-map, take_all, sum_by-cons, set_value_at, Determinant, same_determinant, insert_entry, Entry, is_held, lacks, has_at, entry_of, gathered, learned, held_by}
-use Rattle.fbl_table.proofs.Common.{marked, is_some, position, drop_next, false_from_ne_true, or_from, or_left, or_right, or_comm, position_or_len, Decides-same_determinant, drop_all, take_more}
-use Rattle.fbl_table.proofs.Common.{map-append, fold_push, slice_get_past, slice_get_within, get_or_from_slice_get, same_from_contains, absent_from_lookup, insert_entry-absent, or_len-absent}
+-- Tables as a map has them, and what adding an entry does to them; added in turn to none, a table's entries give the table.
+use Rattle.fbl_table.proofs.Common.{not, count_by, ◌≡◌, ℕ, zero, suc, ◌+◌, ◌<◌, ◌≤◌, true, false, cond, ◌||◌, ◌&&◌, List, [], ◌∷◌, ◌++◌, map, Some, None, refl, sym, ap, ◌∙◌, arith, take}
+use Rattle.fbl_table.proofs.Common.{drop, length, slice_get, lookup, values_of, keys_of, nat_cmp, nat_cmp_total, false≢true, fold, AllByRecursion, append-nil, length-map, take_all}
+use Rattle.fbl_table.proofs.Common.{sum_by-cons, set_value_at, Determinant, same_determinant, insert_entry, Entry, is_held, lacks, has_at, entry_of, gathered, learned, held_by, marked}
+use Rattle.fbl_table.proofs.Common.{is_some, position, drop_next, false_from_ne_true, or_from, or_left, or_right, or_comm, position_or_len, Decides-same_determinant, drop_all, take_more}
+use Rattle.fbl_table.proofs.Common.{map-append, fold_push, slice_get_past, slice_get_within, get_or_from_slice_get, same_from_contains, absent_from_lookup, insert_entry-absent}
+use Rattle.fbl_table.proofs.Common.{or_len-absent, IsOnce, append_assoc, list_any-append, added}
 use Rattle.std.specs.FinSet as set
 use Rattle.std.specs.List.{IsDistinct}
 use Rattle.fbl_table.specs.Tables.{added}
@@ -183,3 +184,30 @@ held-carried me (e ∷ carried) d = ap (λ b. same_determinant d e.det || b) (he
 pub not_held_learned : (me : ℕ) (table carried : List Entry) (d : Determinant) → is_held table d ≡ false → is_held carried d ≡ false → is_held (learned me table carried) d ≡ false
 not_held_learned me table carried d none others =
     held-gathered table (map (held_by me) carried) d ∙ or_from _ _ none (held-carried me carried d ∙ others)
+
+-- none of the rest is held by the first entries
+abbrev Apart : List Entry → List Entry → Type 0
+Apart first rest = AllByRecursion (λ (e : Entry). is_held first e.det ≡ false) rest
+
+apart-more : (first rest : List Entry) (e : Entry) → Apart first rest
+    → AllByRecursion (λ d. same_determinant e.det d ≡ false) (map (λ (x : Entry). x.det) rest) → Apart (first ++ e ∷ []) rest
+apart-more first [] e apart once = tt
+apart-more first (x ∷ rest) e apart once =
+    let one : is_held (first ++ e ∷ []) x.det ≡ false =
+    grind (arith, list_any-append (λ (y : Entry). same_determinant x.det y.det) first (e ∷ []), apart.0, apart-turned e.det x.det once.0) in
+    (one, apart-more first rest e apart.1 once.1)
+
+added-apart : (first rest : List Entry) → Apart first rest → IsOnce rest → fold added first rest ≡ first ++ rest
+unfolding IsDistinct
+added-apart first [] apart once = sym (append-nil first)
+added-apart first (e ∷ rest) apart once =
+    ap (λ (t : List Entry). fold added t rest) (added_new first e apart.0) ∙ added-apart (first ++ e ∷ []) rest (apart-more first rest e apart.1 once.0) once.1
+    ∙ append_assoc first (e ∷ []) rest
+
+none-held : (rest : List Entry) → Apart [] rest
+none-held [] = tt
+none-held (e ∷ rest) = (refl, none-held rest)
+
+pub gathered_first : (none table : List Entry) → length none ≡ 0 → IsOnce table → gathered none table ≡ table
+gathered_first [] table empty once = added-apart [] table (none-held table) once
+gathered_first (e ∷ none) table empty once = absurd (omega arith)

@@ -1,10 +1,13 @@
--- The open places of a table.
-use Rattle.fbl_table.proofs.Common.{zero, values_of, set_value_at, ◌≡◌, ℕ, suc, ◌+◌, ◌<◌, Bool, true, false, cond, ◌||◌, List, [], ◌∷◌, ◌++◌, map, Option, Some, refl}
-use Rattle.fbl_table.proofs.Common.{sym, ap, ◌∙◌, arith, length, slice_get, get_or, inl, inr, false≢true, nat_tests, filter, filter_map, slice_get_cases, nat_cmp, nat_cmp_total, Entry}
-use Rattle.fbl_table.proofs.Common.{is_open, piggybacked, entry_of, open_at, IsIndex, nat_le, All-get_or, AllZip-push, filter_passes, length_all_zip, AllZip, option_map_or, len-within}
+-- The places of the open entries, how many entries are passed on, and what steps keep.
+use Rattle.fbl_table.proofs.Common.{zero, values_of, set_value_at, ◌≡◌, ℕ, suc, ◌+◌, ◌<◌, Bool, true, false, cond, ◌||◌, List, [], ◌∷◌, ◌++◌, map, Option, Some, refl, sym, ap, ◌∙◌, arith}
+use Rattle.fbl_table.proofs.Common.{length, slice_get, get_or, inl, inr, false≢true, nat_tests, filter, filter_map, slice_get_cases, nat_cmp, nat_cmp_total, Entry, is_open, piggybacked}
+use Rattle.fbl_table.proofs.Common.{entry_of, open_at, IsIndex, nat_le, All-get_or, AllZip-push, filter_passes, length_all_zip, AllZip, option_map_or, len-within, KeepsIndex}
+use Rattle.fbl_table.proofs.Common.{IndexedEntries, drop, drop_next, ◌≤◌, count_by, length-map, filter-append, sum_by-cons, Determinant, length-left, gathered, learned, held_by}
+use Rattle.fbl_table.proofs.Common.{length-append, length-filter, length-filter_map, noted}
 use Rattle.std.specs.FinSet as set
 use Rattle.fbl_table.specs.Index.{places_of_open}
 use Rattle.fbl_table.proofs.Adding.{Pairs}
+use Rattle.fbl_table.specs.Tables.{added}
 
 -- an entry of the one table is open only where the other's at its place is
 abbrev AreGrown : ℕ → List Entry → List Entry → Type 0
@@ -129,3 +132,47 @@ index-put f es i v w is less stale stays open_places index = record {
   places = index.places;
   exact = λ fresh. index.exact fresh ∙ sym (places-put f 0 es i v w is (let stays' = stays fresh in grind (arith, less, stays')));
 }
+
+pub keeps_more : {A : Type 0} {a b c : IndexedEntries A} → KeepsIndex a b → KeepsIndex b c → KeepsIndex a c
+keeps_more first second = record { index = λ is. second.index (first.index is); room = omega (arith, first.room, second.room) }
+
+-- an index may be taken for stale
+pub keeps_stale : {A : Type 0} (old : IndexedEntries A) (stale : Bool) → (stale ≡ false → old.stale ≡ false) → KeepsIndex old (record old { stale = stale })
+keeps_stale old stale was = record {
+  index = λ is. record { before = is.before; grown = is.grown; places = is.places; exact = λ fresh. is.exact (was fresh) };
+  room = omega arith;
+}
+
+-- an entry more makes at most one more to pass on
+open-added : (f : ℕ) (table : List Entry) (entry : Entry) → count_by (is_open f) (added table entry) ≤ count_by (is_open f) table + 1
+unfolding added
+open-added f [] entry = grind arith
+open-added f (e ∷ table) entry =
+    let rest = open-added f table entry in
+    let united : Entry = record { det = e.det; known = set.union e.known entry.known } in
+    let count = λ (x : Entry) (xs : List Entry). sum_by-cons (λ y. cond (is_open f y) 1 0) x xs in
+    grind (arith, rest, count united table, count e table, count e (added table entry))
+
+open-gathered : (f : ℕ) (table other : List Entry) → count_by (is_open f) (gathered table other) ≤ count_by (is_open f) table + length other
+open-gathered f table [] = omega arith
+open-gathered f table (e ∷ other) = omega (arith, open-added f table e, open-gathered f (added table e) other)
+
+-- what is learned and the member's own make no more than as many more to pass on
+pub open_receipt : (f me : ℕ) (table carried : List Entry) (d : Determinant) → length (piggybacked f (noted me (learned me table carried) d)) ≤ length (piggybacked f table) + length carried + 1
+open_receipt f me table carried d =
+    let learns = learned me table carried in
+    let own : List Entry = record { det = d; known = set.insert set.empty me } ∷ [] in
+    let split = ap length (filter-append (is_open f) learns own) ∙ length-append (piggybacked f learns) (piggybacked f own) in
+    let more = open-gathered f table (map (held_by me) carried) in
+    omega (arith, split, length-left (is_open f) own, more, length-filter (is_open f) learns, length-filter (is_open f) table, length-map carried (held_by me))
+
+-- no more are passed on than there are open places
+pub few-passed : (limit : ℕ) (table : List Entry) (ps : List ℕ) (stale : Bool) → IsIndex limit table ps stale → length (piggybacked limit table) ≤ length ps
+few-passed limit table ps stale index =
+    let picked = filter (open_at limit table) ps in
+    omega (arith, sym (ap length (index-piggybacked limit table ps stale index)), length-filter_map (slice_get table) picked, length-left (open_at limit table) ps)
+
+-- what is passed on from a place on
+pub passed-next : (f : ℕ) (table : List Entry) (i : ℕ) (e : Entry) → slice_get table i ≡ Some e
+    → piggybacked f (drop i table) ≡ piggybacked f (e ∷ []) ++ piggybacked f (drop (i + 1) table)
+passed-next f table i e at = rw (drop_next table i e at) (filter-append (is_open f) (e ∷ []) (drop (i + 1) table))

@@ -194,7 +194,7 @@ impl<A: Allocator + Copy> IndexedEntries<A> {
     }
 
     /// Takes in another table's entries. After `Err` there are the same entries.
-    #[tactic(auto, using(crate::proofs::Adding::fold_next, crate::proofs::Keeping::keeps_more))]
+    #[tactic(auto, using(crate::proofs::Adding::fold_next, crate::proofs::Indexing::keeps_more))]
     pub(crate) fn gather(&mut self, other: &IndexedEntries<A>) -> Result<(), AllocError>
         ensures gathered { OnOk result (listed self.new ≡ gathered (listed self.old) (listed other.now)) }
         ensures unchanged { OnErr result (listed self.new ≡ listed self.old) }
@@ -240,7 +240,7 @@ impl<A: Allocator + Copy> IndexedEntries<A> {
     }
 
     /// Unites what is known of the determinants at the first places with what another knows, which has the same ones there.
-    #[tactic(auto, using(crate::proofs::Adding::fold_next, crate::proofs::Keeping::keeps_more))]
+    #[tactic(auto, using(crate::proofs::Adding::fold_next, crate::proofs::Indexing::keeps_more))]
     fn unite_shared(&mut self, other: &IndexedEntries<A>, shared: usize)
         requires len { shared ≤ length (listed other.now) }
         requires same { HasInPlace shared (listed self.old) (listed other.now) }
@@ -344,7 +344,7 @@ impl<A: Allocator + Copy> IndexedEntries<A> {
     }
 
     /// Adds the members to those that are known to hold each determinant.
-    #[tactic(auto, using(crate::proofs::Indexing::open_less, crate::proofs::Keeping::keeps_more))]
+    #[tactic(auto, using(crate::proofs::Indexing::open_less, crate::proofs::Indexing::keeps_more))]
     pub(crate) fn mark_all(&mut self, members: MemberSet)
         ensures entries { listed self.new ≡ marked members (listed self.old) }
         ensures kept { KeepsIndex self.old self.new }

@@ -174,7 +174,7 @@ impl<A: Allocator + Copy> Table<A> {
     }
 
     /// How many entries at most are passed on once the member has taken in these and its own: room enough for them.
-    #[tactic(auto, using(crate::proofs::Passing::open_receipt))]
+    #[tactic(auto, using(crate::proofs::Indexing::open_receipt))]
     pub fn room_to_piggyback(&self, f: u8, carried: &[Entry]) -> usize
         ensures enough { (me : ℕ) (det : Determinant) → length (piggybacked f (noted me (learned me self.now carried.now) det)) ≤ result }
         ensures few { result ≤ length self.now + length carried.now + 1 }
@@ -184,32 +184,20 @@ impl<A: Allocator + Copy> Table<A> {
 
     /// Takes in another table's entries: of each what is known is united, and new determinants go last, in the other's
     /// order. After `Err` the table is unchanged.
+    ///
+    /// Where there are no entries yet the table becomes a copy of the other, so that no entry is hashed.
+    #[tactic(auto, using(crate::proofs::Adding::gathered_first))]
     pub fn gather(&mut self, other: &Table<A>) -> Result<(), AllocError>
         ensures gathered { OnOk result (self.new ≡ gathered self.old other.now) }
         ensures unchanged { OnErr result (self.new ≡ self.old) }
     {
         if self.len() == 0 && self.entries.limit() == other.entries.limit() {
-            return self.gather_first(other);
+            // `len` tells that no two of the other's determinants are the same
+            let _len = other.len();
+            *self = other.copy()?;
+            return Ok(());
         }
         self.entries.gather(&other.entries)
-    }
-
-    /// Takes in the entries of another table where there are none yet: it becomes a copy, so that no entry is hashed.
-    #[tactic(auto, using(crate::proofs::Distinct::gathered_first))]
-    fn gather_first(&mut self, other: &Table<A>) -> Result<(), AllocError>
-        requires { self.old ≡ [] }
-        ensures gathered { OnOk result (self.new ≡ gathered self.old other.now) }
-        ensures unchanged { OnErr result (self.new ≡ self.old) }
-    {
-        // `len` tells that no two of the other's determinants are the same.
-        let _len = other.len();
-        match other.copy() {
-            Ok(copy) => {
-                *self = copy;
-                Ok(())
-            }
-            Err(error) => Err(error),
-        }
     }
 
     /// Adds the members to those that are known to hold each determinant.

@@ -28,7 +28,7 @@ pub use Rattle.fbl_input.proofs.Inputs.{over_fault, over_input}
 pub use Rattle.fbl_input.proofs.Lists.{elements_of, json_read}
 pub use Rattle.fbl_input.proofs.Outputs.{puts_front, puts_text}
 pub use Rattle.fbl_input.specs.Faults.{IsFirstFault, PutsOut}
-pub use Rattle.fbl_input.specs.Misfits.{IsOfParts, dump_fault, run_fault}
+pub use Rattle.fbl_input.specs.Misfits.{IsOfParts, run_fault}
 pub use Rattle.fbl_input.specs.Shapes.{all_shaped, json_of, list_of, longest, member_shape, number_within, or_fault, set_shape, ◌>>=◌}
 pub use Rattle.fbl_input.specs.declared.fault.RunFault.{RunFault}
 pub use Rattle.fbl_texts.specs.Lines.{audit_lines}

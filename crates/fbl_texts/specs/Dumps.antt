@@ -1,5 +1,5 @@
 -- The dump that an input is, or its first fault.
-use Rattle.std.specs.Prelude.{◌≡◌, ℕ, List, Result, Ok, Err, if◌then◌else◌}
+use Rattle.std.specs.Prelude.{◌≡◌, ℕ, List, is_some, Result, Ok, Err, if◌then◌else◌}
 use Rattle.serde_json.specs.Data.{Data}
 use Rattle.serde_json.specs.Find.{as_object}
 use Rattle.fbl_base.specs.declared.refusal.DumpRefusal.TheVariants as dump
@@ -7,14 +7,14 @@ use Rattle.fbl_base.specs.Audit.{Parts, IsDump, RefusesDump}
 use Rattle.fbl_input.specs.declared.fault.Key.TheVariants as keys
 use Rattle.fbl_input.specs.declared.fault.RunFault.{RunFault}
 use Rattle.fbl_input.specs.declared.fault.RunFault.TheVariants as faults
-use Rattle.fbl_input.specs.Items.{known_keys}
+use Rattle.fbl_input.specs.Items.{unknown_key}
 pub use Rattle.fbl_input.specs.Items.{event_from, event_shape, pair_from, pair_shape, receipt_from, send_from}
 use Rattle.fbl_input.specs.declared.input_fault.InputFault.{InputFault}
 use Rattle.fbl_input.specs.declared.misfit.InputKind.TheVariants as kinds
 use Rattle.fbl_input.specs.declared.misfit.Misfit.{Misfit}
 use Rattle.fbl_input.specs.Misfits.{IsOfParts}
 use Rattle.fbl_input.specs.Faults.{IsFaultOf, IsFirstFault, IsReadFault}
-use Rattle.fbl_input.specs.Shapes.{◌>>=◌, or_fault, byte_shape, list_of, set_shape, field, has_other_key, value_of_input}
+use Rattle.fbl_input.specs.Shapes.{◌>>=◌, or_fault, byte_shape, list_of, set_shape, field, value_of_input}
 
 -- the parts of a dump that a value gives, or its first fault
 unfoldable pub parts_of_data : Data → Result Parts RunFault
@@ -25,7 +25,7 @@ parts_of_data d = do
   events ← field keys.Events (list_of event_shape) d
   held ← field keys.Held (list_of pair_shape) d
   strike ← field keys.Strike set_shape d
-  if has_other_key (known_keys kinds.Dump) object then Err faults.UnknownKey else Ok (record { members = members; f = f; events = events; held = held; strike = strike })
+  if is_some (unknown_key kinds.Dump d) then Err faults.UnknownKey else Ok (record { members = members; f = f; events = events; held = held; strike = strike })
 
 -- the parts of a dump that an input gives, or its first fault
 abbrev pub parts_of_input : List ℕ → Result Parts RunFault

@@ -1,12 +1,11 @@
 -- The script that an input is, or its first fault.
-use Rattle.std.specs.Prelude.{◌≡◌, ℕ, ◌+◌, ◌==◌, List, [], ◌∷◌, ◌++◌, Option, Some, None, option_and_then, option_map, Result, Ok, Err, codes, if◌then◌else◌}
+use Rattle.std.specs.Prelude.{◌≡◌, ℕ, ◌+◌, ◌==◌, List, [], ◌∷◌, ◌++◌, Option, Some, None, is_some, option_and_then, option_map, Result, Ok, Err, codes, if◌then◌else◌}
 use Rattle.std.specs.Option.{option_or}
-use Rattle.serde_json.specs.Data.{Data, Members}
+use Rattle.serde_json.specs.Data.{Data}
 use Rattle.serde_json.specs.Find.{get, as_object}
 use Rattle.fbl_base.specs.declared.config.ConfigRefusal.TheVariants as config
 use Rattle.fbl_base.specs.declared.strike.Strike as planned
 use Rattle.fbl_base.specs.declared.trace.Note.{Note}
-use Rattle.fbl_base.specs.declared.trace.Start.{Start}
 use Rattle.fbl_base.specs.Configs.{Settings, IsConfig, RefusesConfig}
 use Rattle.fbl_base.specs.Steps.{has_few_hops}
 use Rattle.fbl_input.specs.declared.fault.Key.TheVariants as keys
@@ -24,10 +23,10 @@ use Rattle.fbl_input.specs.declared.input_fault.InputFault.{InputFault}
 use Rattle.fbl_input.specs.declared.misfit.InputKind.TheVariants as kinds
 use Rattle.fbl_input.specs.declared.misfit.Misfit.{Misfit}
 use Rattle.fbl_input.specs.Misfits.{IsOfSettings}
-use Rattle.fbl_input.specs.Items.{known_keys}
+use Rattle.fbl_input.specs.Items.{unknown_key}
 pub use Rattle.fbl_input.specs.Items.{start_from, start_shape}
 use Rattle.fbl_input.specs.Faults.{IsFaultOf, IsFirstFault, IsReadFault}
-use Rattle.fbl_input.specs.Shapes.{◌>>=◌, or_fault, number_within, byte_shape, count_shape, member_shape, as_list, is_text, list_of, set_shape, name_of, field, field_or, has_other_key, value_of_input}
+use Rattle.fbl_input.specs.Shapes.{◌>>=◌, or_fault, number_within, byte_shape, count_shape, member_shape, as_list, is_text, list_of, set_shape, name_of, field, field_or, value_of_input}
 
 -- what a script asks for
 pub record Outline : Type 0 where
@@ -120,8 +119,8 @@ abbrev pub commands_at : Version → Data → Result (List Command) RunFault
 commands_at version d = field keys.Commands as_list d >>= commands_from (versioned_shape version) 0
 
 -- what an object asks for as a script once its version is read, where commands have this shape, or its first fault
-unfoldable pub outline_by : (Data → Option Command) → Members → Data → Result Outline RunFault
-outline_by shape object d = do
+unfoldable pub outline_by : (Data → Option Command) → Data → Result Outline RunFault
+outline_by shape d = do
   members ← field keys.Members byte_shape d
   f ← field keys.F byte_shape d
   behaviour ← field keys.Behaviour behaviour_shape d
@@ -129,21 +128,21 @@ outline_by shape object d = do
   starts ← field keys.Start (list_of start_shape) d
   listed ← field keys.Commands as_list d
   commands ← commands_from shape 0 listed
-  if has_other_key (known_keys kinds.Script) object then Err faults.UnknownKey else Ok (record { behaviour = behaviour; config = record { members = members; f = f; limit = limit; starts = starts }; commands = commands })
+  if is_some (unknown_key kinds.Script d) then Err faults.UnknownKey else Ok (record { behaviour = behaviour; config = record { members = members; f = f; limit = limit; starts = starts }; commands = commands })
 
 -- what a value asks for as a script, or its first fault
 unfoldable pub outline_of : Data → Result Outline RunFault
 outline_of d = do
   object ← or_fault faults.NotObject (as_object d)
   version ← field keys.Version version_shape d
-  outline_by (versioned_shape version) object d
+  outline_by (versioned_shape version) d
 
 -- what a value asks for as a script where version 1 is the only one, or its first fault
 unfoldable pub first_outline_of : Data → Result Outline RunFault
 first_outline_of d = do
   object ← or_fault faults.NotObject (as_object d)
   version ← field keys.Version (number_within 1 1) d
-  outline_by command_shape object d
+  outline_by command_shape d
 
 -- what an input asks for as a script, or its first fault
 abbrev pub outline_of_input : List ℕ → Result Outline RunFault

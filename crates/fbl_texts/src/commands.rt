@@ -4,8 +4,8 @@ ghost use Rattle.std.specs.Prelude.{◌≡◌, ◌≤◌, map, IfOk, IfErr};
 ghost use Rattle.serde_json.specs.View.{view};
 ghost use Rattle.fbl_input.specs.Misfits.{Gives, IsOfShape, form_of, wanted_form};
 ghost use Rattle.fbl_input.specs.Shapes.{list_of};
-ghost use Rattle.fbl_texts.specs.Commands.{IsBadAmong, IsBadCommand};
-ghost use Rattle.fbl_texts.specs.Scripts.{checkpoint_from, command_from, command_on, commands_from, delivery, lone_command, planned_from, planned_shape, versioned_from, versioned_shape};
+ghost use Rattle.fbl_texts.specs.Commands.{IsBadAmong};
+ghost use Rattle.fbl_texts.specs.Scripts.{checkpoint_from, command_from, command_on, commands_from, delivery, lone_command, planned_shape, versioned_from, versioned_shape};
 
 use crate::script::{Command, Plan, Version};
 use fbl_base::Strike;
@@ -13,19 +13,6 @@ use fbl_input::shapes::{JsonShape, all_in, count_in, is_named, list_in, member_i
 use fbl_input::{CommandForm, MOST_COMMANDS, Misfit};
 use serde_json::Value;
 use std::alloc::{AllocError, Global};
-
-fn planned_of(list: &[Value]) -> Option<Strike>
-    ensures { result ≡ planned_from (map view list.now) }
-{
-    match list {
-        [at, members] => {
-            let at = u64::from(count_in(at)?);
-            let set = set_in(members)?;
-            Some(Strike { at, set })
-        }
-        _ => None,
-    }
-}
 
 /// A strike of a plan: a list of the count at which it comes and its members.
 struct PlannedShape;
@@ -36,7 +23,14 @@ impl JsonShape<Strike> for PlannedShape {
     ghost shape = { planned_shape };
 
     fn in_value(value: &Value) -> Option<Strike> {
-        planned_of(list_in(value)?)
+        match list_in(value)? {
+            [at, members] => {
+                let at = u64::from(count_in(at)?);
+                let set = set_in(members)?;
+                Some(Strike { at, set })
+            }
+            _ => None,
+        }
     }
 }
 
@@ -184,21 +178,6 @@ fn wanted_in(is_second: bool, value: &Value) -> CommandForm
     }
 }
 
-/// The fault of a place at which no command of this version stands, or lack of memory.
-fn bad_command(version: Version, place: usize, found: &Value) -> Misfit
-    ensures { IsBadCommand version place (view found.now) result }
-{
-    let wanted = wanted_in(version == Version::Second, found);
-    match found.clone() {
-        Ok(found) => Misfit::BadCommand {
-            place,
-            found,
-            wanted,
-        },
-        Err(_) => Misfit::Memory,
-    }
-}
-
 /// The commands of a script of this version, or the first fault among them.
 pub(crate) fn commands_in(
     alloc: Global,
@@ -217,7 +196,10 @@ pub(crate) fn commands_in(
         }
         match command_in(alloc, version, value)? {
             Some(command) => commands.push(command)?,
-            None => return Err(bad_command(version, place, value)),
+            None => {
+                let wanted = wanted_in(version == Version::Second, value);
+                return Err(Misfit::BadCommand { place, wanted });
+            }
         }
         place += 1;
     }

@@ -4,7 +4,7 @@ ghost use Rattle.std.specs.Prelude.{◌≡◌, map, IfOk, IfErr, IfSome};
 ghost use Rattle.serde_json.specs.Data.{Data};
 ghost use Rattle.serde_json.specs.View.{view};
 ghost use Rattle.fbl_base.specs.DumpParts.{parts_of};
-ghost use Rattle.fbl_input.specs.Items.{event_from, pair_from, receipt_from, send_from};
+ghost use Rattle.fbl_input.specs.Items.{receipt_from, send_from};
 ghost use Rattle.fbl_input.specs.Misfits.{Gives, IsMisfit, IsOfShape};
 ghost use Rattle.fbl_input.specs.declared.misfit.InputKind.TheVariants as kinds;
 ghost use Rattle.fbl_texts.specs.Dumps.{IsDumpMisfit, IsDumpOf, IsNoDump, parts_of_data};
@@ -45,16 +45,6 @@ fn receipt_in(name: &Value, to: &Value, rsn: &Value, from: &Value, ssn: &Value) 
     Some(Mark::Receipt { to, rsn, from, ssn })
 }
 
-fn event_of(list: &[Value]) -> Option<Mark>
-    ensures { result ≡ event_from (map view list.now) }
-{
-    match list {
-        [name, from, ssn, to] => send_in(name, from, ssn, to),
-        [name, to, rsn, from, ssn] => receipt_in(name, to, rsn, from, ssn),
-        _ => None,
-    }
-}
-
 /// An event: a list that begins with its name.
 struct EventShape;
 
@@ -64,23 +54,11 @@ impl JsonShape<Mark> for EventShape {
     ghost shape = { event_shape };
 
     fn in_value(value: &Value) -> Option<Mark> {
-        event_of(list_in(value)?)
-    }
-}
-
-fn pair_of(list: &[Value]) -> Option<(Member, Determinant)>
-    ensures { result ≡ pair_from (map view list.now) }
-{
-    match list {
-        [holder, from, ssn, to, rsn] => {
-            let holder = member_in(holder)?;
-            let from = member_in(from)?;
-            let ssn = count_in(ssn)?;
-            let to = member_in(to)?;
-            let rsn = count_in(rsn)?;
-            Some((holder, Determinant { from, ssn, to, rsn }))
+        match list_in(value)? {
+            [name, from, ssn, to] => send_in(name, from, ssn, to),
+            [name, to, rsn, from, ssn] => receipt_in(name, to, rsn, from, ssn),
+            _ => None,
         }
-        _ => None,
     }
 }
 
@@ -93,7 +71,17 @@ impl JsonShape<(Member, Determinant)> for PairShape {
     ghost shape = { pair_shape };
 
     fn in_value(value: &Value) -> Option<(Member, Determinant)> {
-        pair_of(list_in(value)?)
+        match list_in(value)? {
+            [holder, from, ssn, to, rsn] => {
+                let holder = member_in(holder)?;
+                let from = member_in(from)?;
+                let ssn = count_in(ssn)?;
+                let to = member_in(to)?;
+                let rsn = count_in(rsn)?;
+                Some((holder, Determinant { from, ssn, to, rsn }))
+            }
+            _ => None,
+        }
     }
 }
 
@@ -105,13 +93,13 @@ fn raw_dump_of(alloc: Global, value: &Value) -> Result<RawDump, Misfit>
     ensures misfit { IfErr result (IsMisfit kinds.Dump (view value.now)) }
 {
     let kind = InputKind::Dump;
-    let object = object_in(kind, value)?;
+    object_in(value)?;
     let members = value_field::<u8, ByteShape>(alloc, kind, value, Key::Members)?;
     let f = value_field::<u8, ByteShape>(alloc, kind, value, Key::F)?;
     let events = values_field::<Mark, EventShape>(alloc, kind, value, Key::Events)?;
     let held = values_field::<(Member, Determinant), PairShape>(alloc, kind, value, Key::Held)?;
     let strike = set_field(alloc, kind, value)?;
-    no_other_key(alloc, kind, value, object)?;
+    no_other_key(alloc, kind, value)?;
     Ok(RawDump {
         members,
         f,
@@ -130,7 +118,7 @@ fn dump_in(alloc: Global, input: &[u8]) -> Result<Dump, Misfit>
     let raw = raw_dump_of(alloc, &value)?;
     match checked_dump(alloc, raw) {
         Ok(dump) => Ok(dump),
-        Err(fault) => Err(Misfit::Dump(fault)),
+        Err((refusal, breach)) => Err(Misfit::Dump(refusal, breach)),
     }
 }
 
@@ -141,17 +129,11 @@ pub fn read_dump<R: Read>(alloc: Global, reader: &mut R) -> Result<Dump, InputFa
     ensures fault { IfErr result (λ fault. IfSome (R.remaining reader.old) (λ input. IsNoDump input fault)) }
 {
     let kind = InputKind::Dump;
-    let input = match read_input(alloc, reader) {
-        Ok(input) => input,
-        Err(misfit) => {
-            let input = Vec::new(alloc);
-            return Err(InputFault {
-                kind,
-                misfit,
-                input,
-            });
-        }
-    };
+    let input = read_input(alloc, reader).map_err(|misfit| InputFault {
+        kind,
+        misfit,
+        input: Vec::new(alloc),
+    })?;
     match dump_in(alloc, input.as_slice()) {
         Ok(dump) => Ok(dump),
         Err(misfit) => Err(InputFault {

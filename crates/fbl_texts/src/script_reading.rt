@@ -6,12 +6,11 @@ ghost use Rattle.serde_json.specs.View.{view};
 ghost use Rattle.serde_json.specs.Find.{get};
 ghost use Rattle.fbl_base.specs.Configs.{IsConfig};
 ghost use Rattle.fbl_base.specs.Steps.{has_few_hops};
-ghost use Rattle.fbl_input.specs.Items.{start_from};
 ghost use Rattle.fbl_input.specs.Misfits.{Gives, IsMisfit, IsOfShape};
 ghost use Rattle.fbl_input.specs.Shapes.{count_shape, field, field_or, name_of};
 ghost use Rattle.fbl_input.specs.declared.fault.Key.TheVariants as keys;
 ghost use Rattle.fbl_input.specs.declared.misfit.InputKind.TheVariants as kinds;
-ghost use Rattle.fbl_texts.specs.Scripts.{IsNoScript, IsScriptMisfit, IsScriptOf, behaviour_shape, commands_at, outline, outline_of, request_outline, version_shape};
+ghost use Rattle.fbl_texts.specs.Scripts.{IsNoScript, IsScriptMisfit, IsScriptOf, commands_at, outline, outline_of, request_outline, version_shape};
 
 use crate::commands::commands_in;
 use crate::script::{BehaviourName, Command, Script, Version};
@@ -36,47 +35,6 @@ pub(crate) struct Request {
     commands: Vec<Command>,
 }
 
-fn version_in(value: &Value) -> Option<Version>
-    ensures { result ≡ version_shape (view value.now) }
-{
-    match count_in(value)? {
-        1 => Some(Version::First),
-        2 => Some(Version::Second),
-        _ => None,
-    }
-}
-
-fn behaviour_in(value: &Value) -> Option<BehaviourName>
-    ensures { result ≡ behaviour_shape (view value.now) }
-{
-    if is_named(value, "relay") {
-        return Some(BehaviourName::Relay);
-    }
-    if is_named(value, "mix") {
-        return Some(BehaviourName::Mix);
-    }
-    None
-}
-
-fn start_of(list: &[Value]) -> Option<Start>
-    ensures { result ≡ start_from (map view list.now) }
-{
-    match list {
-        [from, to, value, hops] => {
-            let from = member_in(from)?;
-            let to = member_in(to)?;
-            let value = count_in(value)?;
-            let hops = ByteShape::in_value(hops)?;
-            Some(Start {
-                from,
-                to,
-                note: Note { value, hops },
-            })
-        }
-        _ => None,
-    }
-}
-
 /// A start: a list of its sender, its receiver, its value and its hops.
 struct StartShape;
 
@@ -86,7 +44,17 @@ impl JsonShape<Start> for StartShape {
     ghost shape = { start_shape };
 
     fn in_value(value: &Value) -> Option<Start> {
-        start_of(list_in(value)?)
+        match list_in(value)? {
+            [from, to, value, hops] => {
+                let from = member_in(from)?;
+                let to = member_in(to)?;
+                let value = count_in(value)?;
+                let hops = ByteShape::in_value(hops)?;
+                let note = Note { value, hops };
+                Some(Start { from, to, note })
+            }
+            _ => None,
+        }
     }
 }
 
@@ -99,7 +67,11 @@ impl JsonShape<Version> for VersionShape {
     ghost shape = { version_shape };
 
     fn in_value(value: &Value) -> Option<Version> {
-        version_in(value)
+        match count_in(value)? {
+            1 => Some(Version::First),
+            2 => Some(Version::Second),
+            _ => None,
+        }
     }
 }
 
@@ -112,7 +84,13 @@ impl JsonShape<BehaviourName> for BehaviourShape {
     ghost shape = { behaviour_shape };
 
     fn in_value(value: &Value) -> Option<BehaviourName> {
-        behaviour_in(value)
+        if is_named(value, "relay") {
+            return Some(BehaviourName::Relay);
+        }
+        if is_named(value, "mix") {
+            return Some(BehaviourName::Mix);
+        }
+        None
     }
 }
 
@@ -162,25 +140,16 @@ fn request_of(alloc: Global, value: &Value) -> Result<Request, Misfit>
     ensures faults { IfErr result IsOfShape }
     ensures misfit { IfErr result (IsMisfit kinds.Script (view value.now)) }
 {
-    let object = object_in(InputKind::Script, value)?;
-    let version = value_field::<Version, VersionShape>(
-        alloc,
-        InputKind::Script,
-        value,
-        Key::Version,
-    )?;
-    let members = value_field::<u8, ByteShape>(alloc, InputKind::Script, value, Key::Members)?;
-    let f = value_field::<u8, ByteShape>(alloc, InputKind::Script, value, Key::F)?;
-    let behaviour = value_field::<BehaviourName, BehaviourShape>(
-        alloc,
-        InputKind::Script,
-        value,
-        Key::Behaviour,
-    )?;
+    let kind = InputKind::Script;
+    object_in(value)?;
+    let version = value_field::<Version, VersionShape>(alloc, kind, value, Key::Version)?;
+    let members = value_field::<u8, ByteShape>(alloc, kind, value, Key::Members)?;
+    let f = value_field::<u8, ByteShape>(alloc, kind, value, Key::F)?;
+    let behaviour = value_field::<_, BehaviourShape>(alloc, kind, value, Key::Behaviour)?;
     let limit = limit_field(alloc, value)?;
-    let starts = values_field::<Start, StartShape>(alloc, InputKind::Script, value, Key::Start)?;
+    let starts = values_field::<Start, StartShape>(alloc, kind, value, Key::Start)?;
     let commands = commands_field(alloc, version, value)?;
-    no_other_key(alloc, InputKind::Script, value, object)?;
+    no_other_key(alloc, kind, value)?;
     Ok(Request {
         behaviour,
         members,
@@ -205,13 +174,14 @@ fn script_in(alloc: Global, input: &[u8]) -> Result<Script, Misfit>
         starts,
         commands,
     } = request_of(alloc, &value)?;
-    match Config::checked(alloc, members, f, limit, starts.as_slice()) {
+    let starts = starts.as_slice();
+    match Config::new(alloc, members, f, limit, starts) {
         Ok(config) => Ok(Script {
             behaviour,
             config,
             commands,
         }),
-        Err(fault) => Err(Misfit::Config(fault)),
+        Err(refusal) => Err(Misfit::Config(refusal, refusal.breach(members, f, limit, starts))),
     }
 }
 
@@ -223,17 +193,11 @@ pub fn read_script<R: Read>(alloc: Global, reader: &mut R) -> Result<Script, Inp
     ensures fault { IfErr result (λ fault. IfSome (R.remaining reader.old) (λ input. IsNoScript input fault)) }
 {
     let kind = InputKind::Script;
-    let input = match read_input(alloc, reader) {
-        Ok(input) => input,
-        Err(misfit) => {
-            let input = Vec::new(alloc);
-            return Err(InputFault {
-                kind,
-                misfit,
-                input,
-            });
-        }
-    };
+    let input = read_input(alloc, reader).map_err(|misfit| InputFault {
+        kind,
+        misfit,
+        input: Vec::new(alloc),
+    })?;
     match script_in(alloc, input.as_slice()) {
         Ok(script) => Ok(script),
         Err(misfit) => Err(InputFault {

@@ -1,12 +1,23 @@
-use Rattle.fbl_base.proofs.Common.{arith}
-use Rattle.fbl_base.proofs.Received.{WellFormed-below, WellFormed-all}
+use Rattle.fbl_base.proofs.Common.{add-one, refl, slice_get_read}
+use Rattle.fbl_base.proofs.Gets.{each_all, each_more, take-more}
+use Rattle.fbl_base.proofs.Received.{WellFormed-below}
 use Rattle.fbl_base.proofs.audit.first_bad_event.Goals as goal
 
-pub admit-requires-clause-rules : goal.admit-requires-clause-rules
-admit-requires-clause-rules g c = WellFormed-below c.args.n c.args.events.now c.loop-place.place c.loop-place.invariant.obeyed
+pub loop-place-preserved : goal.loop-place-preserved
+loop-place-preserved g c = record {
+  counted = rw (add-one, take-more c.args.events.now c.loop-place.place _ (slice_get_read _ _ _ _ refl c.loop-place-test.true c.index-events-place.is)) c.in_ok-add.ensures;
+  obeyed = each_more _ c.args.events.now c.loop-place.place _ c.loop-place-test.true c.index-events-place.is c.in_default.ensures.verdict c.loop-place.invariant.obeyed;
+}
+
+pub add-requires-clause-rules : goal.add-requires-clause-rules
+add-requires-clause-rules g c = WellFormed-below c.args.n c.args.events.now c.loop-place.place c.loop-place.invariant.obeyed
 
 pub returns-in-Some-clause-place : goal.returns-in-Some-clause-place
-returns-in-Some-clause-place g c = (let h = rw c.in-Some.is at c.in_ok-fault.ensures.verdict in rw h.0 (c.loop-place.invariant.obeyed, h.1))
+returns-in-Some-clause-place g c =
+    (c.loop-place.invariant.obeyed, λ obeys. c.in-Some.ensures.verdict (obeys _ (slice_get_read _ _ _ _ refl c.loop-place-test.true c.index-events-place.is)))
+
+pub returns-in-Some-clause-fault : goal.returns-in-Some-clause-fault
+returns-in-Some-clause-fault g c = (slice_get_read _ _ _ _ refl c.loop-place-test.true c.index-events-place.is, c.in-Some.ensures.rule)
 
 pub returns-clause-place : goal.returns-clause-place
-returns-clause-place g c = WellFormed-all c.args.n c.args.events.now c.loop-place.place (omega arith) c.loop-place.invariant.obeyed
+returns-clause-place g c = each_all _ c.args.events.now c.loop-place.place c.loop-place-test.false c.loop-place.invariant.obeyed

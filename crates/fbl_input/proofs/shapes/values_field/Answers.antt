@@ -1,5 +1,5 @@
-use Rattle.fbl_input.proofs.Common.{length-map, view}
-use Rattle.fbl_input.proofs.Misfitting.{fails_list, gives_fault, misfit_item}
+use Rattle.fbl_input.proofs.Common.{◌∙◌, view}
+use Rattle.fbl_input.proofs.Misfitting.{fails_list, gives_fault}
 use Rattle.fbl_input.proofs.shapes.values_field.Goals as goal
 
 pub returns-in_err-list-clause-exact : goal.returns-in_err-list-clause-exact
@@ -9,6 +9,4 @@ returns-in_err-list-clause-exact g c =
 pub returns-in-Err-clause-misfit : goal.returns-in-Err-clause-misfit
 returns-in-Err-clause-misfit g c =
     let first = rw c.in-Err.is at c.in_ok-all.ensures.place in
-    misfit_item c.args.kind c.args.key g.S.JsonShape.shape
-    (view c.args.value.now) c.in_ok-list.list.now c.in-Err.place c.index-list-place.result c.bad_item.result c.requires c.in_ok-list.ensures.items
-    (rw length-map at first.0) c.index-list-place.is first c.bad_item.ensures
+    rw (← c.in_ok-list.ensures.items) (first.0, λ d at. c.requires d ∙ first.1 d at, λ i d below at. c.requires d ∙ first.2 i d below at)

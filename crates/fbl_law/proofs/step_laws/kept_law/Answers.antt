@@ -1,4 +1,4 @@
-use Rattle.fbl_law.proofs.KeptByStep.{holds-of_sound}
+use Rattle.fbl_law.proofs.WeightKept.{holds-of_sound}
 use Rattle.fbl_law.proofs.step_laws.kept_law.Goals as goal
 
 pub returns : goal.returns

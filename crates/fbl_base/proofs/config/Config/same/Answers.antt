@@ -1,13 +1,16 @@
-use Rattle.fbl_base.proofs.Common.{◌≡◌, ap, sym, ◌∙◌, true, Settings, rules, slice_eq-Decides}
-use Rattle.fbl_base.proofs.SameStart.{Decides-same_start, decided}
+use Rattle.fbl_base.proofs.Common.{◌≡◌, ◌==◌, ◌&&◌, ap, arith, sym, ◌∙◌, Bool, Decides, nat_tests, true, Settings, Start, rules, slice_eq-Decides}
 use Rattle.fbl_base.proofs.config.Config.same.Goals as goal
+
+same_start : {N : Type 0} (same : N → N → Bool) → ((a b : N) → Decides (same a b) (a ≡ b)) → (a b : Start N)
+    → Decides ((a.from == b.from) && ((a.to == b.to) && same a.note b.note)) (a ≡ b)
+same_start same exact a b = grind (arith, nat_tests, exact a.note b.note)
 
 same_settings : {N : Type 0} (a b : Settings N) → a.members ≡ b.members → a.f ≡ b.f → a.limit ≡ b.limit → a.starts ≡ b.starts → a ≡ b
 same_settings a b e1 e2 e3 e4 i = record { members = e1 i; f = e2 i; limit = e3 i; starts = e4 i }
 
 pub returns : goal.returns
 returns g c =
-    let starts = slice_eq-Decides (Decides-same_start g.N.PartialEq.eq (λ a b. decided _ (g.met.N.Exact.exact a b))) c.as_slice.result.now c.as_slice-2.result.now c.eq.result c.eq.ensures in
+    let starts = slice_eq-Decides (same_start g.N.PartialEq.eq g.met.N.Exact.exact) c.as_slice.result.now c.as_slice-2.result.now c.eq.result c.eq.ensures in
     let a = c.as_slice.ensures.value in
     let b = c.as_slice-2.ensures.value in
     rw (← c.self.view_is, ← c.other.view_is) (

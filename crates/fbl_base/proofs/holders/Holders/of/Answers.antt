@@ -26,9 +26,9 @@ loop-holder-preserved g c d q =
     let pairs = c.held-holder-items.result.now in
     let next = drop_next pairs c.loop-holder.holder-index pair (slice_get_read pairs (length pairs) _ _ refl (omega arith) c.loop-holder-item.is) in
     let so_far = (rw next at (c.loop-holder.invariant d q)) in
-    let own = λ (same : same_determinant pair.1 d ≡ true). ap (hash_map.get same_determinant c.loop-holder.index) ((Decides-same_determinant pair.1 d).0 same) in
+    let own = λ (same : same_determinant pair.1 d ≡ true). ap (hash_map.get same_determinant c.loop-holder.holders.index) ((Decides-same_determinant pair.1 d).0 same) in
     let written = c.in_ok-insert.ensures.updates.0 d in
-    joins (same_determinant pair.1 d) pair.0 q _ _ _ _ own (rw (c.with-members.ensures, c.holders_in.ensures) at written) ∙ so_far
+    joins (same_determinant pair.1 d) pair.0 q _ _ _ _ own (rw (c.with-members.ensures, c.get.ensures) at written) ∙ so_far
 
 pub returns : goal.returns
 returns g c d = same_from_contains _ _ (λ q.

@@ -7,5 +7,5 @@ use Rattle.fbl_base.proofs.holders.Holders.of.Given as goal
 
 abbrev pub invariant-loop-holder : goal.invariant-loop-holder
 invariant-loop-holder g l = (d : Determinant) (q : ℕ)
-    → (set.contains (unwrap_or (hash_map.get same_determinant l.index d) set.empty) q || list_any (is_pair d q) (drop l.holder-index l.holder-items))
+    → (set.contains (unwrap_or (hash_map.get same_determinant l.holders.index d) set.empty) q || list_any (is_pair d q) (drop l.holder-index l.holder-items))
     ≡ set.contains (holders_of l.dump d) q

@@ -1,9 +1,7 @@
 use Rattle.fbl_group.proofs.Common.{subst, IsSound, knowledge, no_orphan, sound_records_first, sound_holds_each_receipt, any_survivors_hold, IsRecorded-before}
-use Rattle.fbl_law.specs.Headline.{SoundHoldsEachReceipt}
 use Rattle.fbl_group.proofs.group.Group.promises.Goals as goal
 
 pub returns : goal.returns
-unfolding SoundHoldsEachReceipt
 returns g c =
     let r = c.args.self.now in
     let sound = subst (IsSound g.B.Behaviour.next) c.self.view_is c.self.invariant in

@@ -1,5 +1,4 @@
 use Rattle.fbl_group.proofs.Common.{arith, cut-undone, group_recovery_gains_holders}
-use Rattle.fbl_law.specs.RecoveryLaws.{GroupRecoveryGainsHolders}
 use Rattle.fbl_group.proofs.Promising.{restores}
 use Rattle.fbl_group.proofs.group.Group.recover.Goals as goal
 
@@ -10,5 +9,4 @@ pub returns-clause-undone : goal.returns-clause-undone
 returns-clause-undone g c = omega (arith, cut-undone c.promises.ensures.sound c.in_ok-bring_back.ensures.recovered.recovery.trace, c.in_ok-bring_back.ensures.recovered.undone)
 
 pub returns-clause-holders : goal.returns-clause-holders
-unfolding GroupRecoveryGainsHolders
 returns-clause-holders g c = group_recovery_gains_holders _ _ g.B.Behaviour.next _ _ c.in_ok-bring_back.ensures.recovered.recovery c.promises.ensures.sound

@@ -1,7 +1,6 @@
 use Rattle.fbl_table.proofs.Common.{◌≡◌, ◌++◌, [], ◌∷◌, ◌∙◌, None, ap, or_parts, sym, map, length-map, lookup, insert_entry, same_determinant, Entry, listed, entry_of}
 use Rattle.fbl_table.proofs.Adding.{Pairs, added_new, added_there, inserted, inserted_over, place_in, not_held-missing, place-missing, value_there}
-use Rattle.fbl_table.proofs.Indexing.{index-push, index-put, open_less}
-use Rattle.fbl_table.proofs.Keeping.{keeps_stale}
+use Rattle.fbl_table.proofs.Indexing.{index-push, index-put, open_less, keeps_stale}
 use Rattle.fbl_table.proofs.indexed.IndexedEntries.add_by_hash.Goals as goal
 use Rattle.fbl_table.proofs.indexed.IndexedEntries.add_by_hash.Goals.{After-unwrap-place}
 use Rattle.fbl_table.proofs.indexed.IndexedEntries.add_by_hash.Given.{Over}

@@ -1,5 +1,5 @@
 use Rattle.fbl_table.proofs.Common.{ap, arith, length, listed, added}
-use Rattle.fbl_table.proofs.Keeping.{keeps_more}
+use Rattle.fbl_table.proofs.Indexing.{keeps_more}
 use Rattle.fbl_table.proofs.Adding.{fold_next, lacks-gathering, length-added}
 use Rattle.fbl_table.proofs.indexed.IndexedEntries.gather.Goals as goal
 

@@ -1,6 +1,6 @@
 use Rattle.fbl_table.proofs.Common.{◌∙◌, arith, refl, true, sym, false≢true, length-map, listed, entry_of, length-set_value_at, ap, length}
 use Rattle.fbl_table.proofs.Adding.{mark-all, mark-at}
-use Rattle.fbl_table.proofs.Keeping.{keeps_more, keeps_stale}
+use Rattle.fbl_table.proofs.Indexing.{keeps_more, keeps_stale}
 use Rattle.fbl_table.proofs.indexed.IndexedEntries.mark_all.Goals as goal
 
 pub loop-place-init : goal.loop-place-init

@@ -1,5 +1,5 @@
 use Rattle.fbl_table.proofs.Common.{[], ◌∷◌, ap, arith, length, ◌∙◌, listed, piggybacked, append_assoc, length-append}
-use Rattle.fbl_table.proofs.Passing.{passed-next}
+use Rattle.fbl_table.proofs.Indexing.{passed-next}
 use Rattle.fbl_table.proofs.indexed.IndexedEntries.push_all.Goals as goal
 
 pub push_if_open-requires : goal.push_if_open-requires

@@ -1,7 +1,7 @@
 use Rattle.fbl_table.proofs.Common.{◌≡◌, ◌∙◌, sym, eqb-true, or_parts}
 use Rattle.std.specs.FinSet as set
 use Rattle.fbl_table.proofs.Adding.{added_there, added-nothing, found_at}
-use Rattle.fbl_table.proofs.Keeping.{keeps_more, keeps_stale}
+use Rattle.fbl_table.proofs.Indexing.{keeps_more, keeps_stale}
 use Rattle.fbl_table.proofs.indexed.IndexedEntries.unite.Goals as goal
 
 pub returns-then-is_empty-clause-entries : goal.returns-then-is_empty-clause-entries

@@ -1,0 +1,5 @@
+//! The calls of a group.
+
+mod plays;
+mod setting;
+mod steps;

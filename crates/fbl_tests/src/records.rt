@@ -1,0 +1,175 @@
+//! One member's record: what it takes in, replays and copies.
+
+ghost use Rattle.std.specs.Prelude.{◌<◌};
+
+use fbl_base::{Behaviour, Config, Determinant, Member, MemberSet, Note, Relay, Start};
+use fbl_fixtures::{Example, first_receipt, refuse_each};
+use fbl_member::{Carried, MemberRec, Wire};
+use fbl_table::Entry;
+use std::alloc::{AllocError, Allocator, Global};
+
+/// Delivers a message that carries nothing to a member of three, where that is the member's next receipt.
+fn deliver<A: Allocator + Copy>(
+    alloc: A,
+    member_record: &mut MemberRec<u64, Note, A>,
+    me: Member,
+    determinant: Determinant,
+    note: Note,
+) -> Result<Vec<Wire<Note, A>, A>, AllocError>
+    requires { me < 3 }
+{
+    let outcome = Relay::step(me, 3, member_record.state(), note);
+    let wire = Wire::new(
+        determinant.from,
+        me,
+        determinant.ssn,
+        note,
+        Carried::none(alloc),
+    );
+    if member_record.received() < 8192
+        && determinant.to == me
+        && determinant.rsn == member_record.received() + 1
+        && member_record.last_from(determinant.from) < determinant.ssn
+        && !member_record.table().holds(&determinant)
+        && member_record.sent() as usize + outcome.sends.len() <= 8192
+    {
+        return member_record.receive::<Relay>(me, 3, 1, &wire, &outcome);
+    }
+    Ok(Vec::new(alloc))
+}
+
+/// Replays one receipt of a member of three, where it is the member's next.
+fn replay<A: Allocator + Copy>(
+    member_record: &mut MemberRec<u64, Note, A>,
+    me: Member,
+    determinant: &Determinant,
+    note: Note,
+) -> Result<(), AllocError>
+    requires { me < 3 }
+{
+    let outcome = Relay::step(me, 3, member_record.state(), note);
+    if member_record.received() < 8192
+        && determinant.to == me
+        && determinant.rsn == member_record.received() + 1
+        && member_record.sent() as usize + outcome.sends.len() <= 8192
+    {
+        return member_record.replay_one::<Relay>(me, 3, determinant, note);
+    }
+    Ok(())
+}
+
+/// Whether the record is that of a member that received the other's first message, with so many entries in its table.
+fn has_received<A: Allocator + Copy>(
+    member_record: &MemberRec<u64, Note, A>,
+    from: Member,
+    held: usize,
+) -> bool {
+    (
+        member_record.state(),
+        member_record.received(),
+        member_record.sent(),
+    ) == (5, 1, 1)
+        && member_record.last_from(from) == 1
+        && member_record.table().len() == held
+}
+
+/// Whether this is one message, the sender's first, with this receiver, this note and this entry.
+fn is_first_message<A: Allocator + Copy>(
+    wires: &[Wire<Note, A>],
+    from: Member,
+    to: Member,
+    note: Note,
+    carried: Entry,
+) -> bool {
+    match wires {
+        [wire] => {
+            (wire.from(), wire.to(), wire.ssn(), wire.note()) == (from, to, 1, note)
+                && wire.carried() == [carried].as_slice()
+        }
+        _ => false,
+    }
+}
+
+/// Whether these are the messages that the member sent to another with numbers beyond this one.
+fn has_logged<A: Allocator + Copy>(
+    member_record: &MemberRec<u64, Note, A>,
+    to: Member,
+    ssn: u32,
+    expected: &[(u32, Note)],
+) -> Result<bool, AllocError> {
+    let beyond = member_record.unsent_beyond(to, ssn)?;
+    Ok(beyond.as_slice() == expected)
+}
+
+/// What the first of three members sends the second, which passes it on to the third.
+const NOTE: Note = Note { value: 5, hops: 2 };
+
+/// What the second member sends then.
+const PASSED_ON: Note = Note { value: 5, hops: 1 };
+
+/// A fresh member of a group of three, in which the first one sends the second a message.
+fn fresh<A: Allocator + Copy>(alloc: A, me: Member) -> Result<MemberRec<u64, Note, A>, AllocError> {
+    let start = Start {
+        from: Member::at(0),
+        to: Member::at(1),
+        note: NOTE,
+    };
+    let config = Config::new(alloc, 3, 1, 8192, &[start])
+        .ok()
+        .ok_or(AllocError)?;
+    MemberRec::fresh(alloc, &config, 0, me)
+}
+
+/// What becomes of the message: its sender has it in its log, its receiver takes it in, or replays it.
+#[derive(Clone, Copy, Debug)]
+enum Message {
+    Logged,
+    TakenIn,
+    Replayed,
+}
+
+impl Message {
+    fn is_logged<A: Allocator + Copy>(alloc: A) -> Result<bool, AllocError> {
+        let sender = fresh(alloc, Member::at(0))?;
+        let to = Member::at(1);
+        let is_first = has_logged(&sender, to, 0, &[(1, NOTE)])?;
+        let is_last = has_logged(&sender, to, 1, &[])?;
+        Ok(sender.sent() == 1 && sender.log_note(2) == None && is_first && is_last)
+    }
+
+    fn is_taken_in<A: Allocator + Copy>(alloc: A) -> Result<bool, AllocError> {
+        let (from, me, to) = (Member::at(0), Member::at(1), Member::at(2));
+        let det = first_receipt(from, me);
+        let known = MemberSet::empty().with(me);
+        let mut receiver = fresh(alloc, me)?;
+        let wires = deliver(alloc, &mut receiver, me, det, NOTE)?;
+        let copy = receiver.copy()?;
+        let is_sent_on = is_first_message(&wires, me, to, PASSED_ON, Entry { det, known });
+        Ok(is_sent_on && has_received(&copy, from, 1))
+    }
+
+    fn is_replayed<A: Allocator + Copy>(alloc: A) -> Result<bool, AllocError> {
+        let (from, me, to) = (Member::at(0), Member::at(1), Member::at(2));
+        let mut receiver = fresh(alloc, me)?;
+        replay(&mut receiver, me, &first_receipt(from, me), NOTE)?;
+        Ok(has_logged(&receiver, to, 0, &[(1, PASSED_ON)])? && has_received(&receiver, from, 0))
+    }
+}
+
+impl Example for Message {
+    fn is_worked<A: Allocator + Copy>(&self, alloc: A) -> Result<bool, AllocError> {
+        match self {
+            Message::Logged => Message::is_logged(alloc),
+            Message::TakenIn => Message::is_taken_in(alloc),
+            Message::Replayed => Message::is_replayed(alloc),
+        }
+    }
+}
+
+#[test]
+fn a_message_is_logged_taken_in_and_replayed(rt: HostRuntime) {
+    const MESSAGES: &[Message] = &[Message::Logged, Message::TakenIn, Message::Replayed];
+    for message in MESSAGES {
+        assert!(rt; refuse_each(rt.alloc(), message) > 2, "{message:?}");
+    }
+}

@@ -1,0 +1,113 @@
+//! Tables of determinants.
+
+use fbl_base::{Determinant, Member, MemberSet};
+use fbl_fixtures::{Example, first_receipt, refuse_each};
+use fbl_table::{Entry, Table};
+use std::alloc::{AllocError, Allocator, Global};
+
+/// Whether this is the table's only entry.
+fn has<A: Allocator + Copy>(table: &Table<A>, expected: Entry) -> bool {
+    table.len() == 1 && table.entry_at(0) == expected
+}
+
+/// Whether these are the entries that the table passes on.
+fn passes_on<A: Allocator + Copy>(
+    table: &Table<A>,
+    f: u8,
+    expected: &[Entry],
+) -> Result<bool, AllocError> {
+    let carried = table.piggyback(f)?;
+    Ok(carried.as_slice() == expected)
+}
+
+/// The table of a receipt's receiver.
+fn own_table<A: Allocator + Copy>(
+    alloc: A,
+    me: Member,
+    det: Determinant,
+) -> Result<Table<A>, AllocError> {
+    let mut table = Table::new(alloc);
+    table.note_own(me, det)?;
+    Ok(table)
+}
+
+/// The table of a member to whom the entries were carried twice.
+fn told_table<A: Allocator + Copy>(
+    alloc: A,
+    me: Member,
+    carried: &[Entry],
+) -> Result<Table<A>, AllocError> {
+    let mut table = Table::new(alloc);
+    table.learn(me, carried)?;
+    table.learn(me, carried)?;
+    Ok(table)
+}
+
+/// A table that gathers a copy of the first one and the second one.
+fn gathered<A: Allocator + Copy>(
+    alloc: A,
+    first: &Table<A>,
+    second: &Table<A>,
+) -> Result<Table<A>, AllocError> {
+    let mut table = Table::new(alloc);
+    let copy = first.copy()?;
+    table.gather(&copy)?;
+    table.gather(second)?;
+    Ok(table)
+}
+
+/// What is done with the entry of a receipt: its receiver and a member that is told of it pass it on, or tables gather it.
+#[derive(Clone, Copy)]
+enum Known {
+    PassedOn,
+    Gathered,
+}
+
+impl Known {
+    /// Whether the entry is passed on while at most `f` members are known to hold the receipt.
+    fn is_passed_on<A: Allocator + Copy>(
+        own: &Table<A>,
+        told: &Table<A>,
+        carried: &[Entry],
+        learned: &[Entry],
+    ) -> Result<bool, AllocError> {
+        let by_receiver = passes_on(own, 1, carried)?;
+        let by_none = passes_on(told, 1, &[])?;
+        let by_told = passes_on(told, 2, learned)?;
+        Ok(by_receiver && by_none && by_told)
+    }
+}
+
+impl Example for Known {
+    fn is_worked<A: Allocator + Copy>(&self, alloc: A) -> Result<bool, AllocError> {
+        let (zero, one, two) = (Member::at(0), Member::at(1), Member::at(2));
+        let det = first_receipt(zero, one);
+        let known = MemberSet::empty().with(one);
+        let carried = [Entry { det, known }];
+        let known = known.with(two);
+        let learned = [Entry { det, known }];
+        let own = own_table(alloc, one, det)?;
+        let told = told_table(alloc, two, &carried)?;
+        match self {
+            Known::PassedOn => Known::is_passed_on(&own, &told, &carried, &learned),
+            Known::Gathered => {
+                let mut all = gathered(alloc, &told, &own)?;
+                let is_gathered = has(&told, learned[0]) && has(&all, learned[0]);
+                all.mark_all(MemberSet::empty().with(zero));
+                let known = known.with(zero);
+                let is_found = (all.last_rsn(one), all.last_rsn(zero)) == (1, 0);
+                Ok(is_gathered && has(&all, Entry { det, known }) && is_found)
+            }
+        }
+    }
+}
+
+#[test]
+fn a_receipt_is_passed_on_until_enough_members_know_it(rt: HostRuntime) {
+    assert!(rt; refuse_each(rt.alloc(), &Known::PassedOn) > 4);
+}
+
+#[test]
+fn tables_are_gathered_and_marked(rt: HostRuntime) {
+    assert!(rt; refuse_each(rt.alloc(), &Known::Gathered) > 4);
+}

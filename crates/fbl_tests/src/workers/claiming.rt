@@ -1,0 +1,55 @@
+//! One pass at a time has a member.
+
+ghost use Rattle.std.specs.Prelude.{◌≡◌, true};
+
+use fbl_fixtures::{Refusing, member};
+use fbl_threads::{Claim, ClaimRefusal, Claims};
+use std::test::Fail;
+
+#[test]
+fn a_member_is_claimed_by_one_pass_at_a_time(rt: HostRuntime) -> Result<(), Fail> {
+    let (one, two) = (member(1)?, member(2)?);
+    let (claims, pass) = Claims::new(rt.alloc(), 3)?;
+    let (a, b) = claims.split(pass);
+    let mut a_has_one = match claims.try_claim(a, one) {
+        Ok(claim) => claim,
+        Err(_) => panic!(rt; "member 1 is free"),
+    };
+    let b = match claims.try_claim(b, one) {
+        Ok(_) => panic!(rt; "member 1 is claimed"),
+        Err(pass) => pass,
+    };
+    let mut b_has_two = match claims.try_claim(b, two) {
+        Ok(claim) => claim,
+        Err(_) => panic!(rt; "member 2 is free"),
+    };
+    claims.are_apart(&mut a_has_one, &mut b_has_two);
+    assert!(rt; (a_has_one.member(), b_has_two.member()) == (one, two));
+    let a = claims.release(a_has_one);
+    let a = match claims.try_claim(a, two) {
+        Ok(_) => panic!(rt; "member 2 is claimed"),
+        Err(pass) => pass,
+    };
+    let b = claims.release(b_has_two);
+    let a_has_two = match claims.try_claim(a, two) {
+        Ok(claim) => claim,
+        Err(_) => panic!(rt; "member 2 is free again"),
+    };
+    let a = claims.release(a_has_two);
+    drop(claims.join(a, b));
+    Ok(())
+}
+
+#[test]
+fn no_claims_are_made_without_memory(rt: HostRuntime) {
+    for request in 1..u64::MAX {
+        let heap = Refusing::new(rt.alloc(), request);
+        let made = Claims::new(&heap, 3);
+        if !heap.has_refused() {
+            assert!(rt; made.is_ok());
+            assert!(rt; request > 1, "no request was refused");
+            return;
+        }
+        assert!(rt; matches!(made, Err(ClaimRefusal::Memory)));
+    }
+}

@@ -1,0 +1,60 @@
+//! Lack of memory in a drain.
+
+use super::fixtures::{STATES_OF_TWELVE, drain_by, group, has_states, starts_of_twelve};
+use fbl_base::Relay;
+use fbl_fixtures::strike;
+use fbl_group::Group;
+use fbl_threads::{DrainRefusal, Drained};
+use std::test::Fail;
+
+/// Recovers the members that are down, and answers whether nobody is down now.
+fn is_up(group: &mut Group<Relay>) -> bool {
+    group.down().count() == 0 || group.recover().is_ok()
+}
+
+/// Whether a drain that memory may be refused to may be answered so: by a refused one the group is as before, which is proved.
+fn is_fair(answer: &Result<Drained, DrainRefusal>, may_be_down: bool) -> bool {
+    match answer {
+        Ok(drained) => (drained.quiet || drained.memory) && !drained.full,
+        Err(DrainRefusal::Memory | DrainRefusal::NoThread) => true,
+        Err(refusal) => *refusal == DrainRefusal::Down && may_be_down,
+    }
+}
+
+/// It holds too where any one request for memory is refused: then the group is drained in spite of it, or the answer says
+/// that memory ran out, and what is left is drained afterwards as if nothing had been refused. The gate refuses each in
+/// turn.
+#[test]
+fn a_drain_goes_on_after_want_of_memory(rt: HostRuntime) -> Result<(), Fail> {
+    let strikes = [strike(2, &[1])?, strike(5, &[0, 3])?, strike(9, &[2])?];
+    let starts = starts_of_twelve()?;
+    let Ok(mut group) = group(rt.alloc(), 4, 2, 8192, &starts) else {
+        return Ok(());
+    };
+    for number in 0..3 {
+        let may_be_down = number == 1;
+        assert!(rt; is_up(&mut group) || may_be_down, "drain {number}");
+        let plan = if number == 0 { &strikes[..] } else { &[] };
+        let (back, answer) = drain_by(&rt, rt.alloc(), group, plan, 2);
+        group = back;
+        assert!(rt; is_fair(&answer, may_be_down), "drain {number}");
+    }
+    assert!(rt; group.is_quiet() && has_states(&group, &STATES_OF_TWELVE));
+    Ok(())
+}
+
+/// It holds too where any one request for memory is refused, one of which leaves the only worker without a thread, which is told.
+/// The gate refuses each in turn.
+#[test]
+fn a_worker_without_a_thread_changes_nothing(rt: HostRuntime) -> Result<(), Fail> {
+    let starts = starts_of_twelve()?;
+    let Ok(group) = group(rt.alloc(), 4, 2, 8192, &starts) else {
+        return Ok(());
+    };
+    let (_, answer) = drain_by(&rt, rt.alloc(), group, &[], 1);
+    assert!(rt; is_fair(&answer, false));
+    if let Err(refusal) = answer {
+        println!(rt; "{refusal}")?;
+    }
+    Ok(())
+}

@@ -1,7 +1,0 @@
-//! The tests, by what they try.
-
-mod dumps;
-mod histories;
-mod pictures;
-mod plays;
-mod scripts;
