@@ -1,0 +1,58 @@
+//! Why the events of a run have no order.
+
+use fbl_base::{Breach, DumpRefusal, EventRule, Mark};
+use std::alloc::{AllocError, Allocator, Global};
+use std::convert::From;
+use thiserror::Error;
+
+/// What keeps an event from coming where all its member's events before it have come.
+#[derive(Clone, Copy, PartialEq, Eq, Debug, Error)]
+pub enum Obstacle {
+    /// It breaks this rule, whichever other events have come.
+    #[error("{0}")]
+    Rule(EventRule),
+    /// No event sends its message.
+    #[error("no event sends its message")]
+    NeverSent,
+    /// Its message is received already.
+    #[error("an earlier event receives its message")]
+    Received,
+    /// Its message is sent at this place or behind, and the event at this place, the next one of its sender, can't come either.
+    #[error("its message is sent no earlier than event {0}")]
+    Waits(usize),
+}
+
+/// The first event of its member that comes in no part of an order.
+#[derive(Clone, Copy, PartialEq, Eq, Debug, Error)]
+#[error("event {place} is {event}, and {obstacle}")]
+pub struct Stuck {
+    /// Its place, from 0, as the events were given.
+    pub place: usize,
+    /// What it is.
+    pub event: Mark,
+    /// What keeps it from coming.
+    pub obstacle: Obstacle,
+}
+
+/// Why events, or a dump of them, are refused.
+#[derive(Drop, Debug)]
+pub enum OrderFault<A: Allocator = Global> {
+    /// No order of the events obeys the rules. The first event here is the first, as they were given, that comes in no part of an
+    /// order. Each waits for the next one; the last waits for one of these, so that they go round in a circle, or for none.
+    NoOrder(Vec<Stuck, A>),
+    /// A dump of the events, in whichever order, is refused, for this.
+    Dump(DumpRefusal, Breach),
+}
+
+impl<A: Allocator> From<AllocError> for OrderFault<A> {
+    ghost use Rattle.std.specs.Prelude.{◌≡◌};
+    ghost use Rattle.fbl_base.specs.declared.fault.Breach.TheVariants as breach;
+    ghost use Rattle.fbl_base.specs.declared.refusal.DumpRefusal.TheVariants.{Memory};
+    ghost use Rattle.fbl_order.specs.declared.fault.OrderFault.TheVariants.{Dump};
+
+    ghost from_gives = { λ _ e. e ≡ Dump Memory breach.Memory };
+
+    fn from(_: AllocError) -> OrderFault<A> {
+        OrderFault::Dump(DumpRefusal::Memory, Breach::Memory)
+    }
+}

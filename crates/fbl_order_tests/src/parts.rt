@@ -1,0 +1,97 @@
+//! Dumps in several parts.
+
+ghost use Rattle.std.specs.Prelude.{◌<◌};
+
+use crate::orders::{receipt, round, send};
+use fbl_base::audit::Audit;
+use fbl_base::{Determinant, Mark, Member, MemberSet, RawDump};
+use fbl_order::{PartsFault, order_dump, place_in_lists, united};
+use std::alloc::Global;
+use std::test::Fail;
+
+/// The part that a member of three writes, where one may be lost.
+fn part(
+    alloc: Global,
+    events: &[Mark],
+    held: &[(Member, Determinant)],
+    strike: MemberSet,
+) -> Result<RawDump, Fail> {
+    Ok(RawDump {
+        members: 3,
+        f: 1,
+        events: events.to_vec(alloc)?,
+        held: held.to_vec(alloc)?,
+        strike,
+    })
+}
+
+/// The member holds the determinant of the first receipt of the member `to`, of the first message of the member `from`.
+fn pair(holder: u8, from: u8, to: u8) -> (Member, Determinant)
+    requires holder { holder < 16 }
+    requires from { from < 16 }
+    requires to { to < 16 }
+{
+    let (from, to) = (Member::at(from), Member::at(to));
+    let determinant = Determinant {
+        from,
+        ssn: 1,
+        to,
+        rsn: 1,
+    };
+    (Member::at(holder), determinant)
+}
+
+/// What an audit says of three members' parts is what it says of the run: `examples/audit-with-an-orphan.json`.
+#[test]
+fn audits_parts(rt: HostRuntime) -> Result<(), Fail> {
+    let alloc = rt.alloc();
+    let struck = MemberSet::empty().with(Member::at(1));
+    let nobody = MemberSet::empty();
+    let zero = [send(0, 1, 1), receipt(0, 1, 2, 1)];
+    let one = [receipt(1, 1, 0, 1), send(1, 1, 2)];
+    let two = [receipt(2, 1, 1, 1), send(2, 1, 0)];
+    let parts = [
+        part(alloc, &two, &[pair(2, 1, 2)], struck)?,
+        part(alloc, &one, &[pair(1, 0, 1)], nobody)?,
+        part(alloc, &zero, &[pair(0, 1, 2), pair(0, 2, 0)], nobody)?,
+    ];
+    let whole = united(alloc, &parts).ok().ok_or("refused parts")?;
+    assert!(rt; whole.held.len() == 4);
+    let dump = order_dump(alloc, whole).ok().ok_or("refused")?;
+    assert!(rt; dump.events() == round().as_slice());
+    let audit = Audit::of(alloc, &dump)?;
+    let lost = audit.lost(alloc)?;
+    assert!(rt; lost.len() == 1 && lost.first() == Some(&pair(1, 0, 1).1));
+    let (zero, two) = (Member::at(0), Member::at(2));
+    assert!(rt; audit.orphans() == MemberSet::empty().with(zero).with(two));
+    Ok(())
+}
+
+#[test]
+fn names_the_first_part_that_differs(rt: HostRuntime) -> Result<(), Fail> {
+    let alloc = rt.alloc();
+    let nobody = MemberSet::empty();
+    let mut parts = [
+        part(alloc, &[], &[], nobody)?,
+        part(alloc, &[], &[], nobody)?,
+        part(alloc, &[], &[], nobody)?,
+    ];
+    parts[2].members = 4;
+    let (part, first, other) = (2, 3, 4);
+    let fault = PartsFault::Members { part, first, other };
+    assert!(rt; united(alloc, &parts).err() == Some(fault));
+    let words = format!(in alloc; "{fault}")?;
+    assert!(rt; words.as_str() == "members is 4, and 3 in the first part");
+    parts[1].f = 2;
+    let (part, first, other) = (1, 1, 2);
+    let fault = PartsFault::F { part, first, other };
+    assert!(rt; united(alloc, &parts).err() == Some(fault));
+    Ok(())
+}
+
+#[test]
+fn finds_places_in_lists(rt: HostRuntime) {
+    assert!(rt; place_in_lists(&[2, 0, 3], 0) == Some((0, 0)));
+    assert!(rt; place_in_lists(&[2, 0, 3], 2) == Some((2, 0)));
+    assert!(rt; place_in_lists(&[2, 0, 3], 5) == None);
+}
