@@ -10,6 +10,10 @@ mod audits;
 #[cfg(test)]
 mod group;
 #[cfg(test)]
+mod orders;
+#[cfg(test)]
+mod parts;
+#[cfg(test)]
 mod records;
 #[cfg(test)]
 mod streams;
