@@ -40,7 +40,7 @@ of_found e (Some v) rest h = by_number e rest (option_and_then as_u64 (as_number
 
 of_data : (d : Data) → ¬ (field keys.Version count_shape d ≡ Ok 2) → outline_of d ≡ first_outline_of d
 unfolding outline_of first_outline_of
-of_data d h = λ i. or_fault faults.NotObject (as_object d) >>= λ ms. of_found (faults.BadField keys.Version) (get (name_of keys.Version) d) (λ version. outline_by (versioned_shape version) ms d) h i
+of_data d h = λ i. or_fault faults.NotObject (as_object d) >>= λ ms. of_found (faults.BadField keys.Version) (get (name_of keys.Version) d) (λ version. outline_by (versioned_shape version) d) h i
 
 of_read : (read : Result Data RunFault) → ¬ ((read >>= field keys.Version count_shape) ≡ Ok 2) → (read >>= outline_of) ≡ (read >>= first_outline_of)
 of_read (Err e) h = refl
