@@ -1,0 +1,15 @@
+use Rattle.std.proofs.Common.{◌≡◌, ◌∙◌, ap, length}
+use Rattle.fbl_law.specs.Dumps.{dump_of}
+use Rattle.fbl_play.proofs.answer.totals_of.Goals as goal
+
+pub returns : goal.returns
+returns g c =
+    let is : c.in_ok-audit.audit ≡ dump_of c.args.group.now c.args.group.now.down =
+    c.in_ok-audit.ensures ∙ c.in-Ok.ensures.dumped.1 ∙ ap (dump_of c.args.group.now) c.down.ensures.down
+    in
+    record {
+      flight = c.messages_in_flight.ensures;
+      trace = ap length c.trace.ensures;
+      lost = c.len.ensures ∙ ap length (rw is at c.in_ok-lost.ensures);
+      orphans = rw is at c.orphans.ensures;
+    }
