@@ -1,4 +1,5 @@
-use Rattle.std.proofs.Common.{◌≡◌, ◌∙◌, ap, length}
+use Rattle.std.proofs.Common.{◌≡◌, ◌∙◌, ap, length, rules}
+use Rattle.std.specs.Vec.{vec_len}
 use Rattle.fbl_law.specs.Dumps.{dump_of}
 use Rattle.fbl_play.proofs.answer.totals_of.Goals as goal
 
@@ -7,9 +8,10 @@ returns g c =
     let is : c.in_ok-audit.audit ≡ dump_of c.args.group.now c.args.group.now.down =
     c.in_ok-audit.ensures ∙ c.in-Ok.ensures.dumped.1 ∙ ap (dump_of c.args.group.now) c.down.ensures.down
     in
+    let tie : vec_len c.in_ok-lost.lost ≡ length c.in_ok-lost.lost.items = search rules in
     record {
       flight = c.messages_in_flight.ensures;
       trace = ap length c.trace.ensures;
-      lost = c.len.ensures ∙ ap length (rw is at c.in_ok-lost.ensures);
+      lost = c.len.ensures ∙ tie ∙ ap length (rw is at c.in_ok-lost.ensures);
       orphans = rw is at c.orphans.ensures;
     }
