@@ -29,7 +29,7 @@ shard_keeps c config me from values command member own any = (here (key_owner c.
   here : (its : Bool) → (key_owner c.members (key_of command) == me) ≡ its → HoldsItsOwn c me (shard_step me c.members values command).state
   here false not = rw not own
   here true its = rw its (λ key other.
-      get_or-set_other values (key_of command) key (changed command (slice_index values (key_of command))) 0
+      get_or-set_other values (key_of command) key _ 0
       (λ same. other (ap (key_owner c.members) same ∙ eqb-true (key_owner c.members (key_of command)) me its))
       ∙ own key other)
 
