@@ -12,19 +12,15 @@ pub use Rattle.std.specs.Option.{is_some}
 pub use Rattle.std.specs.Ordering.{nat_cmp}
 pub use Rattle.fbl_base.proofs.CauseLaws.{orphan_by_cause, with_next}
 pub use Rattle.fbl_base.proofs.ClockLaws.{has_last, last_step, member_below, member_within, same_event, set_other, set_same}
-pub use Rattle.fbl_base.proofs.Holding.{holds}
-pub use Rattle.fbl_base.proofs.Received.{is_receipt}
+pub use Rattle.fbl_base.proofs.Holding.{holds, is_receipt}
 pub use Rattle.fbl_base.proofs.Gets.{At-below, drop_next, filter_map-At, get_or-same}
-pub use Rattle.fbl_base.proofs.PlacesAndEvents.{Precedes-joined, depends-from_places, places-from_depends}
-pub use Rattle.fbl_base.proofs.PrecedenceLaws.{Has-first}
-pub use Rattle.fbl_base.proofs.Sizes.{len-remove_one, len-within, some_member}
-pub use Rattle.fbl_base.specs.Audit.{AreCauses, IsDump, IsDumpOrphan, IsFirstCause, IsLost, IsOrphaned, IsOrphanStart, Parts}
+pub use Rattle.fbl_base.proofs.PrecedenceLaws.{Precedes-joined, depends-from_places, places-from_depends, Has-first}
+pub use Rattle.fbl_base.proofs.Sets.{len-remove_one, len-within, some_member}
+pub use Rattle.fbl_base.specs.Audit.{AreCauses, IsDump, IsDumpOrphan, IsFirstCause, IsLost, IsOrphaned, IsOrphanStart, Parts, holders_of}
 pub use Rattle.fbl_base.specs.Events.{At, determinant_of, member_of, receipt_of, receipts, send_of}
 pub use Rattle.fbl_base.specs.Clocks.{IsSendOf}
-pub use Rattle.fbl_base.specs.Holders.{holders_of}
 pub use Rattle.fbl_base.specs.MemberSets.{Members, contains-union}
-pub use Rattle.fbl_base.specs.Places.{DependsOnPlace, IsReached, PlaceLeads, PlacePrecedes}
-pub use Rattle.fbl_base.specs.Precedence.{Depends, Has}
+pub use Rattle.fbl_base.specs.Precedence.{DependsOnPlace, IsReached, PlaceLeads, PlacePrecedes, Depends, Has}
 pub use Rattle.fbl_base.specs.Rules.{WellFormed}
 pub use Rattle.fbl_base.specs.declared.trace.Determinant.{Determinant}
 pub use Rattle.fbl_base.specs.declared.trace.Mark.{Mark}

@@ -6,7 +6,7 @@ use Rattle.fbl_audit.proofs.Common.{AreCauses, IsOrphaned, IsOrphanStart, orphan
 use Rattle.std.specs.FinSet as set
 use Rattle.std.proofs.Common.{set as set_at}
 use Rattle.fbl_audit.proofs.Common.{set_same, set_other}
-use Rattle.fbl_base.proofs.PlacesAndEvents.{one_place}
+use Rattle.fbl_base.proofs.PrecedenceLaws.{one_place}
 
 -- ---- ends
 

@@ -2,9 +2,8 @@
 use Rattle.std.specs.Prelude.{ℕ, ◌≡◌, ◌<◌, ◌⊎◌, ◌↔◌, true}
 use Rattle.std.specs.FinSet as set
 use Rattle.fbl_base.specs.declared.trace.Determinant.{Determinant}
-use Rattle.fbl_base.specs.Audit.{Parts, IsDump}
+use Rattle.fbl_base.specs.Audit.{Parts, IsDump, holders_of}
 use Rattle.fbl_base.specs.Events.{receipt_of}
-use Rattle.fbl_base.specs.Holders.{holders_of}
 use Rattle.fbl_base.specs.Precedence.{Depends, Has}
 use Rattle.fbl_audit.specs.Checking.{IsSafe}
 

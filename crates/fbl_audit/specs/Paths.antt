@@ -3,7 +3,7 @@ use Rattle.std.specs.Prelude.{ℕ, ◌≡◌, ◌<◌, List, [], ◌∷◌, Opti
 use Rattle.fbl_base.specs.declared.trace.Mark.{Mark}
 use Rattle.fbl_base.specs.Audit.{Parts, IsFirstCause}
 use Rattle.fbl_base.specs.Events.{At, member_of}
-use Rattle.fbl_base.specs.Places.{DependsOnPlace, IsReached, PlaceLeads, PlacePrecedes}
+use Rattle.fbl_base.specs.Precedence.{DependsOnPlace, IsReached, PlaceLeads, PlacePrecedes}
 
 -- a place of a trace, where paths begin
 pub record Origin : Type 0 where

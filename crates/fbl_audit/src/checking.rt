@@ -2,11 +2,9 @@
 
 ghost use Rattle.std.specs.Prelude.{◌≡◌, ◌↔◌, ℕ, true, [], IfOk, MatchOption};
 ghost use Rattle.std.specs.FinSet as set;
-ghost use Rattle.fbl_base.specs.Audit.{IsDump};
+ghost use Rattle.fbl_base.specs.Audit.{IsDump, holders_of};
 ghost use Rattle.fbl_base.specs.Events.{receipt_of, receipts};
-ghost use Rattle.fbl_base.specs.Holders.{holders_of};
-ghost use Rattle.fbl_base.specs.Places.{DependsOnPlace};
-ghost use Rattle.fbl_base.specs.Precedence.{Depends};
+ghost use Rattle.fbl_base.specs.Precedence.{DependsOnPlace, Depends};
 ghost use Rattle.fbl_audit.specs.Checking.{IsSafe, IsSaidOf, IsUnsafe, SaysUnsafe};
 
 use fbl_base::audit::{Audit, Dump};

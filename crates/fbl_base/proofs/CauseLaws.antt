@@ -1,12 +1,12 @@
 -- The lost receipts that no lost one precedes.
-use Rattle.fbl_base.proofs.Common.{ℕ, ◌≡◌, ◌<◌, ◌≤◌, ◌+◌, ◌⊎◌, ◌↔◌, inl, inr, true, false, List, [], ◌∷◌, ◌++◌, length, Some, refl, sym, ◌∙◌, arith, slice_get, slice_get_within, cases_eq, cases_order, None, Option, MatchOption, Members, nat_cmp_total, contains-insert_same, contains-insert_other}
-use Rattle.fbl_base.proofs.Common.{Parts, WellFormed, IsDumpOrphan, IsLostAt, IsReached, IsCause, IsFirstCause, AreCauses, DependsOnPlace, same_place}
+use Rattle.fbl_base.proofs.Common.{ℕ, ◌≡◌, ◌<◌, ◌≤◌, ◌+◌, ◌⊎◌, ◌↔◌, inl, inr, true, false, List, [], ◌∷◌, ◌++◌, length, Some, refl, sym, ◌∙◌, arith, slice_get, slice_get_within}
+use Rattle.fbl_base.proofs.Common.{cases_eq, cases_order, None, Option, MatchOption, Members, nat_cmp_total, contains-insert_same, contains-insert_other, Parts, WellFormed}
+use Rattle.fbl_base.proofs.Common.{IsDumpOrphan, IsLostAt, IsReached, IsCause, IsFirstCause, AreCauses, DependsOnPlace, same_place}
 use Rattle.std.specs.FinSet as set
 use Rattle.std.specs.Option.{is_some}
 use Rattle.fbl_base.proofs.ClockLaws.{member_within, not_later}
-use Rattle.fbl_base.proofs.Gets.{At-below, At-new, At-front, At-push}
-use Rattle.fbl_base.proofs.PlacesAndEvents.{Precedes-joined, depends-from_places, places-from_depends}
-use Rattle.fbl_base.proofs.PrecedenceLaws.{Has-first}
+use Rattle.fbl_base.proofs.Gets.{At-below, At-seam, At-front, At-push}
+use Rattle.fbl_base.proofs.PrecedenceLaws.{Precedes-joined, depends-from_places, places-from_depends, Has-first}
 
 -- the places among the first p events
 pub record AreCausesBy (dump : Parts) (p : ℕ) (places : List ℕ) : Type 0 where
@@ -33,7 +33,7 @@ causes_more dump p places causes lost = record {
     | inr new ↦ (omega (arith, new.1), rw (← new.1) lost)
   ];
   all = λ i within is. elim (cases_eq i p) [
-    | inl here ↦ (length places, p, At-new places p, rw here (same_place lost.1))
+    | inl here ↦ (length places, p, At-seam places p [], rw here (same_place lost.1))
     | inr ne ↦ (let r = causes.all i (omega (arith, within, ne)) is in (r.0, r.1, At-front places (p ∷ []) r.0 r.1 r.2, r.3))
   ];
   rise = λ k l i j below at_i at_j. elim (At-push places p l j at_j) [

@@ -1,15 +1,14 @@
 -- A pass over the events finds, by vector clocks, which precede which.
 use Rattle.fbl_base.proofs.Common.{ℕ, Bool, true, ◌≡◌, ◌≢◌, ◌<◌, ◌≤◌, ◌+◌, ◌⊎◌, ◌↔◌, inl, inr, List, [], ◌∷◌, ◌++◌, length, Option, Some, None, refl, sym, ap, ◌∙◌, arith, cond}
-use Rattle.fbl_base.proofs.Common.{get_or, get_or-set_other, get_or-set_same, get_or_from_slice_get, slice_get, slice_get-get_or, slice_get_read, slice_get_within, replicate, false, false≢true, length-set, length-append, length-take, take, max}
-use Rattle.fbl_base.proofs.Common.{cases_eq, nat_tests, Decides, MessageName, same_message, Mark, Send, Receipt, At, member_of, send_of, PlaceLeads, PlacePrecedes}
-use Rattle.fbl_base.proofs.Common.{same_place, place_step, DependsOnPlace, DependsBy, Clock, CountsPlaces, IsClock, IsSendOf, IsSentBy, Seen, Sees, WellFormed}
+use Rattle.fbl_base.proofs.Common.{get_or, get_or-set_other, get_or-set_same, get_or_from_slice_get, slice_get, slice_get-get_or, slice_get_read, slice_get_within, replicate}
+use Rattle.fbl_base.proofs.Common.{false, false≢true, length-set, length-append, length-take, take, max, cases_eq, nat_tests, Decides, MessageName, same_message, Mark, Send}
+use Rattle.fbl_base.proofs.Common.{Receipt, At, member_of, send_of, PlaceLeads, PlacePrecedes, same_place, place_step, DependsOnPlace, DependsBy, Clock, CountsPlaces, IsClock}
+use Rattle.fbl_base.proofs.Common.{IsSendOf, IsSentBy, Seen, Sees, WellFormed}
 use Rattle.std.proofs.Common.{set as set_at}
 use Rattle.std.specs.HashMap as hash_map
-use Rattle.fbl_base.proofs.Breached.{room}
-use Rattle.fbl_base.proofs.Gets.{At-below, At-push, get_or-same, slice_get-take}
-use Rattle.fbl_base.proofs.InFlightLaws.{sent-number}
-use Rattle.fbl_base.proofs.PlacesAndEvents.{one_of, one_place}
-use Rattle.fbl_base.proofs.RulesLaws.{WellFormed-take, sent-before}
+use Rattle.fbl_base.proofs.RulesLaws.{room, sent-before}
+use Rattle.fbl_base.proofs.Gets.{At-below, At-push, get_or-same}
+use Rattle.fbl_base.proofs.PrecedenceLaws.{one_place, one_send}
 
 -- one place has one event
 pub same_event : (t : List Mark) (i j : ℕ) (a b : Mark) → i ≡ j → At t i a → At t j b → a ≡ b
@@ -54,15 +53,6 @@ pub set_other : {X : Type 0} (xs : List X) (m q : ℕ) (x d : X) → q ≢ m →
 set_other xs m q x d ne = rw get_or-set_other refl
 
 -- ---- messages
-
--- no member has two sends of one number
-one_send : (n : ℕ) (t : List Mark) → WellFormed n t → (q s a b i j : ℕ) → At t i (Send q s a) → At t j (Send q s b) → i ≡ j
-one_send n t obeys q s a b i j at_i at_j = one_of (λ k. (to : ℕ) × At t k (Send q s to)) later i j (a, at_i) (b, at_j) where
-  later : (x y : ℕ) → (to : ℕ) × At t x (Send q s to) → (to : ℕ) × At t y (Send q s to) → ¬ (x < y)
-  later x y sent_x sent_y below =
-      let number = (obeys y (Send q s sent_y.0) sent_y.1).3 in
-      let most = sent-number n (take y t) (WellFormed-take n y t obeys) q s sent_x.0 (x, slice_get-take t y x (Send q s sent_x.0) below sent_x.1) in
-      omega (arith, number, most)
 
 -- the send of what a receipt takes is found
 pub send_found : (n : ℕ) (t : List Mark) → WellFormed n t → (p i to rsn from ssn : ℕ) → At t i (Receipt to rsn from ssn) → i < p + 1 → (o : Option ℕ)

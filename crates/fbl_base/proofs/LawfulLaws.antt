@@ -1,14 +1,31 @@
--- A delivery keeps a trace lawful.
-use Rattle.fbl_base.proofs.Common.{◌≡◌, ◌≢◌, ℕ, zero, suc, ◌+◌, ◌<◌, ◌≤◌, ◌==◌, ◌&&◌, inl, inr, true, false, cond, List, [], ◌∷◌, ◌++◌, length, take, map}
-use Rattle.fbl_base.proofs.Common.{Some, slice_get, refl, sym, ap, ◌∙◌, arith, filter_map, fold, cases_eq, nat_tests, take-append-le, filter_map-append, Start, Mark, At, sends_of}
-use Rattle.fbl_base.proofs.Common.{is_send_of, MayFollow, WellFormed, Next, took, sent, responses, append_assoc, length-append, length-take, All, append-nil, map-append, length-map, sum_by-append}
-use Rattle.fbl_base.proofs.Common.{All-head, All-tail, slice_get-map, Event, mark_of, Action, action_of, actions_of, notes_of, note_of, start_of, starts_of, step_events, Lawful}
+-- Folds over notes, and that a delivery keeps a trace lawful.
+use Rattle.fbl_base.proofs.Common.{refl, ◌≡◌, ℕ, List, [], ◌∷◌, ◌++◌, map, fold, Start, Next, responses, took, sent, append_assoc, append-nil, Progress, advanced, begun}
+use Rattle.fbl_base.proofs.Common.{after_notes, ◌≢◌, zero, suc, ◌+◌, ◌<◌, ◌≤◌, ◌==◌, ◌&&◌, inl, inr, true, false, cond, length, take, Some, slice_get, sym, ap, ◌∙◌, arith}
+use Rattle.fbl_base.proofs.Common.{filter_map, cases_eq, nat_tests, take-append-le, filter_map-append, Mark, At, sends_of, is_send_of, MayFollow, WellFormed, length-append}
+use Rattle.fbl_base.proofs.Common.{length-take, All, map-append, length-map, sum_by-append, All-head, All-tail, slice_get-map, Event, mark_of, Action, action_of, actions_of}
+use Rattle.fbl_base.proofs.Common.{notes_of, note_of, start_of, starts_of, step_events}
 use Rattle.fbl_base.specs.declared.trace.Mark.TheVariants as mark
 use Rattle.fbl_base.specs.declared.trace.Event.TheVariants.{Send, Receipt}
-use Rattle.fbl_base.proofs.Sifted.{length-filter_map}
-use Rattle.fbl_base.proofs.Gets.{filter_map-agree}
+use Rattle.fbl_base.specs.Laws.{LawfulDeliveryLaw}
+use Rattle.fbl_base.proofs.Gets.{length-filter_map, filter_map-agree}
 use Rattle.fbl_base.proofs.RulesLaws.{WellFormed-push, sent-before, eqb-self}
-use Rattle.fbl_base.proofs.FoldLaws.{responses-push}
+
+module _ {S N : Type 0} where
+  pub responses-push : (next : Next S N) (member n : ℕ) (state : S) (notes : List N) (note : N)
+      → responses next member n state (notes ++ note ∷ [])
+      ≡ responses next member n state notes ++ (took note ∷ map sent (next.step member n (fold (λ s x. (next.step member n s x).state) state notes) note).sends.items)
+  responses-push next member n state [] note = simp append-nil
+  responses-push next member n state (x ∷ notes) note =
+      let ih = responses-push next member n (next.step member n state x).state notes note in
+      rw (append_assoc, ← ih)
+
+  fold-state : (next : Next S N) (member n : ℕ) (p : Progress S N) (notes : List N) → (fold (advanced next member n) p notes).state ≡ fold (λ s x. (next.step member n s x).state) p.state notes
+  fold-state next member n p [] = refl
+  fold-state next member n p (x ∷ notes) = fold-state next member n (advanced next member n p x) notes
+
+  -- the state after the notes is that of `next` alone
+  pub after_notes-state : (next : Next S N) (member n : ℕ) (starts : List (Start N)) (notes : List N) → (after_notes next member n starts notes).state ≡ fold (λ s x. (next.step member n s x).state) (next.initial member n) notes
+  after_notes-state next member n starts notes = fold-state next member n (begun (next.initial member n) member starts) notes
 
 module _ {N : Type 0} where
   -- a note that was sent stays so
@@ -80,12 +97,9 @@ module _ {N : Type 0} where
 
 module _ {S N : Type 0} where
   -- a delivery keeps a trace lawful
-  pub Lawful-deliver : (next : Next S N) (n : ℕ) (starts : List (Start N)) (t : List (Event N)) (p rsn q s : ℕ) (note : N) (sends : List (ℕ × N))
-      → Lawful next n starts t → MayFollow n (map mark_of t) (mark.Receipt p rsn q s) → note_of t q s ≡ Some note
-      → sends ≡ (next.step p n (fold (λ state x. (next.step p n state x).state) (next.initial p n) (notes_of (actions_of t p))) note).sends.items
-      → All (λ (x : ℕ × N). (x.0 < n) × (x.0 ≢ p)) sends → length t + 1 + length sends ≤ 8192 → length starts ≤ length t
-      → Lawful next n starts (t ++ Receipt p rsn q s ∷ step_events p (sends_of (map mark_of t) p) sends)
-  Lawful-deliver next n starts t p rsn q s note sends lawful may noted answer allowed room begun =
+  pub lawful_deliver : LawfulDeliveryLaw S N
+  lawful_deliver next n starts t p rsn q s note sends lawful may noted answer allowed room =
+      let begun : length starts ≤ length t = omega (arith, ap length lawful.starts_first, length-filter_map start_of (take (length starts) t), length-take (length starts) t) in
       let before = sends_of (map mark_of t) p in
       let new = Receipt p rsn q s ∷ step_events p before sends in
       let R : Mark = mark.Receipt p rsn q s in
@@ -110,8 +124,3 @@ module _ {S N : Type 0} where
               rw kept (lawful.responds m)
         ];
       }
-
-  -- a lawful trace has at least its starts
-  pub Lawful-begun : (next : Next S N) (n : ℕ) (starts : List (Start N)) (t : List (Event N)) → Lawful next n starts t → length starts ≤ length t
-  Lawful-begun next n starts t lawful =
-      omega (arith, ap length lawful.starts_first, length-filter_map start_of (take (length starts) t), length-take (length starts) t)

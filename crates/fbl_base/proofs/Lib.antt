@@ -1,19 +1,9 @@
 pub mod Common
-pub mod PrecedenceLaws
-pub mod Gets
-pub mod RulesLaws
 pub mod ClockLaws
 pub mod CauseLaws
+pub mod Gets
+pub mod RulesLaws
+pub mod PrecedenceLaws
 pub mod Holding
-pub mod Recorded
-pub mod FoldLaws
-pub mod Sifted
-pub mod InFlightLaws
-pub mod CountedLaws
-pub mod Received
-pub mod Sizes
-pub mod Numbers
-pub mod PlacesAndEvents
 pub mod LawfulLaws
-pub mod BitSets
-mod Breached
+pub mod Sets

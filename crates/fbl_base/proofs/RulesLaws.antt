@@ -1,10 +1,13 @@
--- Laws of the rules of events.
-use Rattle.fbl_base.proofs.Common.{◌+◌, ◌==◌, ◌&&◌, not, None, ℕ, zero, suc, Bool, true, cond, ◌≡◌, ◌<◌, inl, inr, List, [], ◌∷◌, ◌++◌, length, take, drop, Some}
-use Rattle.fbl_base.proofs.Common.{refl, ap, ◌∙◌, arith, count_by, slice_get, and_parts, nat_tests, filter_map, list_any, take-append-le, take_all, sum_by-cons, Mark, At, Has, is_send_of}
-use Rattle.fbl_base.proofs.Common.{sends_of, receipts_of, sent_on, taken_on, in_flight, MayFollow, WellFormed, eqb-true, cond_some, append-nil, take-append-drop, sum_by_push, Send, Receipt}
-use Rattle.fbl_base.proofs.Common.{is_receipt_of}
+-- Laws of the rules of events: traces that obey them, what is in flight after one more event, and what is counted.
+use Rattle.fbl_base.proofs.Common.{slice_index, slice_set, ◌+◌, ◌==◌, ◌&&◌, not, None, ℕ, zero, suc, Bool, true, cond, ◌≡◌, ◌<◌, inl, inr, List, [], ◌∷◌, ◌++◌, length, take, drop}
+use Rattle.fbl_base.proofs.Common.{Some, refl, ap, ◌∙◌, arith, count_by, slice_get, and_parts, nat_tests, filter_map, list_any, take-append-le, take_all, sum_by-cons, Mark, At}
+use Rattle.fbl_base.proofs.Common.{Has, is_send_of, sends_of, receipts_of, sent_on, taken_on, in_flight, MayFollow, WellFormed, eqb-true, cond_some, append-nil, take-append-drop}
+use Rattle.fbl_base.proofs.Common.{sum_by_push, Send, Receipt, is_receipt_of, false, ◌≢◌, ◌≤◌, filter, cons_option, list_any-append, filter-append, filter_map-append}
+use Rattle.fbl_base.proofs.Common.{first_in_flight, FitsEvent, next_number, Option, MatchOption, length-set, common_steps, Counted, BreaksEvent, EventRule, IfSome, Counts}
+use Rattle.fbl_base.proofs.Common.{destination_of, source_of, CountsEvent, first_by, next_by, Breaks}
 use Rattle.std.proofs.lemmas.List.{length-take, append_assoc}
-use Rattle.fbl_base.proofs.Gets.{At-front, At-new, At-below, At-push, At-filter, At-filter_map}
+use Rattle.fbl_base.proofs.Gets.{At-front, At-seam, At-below, At-push, At-filter, At-filter_map, Apart, Apart-filter, Apart-filter_map, slice_get-take}
+use Rattle.fbl_base.specs.declared.fault.EventRule.TheVariants as rules
 
 -- the empty trace obeys the rules
 pub WellFormed-none : (n : ℕ) → WellFormed n []
@@ -27,7 +30,7 @@ WellFormed-take n i t obeys = WellFormed-front n (take i t) (drop i t) (rw take-
 
 pub MayFollow-last : (n : ℕ) (t : List Mark) (e : Mark) → WellFormed n (t ++ e ∷ []) → MayFollow n t e
 MayFollow-last n t e obeys =
-    (let here : take (length t) (t ++ e ∷ []) ≡ t = take-append-le (length t) t (e ∷ []) (omega arith) ∙ take_all (length t) t (omega arith) in rw here at (obeys (length t) e (At-new t e)))
+    (let here : take (length t) (t ++ e ∷ []) ≡ t = take-append-le (length t) t (e ∷ []) (omega arith) ∙ take_all (length t) t (omega arith) in rw here at (obeys (length t) e (At-seam t e [])))
 
 -- what holds of no event, and of one more that may come next, holds of each trace that obeys the rules
 pub WellFormed-keeps : (n : ℕ) (P : List Mark → Type 0) → P []
@@ -95,3 +98,162 @@ sent-before n t obeys i to rsn from ssn here =
     let sent = in_flight-sent (take i t) from ssn to 0 may.5 in
     let below = At-below (take i t) sent.0 (Send from ssn to) sent.1 in
     (sent.0, omega (arith, below, length-take i t), (rw take-append-drop at (At-front (take i t) (drop i t) sent.0 (Send from ssn to) sent.1)))
+
+-- a send's number is at most how many sends there are
+pub sent-number : (n : ℕ) (t : List Mark) → WellFormed n t → (q s p : ℕ) → Has t (Send q s p) → s ≤ sends_of t q
+sent-number n t obeys q s p has =
+    let number = obeys has.0 (Send q s p) has.1 in
+    omega (arith, number.3, count_at (is_send_of q) t has.0 (Send q s p) has.1 (eqb-self q))
+
+is_taken : (q p s : ℕ) (e : Mark) → taken_on q p e ≡ Some s → (r : ℕ) × (e ≡ Receipt p r q s)
+is_taken q p s (Send q' s' p') h = cc
+is_taken q p s (Receipt p' r' q' s') h = (let on = on_channel q' p' q p s' s h in (r', rw (on.0, on.1, on.2) refl))
+
+-- a message that was taken was sent
+pub taken-sent : (n : ℕ) (t : List Mark) → WellFormed n t → (q p s j : ℕ) → slice_get (filter_map (taken_on q p) t) j ≡ Some s → s ≤ sends_of t q
+taken-sent n t obeys q p s j at =
+    let r = At-filter_map (taken_on q p) t j s at in
+    let e = is_taken q p s r.1 r.3 in
+    let here : At t r.0 (Receipt p e.0 q s) = r.2 ∙ ap Some e.1 in
+    let sent = sent-before n t obeys r.0 p e.0 q s here in
+    sent-number n t obeys q s p (sent.0, sent.2)
+
+-- the numbers on a channel rise
+pub sent-rises : (n : ℕ) (t : List Mark) → WellFormed n t → (q p x y : ℕ) → Apart (filter_map (sent_on q p) t) x y → x < y
+sent-rises n t obeys q p x y apart =
+    let r = Apart-filter_map (sent_on q p) t x y apart in
+    let ex = is_sent q p x r.0 r.3 in
+    let ey = is_sent q p y r.1 r.4 in
+    let at_x : At t r.2.0 (Send q x p) = r.2.3 ∙ ap Some ex in
+    let at_y : At t r.2.1 (Send q y p) = r.2.4 ∙ ap Some ey in
+    let number_y = obeys r.2.1 (Send q y p) at_y in
+    let front : At (take r.2.1 t) r.2.0 (Send q x p) = slice_get-take t r.2.1 r.2.0 (Send q x p) r.2.2 at_x in
+    let below = sent-number n (take r.2.1 t) (WellFormed-take n r.2.1 t obeys) q x p (r.2.0, front) in
+    omega (arith, number_y.3, below)
+
+-- a test that each element passes keeps the list
+pub filter_all : {X : Type 0} (p : X → Bool) (xs : List X) → ((i : ℕ) (x : X) → slice_get xs i ≡ Some x → p x ≡ true) → filter p xs ≡ xs
+filter_all p [] all = refl
+filter_all p (x ∷ xs) all = (let h : p x ≡ true = all 0 x refl in rw h (ap (λ ys. x ∷ ys) (filter_all p xs (λ i y at. all (suc i) y at))))
+
+-- a list with no such element
+none_any : {X : Type 0} (p : X → Bool) (xs : List X) → ((i : ℕ) (x : X) → slice_get xs i ≡ Some x → p x ≡ false) → list_any p xs ≡ false
+none_any p [] none = refl
+none_any p (x ∷ xs) none = (let h : p x ≡ false = none 0 x refl in rw h (none_any p xs (λ i y at. none (suc i) y at)))
+
+-- a send is in flight after what was in flight on its channel
+pub in_flight-send : (n : ℕ) (t : List Mark) → WellFormed n t → (q s p a b : ℕ) → MayFollow n t (Send q s p)
+    → in_flight (t ++ Send q s p ∷ []) a b ≡ in_flight t a b ++ (cond (q == a && p == b) (s ∷ []) [])
+in_flight-send n t obeys q s p a b may =
+    let taken : filter_map (taken_on a b) (t ++ Send q s p ∷ []) ≡ filter_map (taken_on a b) t = rw (filter_map-append (taken_on a b) t (Send q s p ∷ [])) (append-nil _) in
+    let fresh : q ≡ a → list_any (λ k. k == s) (filter_map (taken_on a b) t) ≡ false = λ same. none_any (λ k. k == s) (filter_map (taken_on a b) t) (λ i x at.
+    let below = taken-sent n t obeys a b x i at in
+    let count = ap (sends_of t) same in
+    grind (arith, nat_tests, may.3, below, count)) in
+    rw (taken, filter_map-append (sent_on a b) t (Send q s p ∷ []), filter-append) (grind (arith, nat_tests, fresh))
+
+-- to leave out one more number is to leave it out of what is left
+filter_twice : (ks : List ℕ) (s : ℕ) (xs : List ℕ)
+    → filter (λ x. not (list_any (λ k. k == x) (ks ++ s ∷ []))) xs ≡ filter (λ x. not (s == x)) (filter (λ x. not (list_any (λ k. k == x) ks)) xs)
+filter_twice ks s [] = refl
+filter_twice ks s (x ∷ xs) =
+    let rest = filter_twice ks s xs in
+    let more = list_any-append (λ k. k == x) ks (s ∷ []) in
+    grind (arith, rest, more)
+
+filter_first : (s : ℕ) (xs : List ℕ) → slice_get xs 0 ≡ Some s → ((i x : ℕ) → slice_get xs (suc i) ≡ Some x → s ≢ x) → filter (λ x. not (s == x)) xs ≡ drop 1 xs
+filter_first s [] first others = cc
+filter_first s (x ∷ xs) first others =
+    let e : s ≡ x = cc in
+    let same : (s == x) ≡ true = grind (arith, nat_tests) in
+    rw same (filter_all (λ y. not (s == y)) xs (λ i y at. (let ne = others i y at in grind (arith, nat_tests, ne))))
+
+-- a receipt takes the first message off its channel
+pub in_flight-receipt : (n : ℕ) (t : List Mark) → WellFormed n t → (p r q s a b : ℕ) → MayFollow n t (Receipt p r q s)
+    → in_flight (t ++ Receipt p r q s ∷ []) a b ≡ cond (q == a && p == b) (drop 1 (in_flight t a b)) (in_flight t a b)
+in_flight-receipt n t obeys p r q s a b may =
+    let sent : filter_map (sent_on a b) (t ++ Receipt p r q s ∷ []) ≡ filter_map (sent_on a b) t = rw (filter_map-append (sent_on a b) t (Receipt p r q s ∷ [])) (append-nil _) in
+    rw (sent, filter_map-append (taken_on a b) t (Receipt p r q s ∷ [])) (on (q == a) (p == b) refl refl) where
+      on : (x y : Bool) → (q == a) ≡ x → (p == b) ≡ y
+          → filter (λ ssn. not (list_any (λ k. k == ssn) (filter_map (taken_on a b) t ++ cons_option (cond (x && y) (Some s) None) [])))
+          (filter_map (sent_on a b) t) ≡ cond (x && y) (drop 1 (in_flight t a b)) (in_flight t a b)
+      on true true ex ey =
+          let e1 : q ≡ a = grind (arith, nat_tests) in
+          let e2 : p ≡ b = grind (arith, nat_tests) in
+          let first : slice_get (in_flight t a b) 0 ≡ Some s = rw (← e1, ← e2) may.5 in
+          filter_twice (filter_map (taken_on a b) t) s (filter_map (sent_on a b) t)
+          ∙ filter_first s (in_flight t a b) first (λ i x at.
+          let apart = Apart-filter (λ ssn. not (list_any (λ k. k == ssn) (filter_map (taken_on a b) t))) (filter_map (sent_on a b) t) s x (0, suc i, omega arith, first, at) in
+          let rises = sent-rises n t obeys a b s x apart in
+          omega (arith, rises))
+      on true false ex ey = rw append-nil
+      on false y ex ey = rw append-nil
+
+-- what an event that may follow has
+pub room : (n : ℕ) (t : List Mark) (e : Mark) → MayFollow n t e → length t < 8192
+room n t (Send q s p) m = m.4
+room n t (Receipt p r q s) m = m.4
+
+pub fits : (n : ℕ) (t : List Mark) (e : Mark) → MayFollow n t e → FitsEvent n e (next_number t e) (first_in_flight t e)
+fits n t (Send q s p) m = ((m.0, m.1, m.2), m.3, tt)
+fits n t (Receipt p r q s) m = ((m.0, m.1, m.2), m.3, m.5)
+
+pub may : (n : ℕ) (t : List Mark) → length t < 8192 → (e : Mark) → FitsEvent n e (next_number t e) (first_in_flight t e) → MayFollow n t e
+may n t few (Send q s p) h = (h.0.0, h.0.1, h.0.2, h.1, few)
+may n t few (Receipt p r q s) h = (h.0.0, h.0.1, h.0.2, h.1, few, h.2)
+
+-- the number that an event has to have by the counts is that by the trace
+next_counted : {A : Type 0} (t : List Mark) (c : Counts A) → Counted t c → (e : Mark) → source_of e < 16 → destination_of e < 16 → next_by c e ≡ next_number t e
+next_counted t c counted (Send q s p) below_q below_p = ap (λ x. x + 1) (counted.sends q below_q)
+next_counted t c counted (Receipt p r q s) below_q below_p = ap (λ x. x + 1) (counted.receipts p below_p)
+
+-- and so is the verdict on it
+module _ {A : Type 0} (n : ℕ) (t : List Mark) (c : Counts A) (counted : Counted t c) (few : length t < 8192) (e : Mark) (ends : (source_of e < 16) × (destination_of e < 16))
+    (next : ℕ) (first : Option ℕ) (is_next : next ≡ next_by c e) (is_first : first ≡ first_by c e) where
+  number : next ≡ next_number t e
+  number = is_next ∙ next_counted t c counted e ends.0 ends.1
+
+  message : first ≡ first_in_flight t e
+  message = is_first ∙ ap (λ xs. slice_get xs 0) (counted.channels (source_of e) (destination_of e) ends.0 ends.1)
+
+  pub judged : (found : Option EventRule) → MatchOption found (FitsEvent n e next first) (λ _. ¬ (FitsEvent n e next first)) → MatchOption found (MayFollow n t e) (λ _. ¬ (MayFollow n t e))
+  judged None h = may n t few e (rw (number, message) at h)
+  judged (Some rule) h = λ m. h (rw (number, message) (fits n t e m))
+
+  pub named : (found : Option EventRule) → IfSome found (Breaks n e next first) → IfSome found (BreaksEvent n t e)
+  named found h = by_trace found (rw (number, message) at h) where
+    by_trace : (found : Option EventRule) → IfSome found (Breaks n e (next_number t e) (first_in_flight t e)) → IfSome found (BreaksEvent n t e)
+    by_trace None h = h
+    by_trace (Some rules.TooMany) h = absurd h
+    by_trace (Some _) h = (few, h)
+
+module _ {A : Type 0} (n : ℕ) (t : List Mark) (c d : Counts A) (most : n ≤ 16) (obeys : WellFormed n t) (counted : Counted t c) where
+  -- the count of a member that has one event more of the kind, and the others' as they were
+  count_now : (kind : ℕ → Mark → Bool) (old new : List ℕ) (e : Mark) (m k : ℕ) → (length old ≡ 16) × ((x : ℕ) → x < 16 → slice_index old x ≡ count_by (kind x) t)
+      → ((x : ℕ) → kind x e ≡ (m == x)) → k ≡ count_by (kind m) t + 1 → new ≡ slice_set old m k → (x : ℕ) → x < 16 → slice_index new x ≡ count_by (kind x) (t ++ e ∷ [])
+  count_now kind old new e m k was own number is x below =
+      rw is (let same = λ (here : x ≡ m). ap (λ y. count_by (kind y) t) here in grind (arith, nat_tests, common_steps, was.0, was.1 x below, own x, number, same, sum_by_push (λ y. cond (kind x y) 1 0) t e))
+
+  pub counted_event : (e : Mark) → MayFollow n t e → CountsEvent e c d → Counted (t ++ e ∷ []) d
+  counted_event (Send q s p) may counts =
+      let here = counted.channels q p (omega (arith, may.0, most)) (omega (arith, may.1, most)) in
+      record {
+        sends = count_now is_send_of c.sends d.sends (Send q s p) q s (counted.sends_length, counted.sends) (λ x. refl) may.3 counts.0;
+        receipts = λ x below. rw counts.1 (omega (arith, counted.receipts x below, receipts-step t (Send q s p) x));
+        channels = λ x y below_x below_y.
+            rw counts.2 (grind (arith, nat_tests, common_steps, here, counted.channels x y below_x below_y, in_flight-send n t obeys q s p x y may, counted.channels_length));
+        sends_length = rw (counts.0, length-set) counted.sends_length;
+        receipts_length = rw counts.1 counted.receipts_length;
+        channels_length = rw (counts.2, length-set) counted.channels_length;
+      }
+  counted_event (Receipt p r q s) may counts =
+      let here = counted.channels q p (omega (arith, may.0, most)) (omega (arith, may.1, most)) in
+      record {
+        sends = λ x below. rw counts.0 (omega (arith, counted.sends x below, sends-step t (Receipt p r q s) x));
+        receipts = count_now is_receipt_of c.receipts d.receipts (Receipt p r q s) p r (counted.receipts_length, counted.receipts) (λ x. refl) may.3 counts.1;
+        channels = λ x y below_x below_y.
+            rw counts.2 (grind (arith, nat_tests, common_steps, here, counted.channels x y below_x below_y, in_flight-receipt n t obeys p r q s x y may, counted.channels_length));
+        sends_length = rw counts.0 counted.sends_length;
+        receipts_length = rw (counts.1, length-set) counted.receipts_length;
+        channels_length = rw (counts.2, length-set) counted.channels_length;
+      }

@@ -1,5 +1,5 @@
 -- What an audit says of a dump.
-use Rattle.std.specs.Prelude.{◌≡◌, Option, Some, None, slice_get, slice_index_or, ℕ, ◌<◌, Bool, false, not, ◌&&◌, List}
+use Rattle.std.specs.Prelude.{◌≡◌, Option, Some, None, slice_get, slice_index_or, ℕ, ◌<◌, Bool, false, not, ◌&&◌, List, map, unwrap_or}
 use Rattle.std.specs.List.{Contains, list_any, filter}
 use Rattle.std.specs.Ordering.{nat_cmp}
 use Rattle.std.specs.FinSet as set
@@ -7,13 +7,15 @@ use Rattle.fbl_base.specs.declared.trace.Determinant.{Determinant}
 use Rattle.fbl_base.specs.declared.trace.Mark.{Mark}
 use Rattle.fbl_base.specs.declared.trace.Mark.TheVariants.{Send, Receipt}
 use Rattle.fbl_base.specs.Events.{At, member_of, receipt_of, receipts, same_determinant}
-use Rattle.fbl_base.specs.Places.{DependsOnPlace, IsReached, PlacePrecedes}
-use Rattle.fbl_base.specs.Precedence.{Has, Depends}
+use Rattle.fbl_base.specs.Precedence.{DependsOnPlace, IsReached, PlacePrecedes, Has, Depends}
 use Rattle.fbl_base.specs.Rules.{ObeysAt, WellFormed}
 use Rattle.fbl_base.specs.Configs.{MembersAllowed, FAllowed, IsFirstBreach}
-use Rattle.fbl_base.specs.MemberSets.{AllBelow}
+use Rattle.fbl_base.specs.MemberSets.{AllBelow, Members}
 use Rattle.fbl_base.specs.declared.refusal.DumpRefusal.{DumpRefusal}
 use Rattle.fbl_base.specs.declared.refusal.DumpRefusal.TheVariants.{BadMembers, BadF, BadEvent, BadHeld, BadStrike, Memory}
+use Rattle.fbl_base.specs.declared.raw_dump.RawDump.{RawDump}
+use Rattle.std.specs.HashMap as hash_map
+use Rattle.fbl_base.specs.declared.holders.Holders.{Holders}
 
 -- the five parts of a dump
 pub record Parts : Type 0 where
@@ -110,3 +112,19 @@ RefusesDump dump (BadHeld place) =
 RefusesDump dump BadStrike =
     MembersAllowed dump.members × FAllowed dump.members dump.f × WellFormed dump.members dump.events × ((i : ℕ) → HeldAt dump i) × ¬ (AllBelow dump.strike dump.members)
 RefusesDump dump Memory = MembersAllowed dump.members × FAllowed dump.members dump.f
+
+-- the parts, as contracts see them
+abbrev pub parts_of : {A : Type 0} → RawDump A → Parts
+parts_of raw = record { members = raw.members; f = raw.f; events = raw.events.items; held = raw.held.items; strike = raw.strike }
+
+-- whether some receipt among the events has the determinant
+abbrev pub is_received : List Mark → Determinant → Bool
+is_received events d = list_any (λ x. same_determinant x d) (receipts events)
+
+-- the members that hold the determinant, struck or not: Log of Alvisi and Marzullo (1998)
+abbrev pub holders_of : Parts → Determinant → Members
+holders_of dump d = set.from_list (map (λ h. h.0) (filter (λ h. same_determinant h.1 d) dump.held))
+
+-- the index has of each determinant those that hold it
+abbrev pub AreHolders : {A : Type 0} → Parts → Holders A → Type 0
+AreHolders dump found = (d : Determinant) → unwrap_or (hash_map.get same_determinant found.index d) set.empty ≡ holders_of dump d

@@ -7,7 +7,7 @@ use Rattle.fbl_base.specs.declared.trace.Mark.{Mark}
 use Rattle.fbl_base.specs.declared.trace.Mark.TheVariants.{Send}
 use Rattle.fbl_base.specs.declared.trace.MessageName.{MessageName}
 use Rattle.fbl_base.specs.Events.{At, member_of, same_message, send_of}
-use Rattle.fbl_base.specs.Places.{PlacePrecedes}
+use Rattle.fbl_base.specs.Precedence.{PlacePrecedes}
 
 -- the clock counts exactly the events at the places of which P holds
 abbrev pub Counts : List Mark → (ℕ → Type 0) → Clock → Type 0

@@ -8,8 +8,7 @@ use Rattle.fbl_base.specs.declared.trace.Mark.{Mark}
 use Rattle.fbl_base.specs.declared.trace.Mark.TheVariants.{Send, Receipt}
 use Rattle.fbl_base.specs.Events.{At, mark_of, member_of}
 use Rattle.fbl_base.specs.Rules.{sends_of, MayFollow, WellFormed}
-use Rattle.fbl_base.specs.Precedence.{Has, Precedes, Depends}
-use Rattle.fbl_base.specs.Places.{DependsOnPlace, PlacePrecedes}
+use Rattle.fbl_base.specs.Precedence.{Has, Precedes, Depends, DependsOnPlace, PlacePrecedes}
 use Rattle.fbl_base.specs.Fold.{Next, Lawful, actions_of, notes_of, note_of, state_after, step_events}
 
 -- what precedes an appended receipt, which the trace did not have: itself, what its member depended on, and what precedes

@@ -1,21 +1,22 @@
--- Sets of members.
-use Rattle.std.specs.Prelude.{◌≡◌, ℕ, ◌+◌, ◌<◌, ◌↔◌, ◌⊎◌, Bool, true, false, cond, List, [], ◌∷◌, ◌≢◌}
-use Rattle.std.proofs.Common.{zero, suc, get_or, ◌∙◌, arith, count_by}
+-- Sets of members, and how sixteen bits keep one.
+use Rattle.std.specs.Prelude.{◌≡◌, ◌≢◌, ℕ, ◌+◌, ◌*◌, ◌/◌, ◌%◌, ◌^◌, ◌<◌, ◌&&◌, ◌↔◌, ◌⊎◌, nat_lt, Bool, true, cond, List}
+use Rattle.std.proofs.Common.{zero, suc, ◌∙◌, arith, ap, eqb}
 use Rattle.std.proofs.lemmas.Bool.Decides.{nat_tests}
-use Rattle.std.proofs.lemmas.List.Sums.{sum_by-cons}
 use Rattle.std.specs.Ordering.{nat_cmp}
 use Rattle.std.specs.List.{filter, range_with_len}
 use Rattle.std.specs.Cmp.{unsigned_tied, nat_cmp_total}
 use Rattle.std.specs.FinSet as set
+use Rattle.std.specs.Int.{bit_at}
+use Rattle.std.proofs.lemmas.Nat.Bits.{bit_at_lowest, bit_at-suc, bit_at_above}
 
 -- a set of members
 abbrev pub Members : Type 0
 Members = set.FinSet nat_cmp
 
--- the places, from k on, at which a flag is set
-unfoldable pub flagged : ℕ → List Bool → set.FinSet nat_cmp
-flagged k [] = set.empty
-flagged k (flag ∷ flags) = cond flag (set.insert (flagged (suc k) flags) k) (flagged (suc k) flags)
+-- the members below n that pass the test
+unfoldable pub members_where : ℕ → (ℕ → Bool) → Members
+members_where zero p = set.empty
+members_where (suc n) p = cond (p n) (set.insert (members_where n p) n) (members_where n p)
 
 -- the members of a set, rising
 unfoldable pub member_list : set.FinSet nat_cmp → List ℕ
@@ -34,36 +35,43 @@ contains-insert_other s k q ne = set.contains-insert nat_cmp_total s k q ∙ (rw
 pub contains-union : (s t : set.FinSet nat_cmp) (q : ℕ) → (set.contains (set.union s t) q ≡ true) ↔ (set.contains s q ≡ true) ⊎ (set.contains t q ≡ true)
 contains-union s t q = grind (arith, set.contains-union nat_cmp_total s t q)
 
-pub contains-flagged_below : (flags : List Bool) (k q : ℕ) → q < k → set.contains (flagged k flags) q ≡ false
-unfolding flagged
-contains-flagged_below [] k q below = set.contains-empty nat_cmp q
-contains-flagged_below (flag ∷ flags) k q below =
-    (let rest = contains-flagged_below flags (suc k) q (omega arith) in let other = contains-insert_other (flagged (suc k) flags) k q in grind (arith, rest, other))
-
-contains-flagged_at : (flags : List Bool) (k q j : ℕ) → q ≡ j + k → set.contains (flagged k flags) q ≡ get_or flags j false
-unfolding flagged
-contains-flagged_at [] k q j is = set.contains-empty nat_cmp q
-contains-flagged_at (flag ∷ flags) k q zero is =
-    let rest = contains-flagged_below flags (suc k) q (omega (arith, is)) in
-    let same : q ≡ k = omega (arith, is) in
-    rw (← same) (grind (arith, rest, contains-insert_same (flagged (suc q) flags) q))
-contains-flagged_at (flag ∷ flags) k q (suc j) is =
-    let rest = contains-flagged_at flags (suc k) q j (omega (arith, is)) in
-    let other = contains-insert_other (flagged (suc k) flags) k q (λ e. omega (arith, is, e)) in
-    grind (arith, rest, other)
-
--- whether a member is among the flagged ones
-pub contains-flagged : (flags : List Bool) (q : ℕ) → set.contains (flagged 0 flags) q ≡ get_or flags q false
-contains-flagged flags q = contains-flagged_at flags 0 q q (omega arith)
-
--- how many are flagged
-pub len-flagged : (flags : List Bool) (k : ℕ) → set.len (flagged k flags) ≡ count_by (λ b. b) flags
-unfolding flagged
-len-flagged [] k = set.len-empty nat_cmp
-len-flagged (flag ∷ flags) k =
-    let one = set.len-insert nat_cmp_total (flagged (suc k) flags) k in
-    grind (arith, one, sum_by-cons (λ b. cond b 1 0) flag flags, contains-flagged_below flags (suc k) k (omega arith), len-flagged flags (suc k))
+-- whether a member is among those that pass
+pub contains-members_where : (n : ℕ) (p : ℕ → Bool) (q : ℕ) → set.contains (members_where n p) q ≡ (nat_lt q n && p q)
+unfolding members_where
+contains-members_where zero p q = set.contains-empty nat_cmp q ∙ grind (arith, nat_tests)
+contains-members_where (suc n) p q =
+    let other = contains-insert_other (members_where n p) n q in
+    grind (arith, nat_tests, contains-members_where n p q, contains-insert_same (members_where n p) n, other, λ (same : q ≡ n). ap p same)
 
 -- two sets with the same members are equal
 pub same_from_contains : (s t : set.FinSet nat_cmp) → ((q : ℕ) → set.contains s q ≡ set.contains t q) → s ≡ t
 same_from_contains s t same = set.same_set nat_cmp_total set.nat_cmp-IsAntisymmetric s t same
+
+-- whether b has a 1 at the place
+abbrev pub has_one : ℕ → ℕ → Bool
+has_one b k = eqb (bit_at b k) 1
+
+-- the places at which b has a 1
+unfoldable pub set_of : ℕ → Members
+set_of b = members_where 16 (has_one b)
+
+-- the number with a 1 at the places of the set, of n digits from place k on
+unfoldable pub bits_of : ℕ → ℕ → Members → ℕ
+bits_of zero k s = 0
+bits_of (suc n) k s = cond (set.contains s k) 1 0 + 2 * bits_of n (suc k) s
+
+-- whether a member is in the set
+pub contains-set_of : (b q : ℕ) → b < 65536 → set.contains (set_of b) q ≡ has_one b q
+unfolding set_of
+contains-set_of b q within = contains-members_where 16 (has_one b) q ∙ grind (arith, nat_tests, bit_at_above b 16 q within)
+
+bits_of-same : (n k b : ℕ) (s : Members) → b < 2 ^ n → ((j : ℕ) → j < n → set.contains s (j + k) ≡ has_one b j) → bits_of n k s ≡ b
+unfolding bits_of
+bits_of-same zero k b s below same = omega (arith, below)
+bits_of-same (suc n) k b s below same =
+    let first : set.contains s k ≡ eqb (b % 2) 1 = (rw (let e : 0 + k ≡ k = omega arith in e) at (same 0 (omega arith))) ∙ ap (λ x. eqb x 1) (bit_at_lowest b) in
+    let rest : bits_of n (suc k) s ≡ b / 2 = bits_of-same n (suc k) (b / 2) s (omega (arith, below)) (λ j lt. (rw (let e : j + suc k ≡ suc j + k = omega arith in e) (same (suc j) (omega (arith, lt)) ∙ ap (λ x. eqb x 1) (bit_at-suc b j)))) in
+    rw (first, rest) grind (arith, nat_tests)
+
+pub bits_of-set_of : (b : ℕ) → b < 65536 → bits_of 16 0 (set_of b) ≡ b
+bits_of-set_of b within = bits_of-same 16 0 b (set_of b) within (λ j lt. rw (let e : j + 0 ≡ j = omega arith in e) (contains-set_of b j within))

@@ -7,14 +7,12 @@
 
 ghost use Rattle.std.specs.Prelude.{◌≡◌, ◌≤◌, ◌↔◌, ℕ, true, not, IfOk, IfErr, IfSome, MatchOption};
 ghost use Rattle.std.specs.FinSet as set;
-ghost use Rattle.fbl_base.specs.Audit.{AreCauses, FitsPair, HeldAt, IsCause, IsDump, IsDumpOrphan, IsFirstCause, IsLost, RefusesDump, is_held_outside, lost_determinants};
+ghost use Rattle.fbl_base.specs.Audit.{AreCauses, FitsPair, HeldAt, IsCause, IsDump, IsDumpOrphan, IsFirstCause, IsLost, RefusesDump, is_held_outside, lost_determinants, parts_of, is_received, AreHolders, holders_of};
 ghost use Rattle.fbl_base.specs.Breaches.{BreaksPair, IsDumpBreach, IsEventFault, IsPairFault};
 ghost use Rattle.fbl_base.specs.Configs.{IsFirstBreach};
 ghost use Rattle.fbl_base.specs.Events.{same_determinant};
 ghost use Rattle.std.specs.HashSet as hash_set;
-ghost use Rattle.fbl_base.specs.DumpParts.{parts_of, is_received};
 ghost use Rattle.fbl_base.specs.Rules.{ObeysAt, WellFormed};
-ghost use Rattle.fbl_base.specs.Holders.{AreHolders, holders_of};
 
 use crate::clocks::Clocks;
 use crate::fault::{Breach, EventFault, Outsider, PairFault, PairRule};
@@ -52,7 +50,7 @@ impl<A: Allocator> Model for Dump<A> {
 
     ghost coded = { Prim.hlevel (codes, mark.the_row.coded, determinant.the_row.coded, set.code {R = nat_cmp} coded_ℕ) };
 
-    ghost use Rattle.fbl_base.specs.DumpParts.{parts_of};
+    ghost use Rattle.fbl_base.specs.Audit.{parts_of};
 
     ghost view = { λ d. parts_of d.raw };
 
@@ -129,7 +127,7 @@ impl<'a, A: Allocator> Model for Audit<'a, A> {
 
     ghost view = { λ a. a.clocks };
 
-    ghost use Rattle.fbl_base.specs.Holders.{AreHolders};
+    ghost use Rattle.fbl_base.specs.Audit.{AreHolders};
 
     ghost invariant = { λ a. AreHolders a.clocks a.holders × AreCauses a.clocks a.causes.items };
 }
@@ -168,7 +166,7 @@ fn lost_by<A: Allocator + Copy>(
 }
 
 /// Whether the event is a lost receipt, where these are the holders.
-#[tactic(auto, using(crate::proofs::Recorded::held_outside))]
+#[tactic(auto, using(crate::proofs::Holding::held_outside))]
 fn is_lost_receipt<A: Allocator + Copy>(dump: &Dump<A>, holders: &Holders<A>, event: Mark) -> bool
     requires { AreHolders dump.now holders.now }
     ensures { (result ≡ true) ↔ IsLost dump.now event }

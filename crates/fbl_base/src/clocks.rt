@@ -3,7 +3,7 @@
 ghost use Rattle.std.specs.Prelude.{◌≡◌, ◌<◌, ◌+◌, ◌↔◌, ℕ, IfOk, IsTrue, max, length, slice_index};
 ghost use Rattle.fbl_base.specs.Audit.{IsDump};
 ghost use Rattle.fbl_base.specs.Clocks.{Counts, IsClock, IsSendOf, Sees};
-ghost use Rattle.fbl_base.specs.Places.{DependsOnPlace, IsReached, PlacePrecedes};
+ghost use Rattle.fbl_base.specs.Precedence.{DependsOnPlace, IsReached, PlacePrecedes};
 
 use crate::audit::Dump;
 use crate::member::Member;

@@ -4,7 +4,7 @@ ghost use Rattle.std.specs.Prelude.{◌≡◌, IfOk, unwrap_or};
 ghost use Rattle.std.specs.FinSet as set;
 ghost use Rattle.std.specs.HashMap as hash_map;
 ghost use Rattle.fbl_base.specs.Events.{same_determinant};
-ghost use Rattle.fbl_base.specs.Holders.{AreHolders};
+ghost use Rattle.fbl_base.specs.Audit.{AreHolders};
 
 use crate::audit::Dump;
 use crate::member_set::MemberSet;

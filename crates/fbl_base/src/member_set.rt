@@ -22,7 +22,7 @@ impl Model for MemberSet {
     ghost use Rattle.std.specs.Ordering.{nat_cmp};
     ghost use Rattle.std.specs.Coded.{coded_ℕ};
     ghost use Rattle.std.specs.FinSet as set;
-    ghost use Rattle.fbl_base.specs.Bits.{set_of, bits_of, bits_of-set_of};
+    ghost use Rattle.fbl_base.specs.MemberSets.{set_of, bits_of, bits_of-set_of};
 
     ghost Value = { set.FinSet nat_cmp };
 
@@ -39,7 +39,7 @@ impl Model for MemberSet {
 
 impl MemberSet {
     /// No members.
-    #[tactic(auto, using(crate::proofs::BitSets::empty_bits))]
+    #[tactic(auto, using(crate::proofs::Sets::empty_bits))]
     pub fn empty() -> MemberSet
         ensures { result ≡ set.empty }
     {
@@ -47,7 +47,7 @@ impl MemberSet {
     }
 
     /// Whether the member is in the set.
-    #[tactic(auto, using(crate::proofs::BitSets::has_bits))]
+    #[tactic(auto, using(crate::proofs::Sets::has_bits))]
     pub fn has(self, member: Member) -> bool
         ensures { result ≡ set.contains self member }
     {
@@ -55,7 +55,7 @@ impl MemberSet {
     }
 
     /// The set and the member.
-    #[tactic(auto, using(crate::proofs::BitSets::insert_bits))]
+    #[tactic(auto, using(crate::proofs::Sets::insert_bits))]
     pub fn with(self, member: Member) -> MemberSet
         ensures { result ≡ set.insert self member }
     {
@@ -65,7 +65,7 @@ impl MemberSet {
     }
 
     /// How many members there are.
-    #[tactic(auto, using(crate::proofs::BitSets::count_bits))]
+    #[tactic(auto, using(crate::proofs::Sets::count_bits))]
     pub fn count(self) -> u32
         ensures { result ≡ set.len self }
     {
@@ -95,7 +95,7 @@ impl MemberSet {
     }
 
     /// The members of either set.
-    #[tactic(auto, using(crate::proofs::BitSets::union_bits))]
+    #[tactic(auto, using(crate::proofs::Sets::union_bits))]
     pub fn union(self, other: MemberSet) -> MemberSet
         ensures { result ≡ set.union self other }
     {
@@ -127,7 +127,7 @@ impl MemberSet {
     }
 
     /// The members that are not in the other set.
-    #[tactic(auto, using(crate::proofs::BitSets::difference_bits))]
+    #[tactic(auto, using(crate::proofs::Sets::difference_bits))]
     pub fn without(self, other: MemberSet) -> MemberSet
         ensures { result ≡ set.difference self other }
     {

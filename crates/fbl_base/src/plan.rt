@@ -1,7 +1,7 @@
 //! Plans of strikes.
 
 ghost use Rattle.std.specs.Prelude.{◌≡◌, ◌<◌, MatchOption};
-ghost use Rattle.fbl_base.specs.Plans.{BreaksEntry, IsFirstBad, IsPlan, IsPlanFault, MayBeStruck};
+ghost use Rattle.fbl_base.specs.Breaches.{BreaksEntry, IsFirstBad, IsPlan, IsPlanFault, MayBeStruck};
 
 use crate::config::Config;
 use crate::content::Content;

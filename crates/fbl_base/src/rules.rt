@@ -4,8 +4,7 @@
 ghost use Rattle.std.specs.Prelude.{◌≡◌, ◌<◌, ◌≤◌, ◌+◌, ◌*◌, ◌++◌, ◌∷◌, [], ℕ, IfOk, IfSome, OnOk, MatchOption, drop, slice_get, slice_index, vec_len};
 ghost use Rattle.fbl_base.specs.Breaches.{Breaks, BreaksEvent, FitsEvent};
 ghost use Rattle.fbl_base.specs.Events.{destination_of, source_of};
-ghost use Rattle.fbl_base.specs.Counted.{Counted, CountsEvent, first_by, next_by};
-ghost use Rattle.fbl_base.specs.Rules.{MayFollow, WellFormed};
+ghost use Rattle.fbl_base.specs.Rules.{Counted, CountsEvent, first_by, next_by, MayFollow, WellFormed};
 
 use crate::fault::EventRule;
 use crate::member::{MOST_MEMBERS, Member};

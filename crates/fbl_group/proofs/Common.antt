@@ -20,9 +20,9 @@ pub use Rattle.std.specs.Prelude.{sum_by, ◌↔◌}
 pub use Rattle.std.specs.Vec.{with_item}
 pub use Rattle.std.specs.Vec.Iter.{into_iter_items}
 pub use Rattle.std.specs.declared.collections.VecDeque.{VecDeque}
-pub use Rattle.fbl_base.proofs.FoldLaws.{after_notes-state}
+pub use Rattle.fbl_base.proofs.LawfulLaws.{after_notes-state}
 pub use Rattle.fbl_base.proofs.RulesLaws.{eqb-self}
-pub use Rattle.fbl_base.proofs.Sifted.{length-filter_map, length-left}
+pub use Rattle.fbl_base.proofs.Gets.{length-filter_map, length-left}
 pub use Rattle.fbl_base.specs.Audit.{IsDumpOrphan, Parts}
 pub use Rattle.fbl_base.specs.Configs.{IsConfig, Settings, StartAllowed}
 pub use Rattle.fbl_base.specs.Events.{determinant_of, mark_of, receipt_of}
@@ -38,27 +38,26 @@ pub use Rattle.fbl_base.specs.declared.trace.Event.TheVariants.{Receipt}
 pub use Rattle.fbl_base.specs.declared.trace.Mark.{Mark}
 pub use Rattle.fbl_base.specs.declared.trace.Mark.TheVariants.{Send}
 pub use Rattle.fbl_base.specs.declared.trace.Start.{Start}
-pub use Rattle.fbl_law.proofs.ChannelCounts.{sent_again-short, sum_below-agree, sum_below-none}
+pub use Rattle.fbl_law.proofs.Lists.{sent_again-short, sum_below-agree, sum_below-none}
 pub use Rattle.fbl_law.proofs.Channels.{flight_at, flight_ends}
-pub use Rattle.fbl_law.proofs.GroupCheckpoint.{checkpoint_is_recorded, group_checkpoint_keeps}
+pub use Rattle.fbl_law.proofs.Keeping.{checkpoint_is_recorded, group_checkpoint_keeps, group_strike_keeps, recorded_test}
 pub use Rattle.fbl_law.proofs.GroupDelivery.{group_delivery_keeps, length-step_events}
-pub use Rattle.fbl_law.proofs.GroupFacts.{front_is_later, new_not_carried, new_not_held, receipt_is_new, receipts_fit, sends_fit, trace_fits}
+pub use Rattle.fbl_law.proofs.Promises.{front_is_later, new_not_carried, new_not_held, receipt_is_new, receipts_fit, sends_fit, trace_fits, any_survivors_hold, carried_fits}
+pub use Rattle.fbl_law.proofs.Promises.{dump_has_no_orphan, dump_obeys_rules, sound_holds_each_receipt, sound_records_first, table_fits}
 pub use Rattle.fbl_law.proofs.GroupRecovery.{cut-undone, group_recovery_gains_holders, group_recovery_keeps, recovered_trace-cut, recovery_leaves_recorded}
 pub use Rattle.fbl_law.proofs.GroupStart.{group_start_is_sound}
-pub use Rattle.fbl_law.proofs.GroupStrike.{group_strike_keeps, recorded_test}
-pub use Rattle.fbl_law.proofs.Promises.{any_survivors_hold, carried_fits, dump_has_no_orphan, dump_obeys_rules, sound_holds_each_receipt, sound_records_first, table_fits}
 pub use Rattle.fbl_law.proofs.ReplayLaws.{rebuilt_is_recovered, recovered_trace-rebuilt, replay_begins, replay_is_right, replayed_in-all, replayed_in-short, replayed_in-step, replaying-next}
 pub use Rattle.fbl_law.proofs.ReplayLaws.{count_in-same, replaying-room, replaying-tables, with-table, working-log}
 pub use Rattle.fbl_law.proofs.Safe.{IsRecorded-before, down_or_both_up, down_or_up, no_orphan, up_if_none}
 pub use Rattle.fbl_law.proofs.WeightKept.{flow, into, out, weight_in, weight_on}
-pub use Rattle.fbl_law.specs.Dumps.{pairs_from, pairs_of}
+pub use Rattle.fbl_law.specs.Promises.{pairs_from, pairs_of}
 pub use Rattle.fbl_law.specs.GroupLaws.{SendsWell}
-pub use Rattle.fbl_law.specs.GroupSteps.{IsCheckpoint, IsDelivery, IsRecovery, IsStrike, delivery_events, message_of_send, start_events, step_of}
-pub use Rattle.fbl_law.specs.Groups.{GroupRecord, HasChannels, channel, channel_in, is_recorded, knowledge, marks, member, member_checkpoint, messages_in, messages_in_flight, receipts, sum_below}
+pub use Rattle.fbl_law.specs.GroupSteps.{IsCheckpoint, IsDelivery, IsRecovery, IsStrike, delivery_events, message_of_send, start_events, step_of, between, gathered_all, is_on}
+pub use Rattle.fbl_law.specs.GroupSteps.{recovery_table, saved_tables, taken_off, IsRebuilt, IsReplaying, IsWaiting, count_in, is_replayed, recovered_trace, replayed_in, resent}
+pub use Rattle.fbl_law.specs.GroupSteps.{resent_to, sent_again, stays_by, working}
+pub use Rattle.fbl_law.specs.Groups.{GroupRecord, HasChannels, channel, channel_in, is_recorded, knowledge, marks, member, member_checkpoint, messages_in, messages_in_flight}
+pub use Rattle.fbl_law.specs.Groups.{receipts, sum_below, IsSound, received_notes}
 pub use Rattle.fbl_law.specs.Knowledge.{IsDown, IsInFlight, IsUp, MatchesTrace, send_mark, table}
-pub use Rattle.fbl_law.specs.Replaying.{IsRebuilt, IsReplaying, IsWaiting, count_in, is_replayed, recovered_trace, replayed_in, resent, resent_to, sent_again, stays_by, working}
-pub use Rattle.fbl_law.specs.Sound.{IsSound, received_notes}
-pub use Rattle.fbl_law.specs.Steps.{between, gathered_all, is_on, recovery_table, saved_tables, taken_off}
 pub use Rattle.fbl_member.proofs.Made.{Made, made-more}
 pub use Rattle.fbl_member.specs.Carried.{IsOnce}
 pub use Rattle.fbl_member.specs.Members.{MemberRecord, Message, blank, fresh, last_from, logged_note, messages_from, next_determinant, received_by, replayed_by, table_after}

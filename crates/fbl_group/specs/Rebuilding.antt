@@ -5,9 +5,8 @@ use Rattle.fbl_base.specs.Fold.{Next}
 use Rattle.fbl_table.specs.Receipts.{IsByNumber}
 use Rattle.fbl_member.specs.Members.{MemberRecord, blank}
 use Rattle.fbl_law.specs.Knowledge.{IsDown}
-use Rattle.fbl_law.specs.Steps.{recovery_table}
+use Rattle.fbl_law.specs.GroupSteps.{recovery_table, IsReplaying, IsWaiting, replayed_in}
 use Rattle.fbl_law.specs.Groups.{GroupRecord, member_checkpoint, knowledge}
-use Rattle.fbl_law.specs.Replaying.{IsReplaying, IsWaiting, replayed_in}
 
 -- of each member that is down, the receipts beyond its checkpoint that the gathered table has, by their numbers
 pub record AreByNumber {S N : Type 0} (r : GroupRecord S N) (receipts : List (List (Option Determinant))) : Type 0 where

@@ -5,8 +5,7 @@ use Rattle.std.specs.FinSet as set
 use Rattle.fbl_base.specs.MemberSets.{Members}
 use Rattle.fbl_base.specs.Fold.{Next}
 use Rattle.fbl_law.specs.Groups.{GroupRecord, channel, sum_below, marks, receipts}
-use Rattle.fbl_law.specs.GroupSteps.{IsRecovery}
-use Rattle.fbl_law.specs.Replaying.{is_replayed}
+use Rattle.fbl_law.specs.GroupSteps.{IsRecovery, is_replayed}
 use Rattle.fbl_group.specs.declared.answers.Recovered.{Recovered}
 use Rattle.fbl_group.specs.declared.refusals.RecoverRefusal.{RecoverRefusal}
 use Rattle.fbl_group.specs.declared.refusals.RecoverRefusal.TheVariants.{NotDown, Memory}

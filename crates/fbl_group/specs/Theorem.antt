@@ -5,9 +5,8 @@ use Rattle.std.specs.FinSet as set
 use Rattle.fbl_base.specs.MemberSets.{Members}
 use Rattle.fbl_base.specs.Fold.{Next}
 use Rattle.fbl_law.specs.Knowledge.{IsDown, IsOrphan, IsUp}
-use Rattle.fbl_law.specs.Groups.{GroupRecord, knowledge, member}
+use Rattle.fbl_law.specs.Groups.{GroupRecord, knowledge, member, IsFold}
 use Rattle.fbl_law.specs.Promises.{HoldsEachReceipt, LeavesRecorded}
-use Rattle.fbl_law.specs.Sound.{IsFold}
 use Rattle.fbl_group.specs.declared.answers.Recovered.{Recovered}
 use Rattle.fbl_group.specs.declared.answers.Struck.{Struck}
 use Rattle.fbl_group.specs.Recoveries.{Recovers}

@@ -6,9 +6,8 @@ ghost use Rattle.fbl_base.specs.declared.trace.Determinant.{Determinant};
 ghost use Rattle.fbl_base.specs.Events.{receipt_of};
 ghost use Rattle.fbl_base.specs.Precedence.{Has};
 ghost use Rattle.fbl_law.specs.Knowledge.{IsRecorded};
-ghost use Rattle.fbl_law.specs.Groups.{member_checkpoint, knowledge, marks};
+ghost use Rattle.fbl_law.specs.Groups.{member_checkpoint, knowledge, marks, IsCheckpointFold};
 ghost use Rattle.fbl_law.specs.GroupSteps.{IsCheckpoint};
-ghost use Rattle.fbl_law.specs.Sound.{IsCheckpointFold};
 ghost use Rattle.fbl_group.specs.Checkpoints.{checkpoint_refusal, IsCheckpointRefusal};
 
 use crate::group::Group;

@@ -2,14 +2,12 @@
 
 ghost use Rattle.std.specs.Prelude.{◌≡◌, ℕ, ◌≤◌, ◌++◌, IfOk, IfErr, OnOk, length, map};
 ghost use Rattle.std.specs.FinSet as set;
-ghost use Rattle.fbl_base.specs.Audit.{IsDumpOrphan};
-ghost use Rattle.fbl_base.specs.DumpParts.{parts_of};
+ghost use Rattle.fbl_base.specs.Audit.{IsDumpOrphan, parts_of};
 ghost use Rattle.fbl_base.specs.Events.{mark_of};
 ghost use Rattle.fbl_base.specs.MemberSets.{AllBelow};
 ghost use Rattle.fbl_law.specs.Knowledge.{Includes, IsDown};
-ghost use Rattle.fbl_law.specs.Groups.{knowledge};
-ghost use Rattle.fbl_law.specs.Sound.{IsSound};
-ghost use Rattle.fbl_law.specs.Dumps.{pairs_of, pairs_from, dump_of};
+ghost use Rattle.fbl_law.specs.Groups.{knowledge, IsSound};
+ghost use Rattle.fbl_law.specs.Promises.{pairs_of, pairs_from, dump_of};
 ghost use Rattle.fbl_group.specs.Readers.{IsDumpRefusal};
 
 use crate::group::Group;

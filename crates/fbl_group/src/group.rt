@@ -25,7 +25,7 @@ pub struct Group<B: Behaviour, A: Allocator = Global> {
 
 impl<B: Behaviour, A: Allocator> Model for Group<B, A> {
     ghost use Rattle.fbl_law.specs.Groups.{GroupRecord};
-    ghost use Rattle.fbl_law.specs.Sound.{IsSound};
+    ghost use Rattle.fbl_law.specs.Groups.{IsSound};
     ghost use Rattle.fbl_group.specs.Channels.{rows};
 
     ghost Value = { GroupRecord B.State B.Note };

@@ -4,7 +4,7 @@ ghost use Rattle.std.specs.Prelude.{◌≡◌, ◌≤◌, length, slice_index_or
 ghost use Rattle.std.specs.List.{filter};
 ghost use Rattle.fbl_base.specs.Events.{mark_of};
 ghost use Rattle.fbl_member.specs.Members.{blank};
-ghost use Rattle.fbl_law.specs.Replaying.{stays_by};
+ghost use Rattle.fbl_law.specs.GroupSteps.{stays_by};
 ghost use Rattle.fbl_group.specs.Strikes.{AreRecordsReplaced};
 
 use fbl_base::{Behaviour, Event, Mark, Member, MemberSet};

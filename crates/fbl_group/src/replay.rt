@@ -5,10 +5,8 @@ ghost use Rattle.std.specs.FinSet as set;
 ghost use Rattle.fbl_table.specs.Receipts.{IsByNumber};
 ghost use Rattle.fbl_table.specs.Tables.{found};
 ghost use Rattle.fbl_member.specs.Members.{blank, logged_note};
-ghost use Rattle.fbl_law.specs.Groups.{member_checkpoint, knowledge};
-ghost use Rattle.fbl_law.specs.Steps.{gathered_all, saved_tables, recovery_table};
-ghost use Rattle.fbl_law.specs.Sound.{IsSound};
-ghost use Rattle.fbl_law.specs.Replaying.{working, replayed_in, IsReplaying, IsWaiting};
+ghost use Rattle.fbl_law.specs.Groups.{member_checkpoint, knowledge, IsSound};
+ghost use Rattle.fbl_law.specs.GroupSteps.{gathered_all, saved_tables, recovery_table, working, replayed_in, IsReplaying, IsWaiting};
 ghost use Rattle.fbl_group.specs.Rebuilding.{AreByNumber, AreReplaying, Tries, Rounds, IsReady};
 
 use crate::group::Group;

@@ -4,7 +4,7 @@ ghost use Rattle.std.specs.Prelude.{◌≡◌, ℕ, ◌<◌, [], length, map, sl
 ghost use Rattle.std.specs.VecDeque.{deque_items};
 ghost use Rattle.fbl_table.specs.Tables.{piggybacked};
 ghost use Rattle.fbl_law.specs.Groups.{HasChannels, channel_in};
-ghost use Rattle.fbl_law.specs.Replaying.{working, resent, sent_again};
+ghost use Rattle.fbl_law.specs.GroupSteps.{working, resent, sent_again};
 ghost use Rattle.fbl_group.specs.Channels.{rows};
 
 use crate::channels::{Channel, Channels, has_either};

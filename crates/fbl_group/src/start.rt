@@ -4,10 +4,9 @@ ghost use Rattle.std.specs.Prelude.{◌≡◌, ℕ, ◌<◌, ◌≤◌, [], leng
 ghost use Rattle.std.specs.List.{filter_map};
 ghost use Rattle.fbl_base.specs.Events.{mark_of};
 ghost use Rattle.fbl_base.specs.Rules.{is_send_of, sends_of};
-ghost use Rattle.fbl_law.specs.Steps.{between};
+ghost use Rattle.fbl_law.specs.GroupSteps.{between, IsGroupStart, start_events, message_of_send};
 ghost use Rattle.fbl_law.specs.Groups.{HasChannels, channel_in};
 ghost use Rattle.fbl_group.specs.Channels.{rows};
-ghost use Rattle.fbl_law.specs.GroupSteps.{IsGroupStart, start_events, message_of_send};
 
 use crate::channels::{Channels, empty_channels};
 use crate::group::Group;

@@ -14,9 +14,9 @@ pub use Rattle.std.specs.Option.{option_map}
 pub use Rattle.std.specs.List.{filter, fold, list_any, range_with_len}
 pub use Rattle.std.specs.Prelude.{count_by, ◌^◌, slice_index_or, slice_set}
 pub use Rattle.std.specs.declared.alloc.AllocError.{AllocError}
-pub use Rattle.fbl_base.proofs.FoldLaws.{after_notes-state}
+pub use Rattle.fbl_base.proofs.LawfulLaws.{after_notes-state}
 pub use Rattle.fbl_base.proofs.Gets.{At-front, At-push, map-At}
-pub use Rattle.fbl_base.proofs.PlacesAndEvents.{one_place}
+pub use Rattle.fbl_base.proofs.PrecedenceLaws.{one_place}
 pub use Rattle.fbl_base.proofs.RulesLaws.{eqb-self, receipts-step, sent-before}
 pub use Rattle.fbl_base.specs.Configs.{Settings}
 pub use Rattle.fbl_base.specs.Events.{At, mark_of, receipts}
@@ -28,12 +28,9 @@ pub use Rattle.fbl_base.specs.declared.trace.Event.{Event}
 pub use Rattle.fbl_base.specs.declared.trace.Mark.{Mark}
 pub use Rattle.fbl_base.specs.declared.trace.Note.{Note}
 pub use Rattle.fbl_law.proofs.Lists.{filter-passes, some-at}
-pub use Rattle.fbl_law.proofs.Logs.{log-short, logged-by, logged-noted}
-pub use Rattle.fbl_law.proofs.Notes.{mark-at, send-at}
+pub use Rattle.fbl_law.proofs.ReplayedRecords.{log-short, logged-by, logged-noted, mark-at, send-at, replayed-step}
 pub use Rattle.fbl_law.proofs.Receipts.{Has-receipts_at}
-pub use Rattle.fbl_law.proofs.ReplayedRecords.{replayed-step}
-pub use Rattle.fbl_law.specs.Groups.{GroupRecord, marks}
-pub use Rattle.fbl_law.specs.Sound.{IsReplayed, IsSound, received_notes}
+pub use Rattle.fbl_law.specs.Groups.{GroupRecord, marks, IsReplayed, IsSound, received_notes}
 pub use Rattle.fbl_member.proofs.Logs.{length-numbered}
 pub use Rattle.fbl_member.specs.Members.{MemberRecord, blank, logged_note, replayed_by}
 pub use Rattle.fbl_table.proofs.Adding.{take-next}

@@ -3,8 +3,7 @@ use Rattle.std.specs.Prelude.{◌≡◌, ℕ, Bool, List, map}
 use Rattle.std.specs.List.{filter}
 use Rattle.fbl_base.specs.declared.trace.Note.{Note}
 use Rattle.fbl_base.specs.Fold.{Next}
-use Rattle.fbl_law.specs.Groups.{GroupRecord}
-use Rattle.fbl_law.specs.Sound.{IsSound}
+use Rattle.fbl_law.specs.Groups.{GroupRecord, IsSound}
 use Rattle.fbl_history.specs.declared.column.Column.{Column}
 use Rattle.fbl_history.specs.Columns.{standing, go_on, undone_without, GoesOnFrom, HasEachOnce}
 use Rattle.fbl_history.specs.Traces.{go_on_to, trace_columns, CountsReceipts}

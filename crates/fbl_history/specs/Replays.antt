@@ -4,8 +4,7 @@ use Rattle.fbl_base.specs.declared.trace.Note.{Note}
 use Rattle.fbl_base.specs.Fold.{Next}
 use Rattle.fbl_base.specs.Rules.{receipts_of}
 use Rattle.fbl_member.specs.Members.{MemberRecord, blank}
-use Rattle.fbl_law.specs.Groups.{GroupRecord, marks}
-use Rattle.fbl_law.specs.Sound.{IsReplayed}
+use Rattle.fbl_law.specs.Groups.{GroupRecord, marks, IsReplayed}
 
 -- these members have replayed the receipts among the first events of the group's trace, so many as `place` says
 pub record HaveReplayed (next : Next ℕ Note) (r : GroupRecord ℕ Note) (place : ℕ) (members : List (MemberRecord ℕ Note)) : Type 0 where

@@ -5,8 +5,7 @@ use Rattle.fbl_base.specs.declared.trace.Event.{Event}
 use Rattle.fbl_base.specs.declared.trace.Event.TheVariants as event
 use Rattle.fbl_base.specs.Fold.{Next, state_after}
 use Rattle.fbl_base.specs.MemberSets.{member_list, Members}
-use Rattle.fbl_law.specs.Groups.{GroupRecord, member, member_checkpoint}
-use Rattle.fbl_law.specs.Sound.{received_notes}
+use Rattle.fbl_law.specs.Groups.{GroupRecord, member, member_checkpoint, received_notes}
 use Rattle.fbl_history.specs.declared.column.Column.{Column}
 use Rattle.fbl_history.specs.declared.column.Column.TheVariants.{Send, Receipt, Recovery}
 use Rattle.fbl_history.specs.declared.column.Replay.{Replay}

@@ -1,45 +1,48 @@
 -- What is left of a lawful trace is lawful, with its notes.
-use Rattle.fbl_law.proofs.Common.{◌≡◌, ℕ, zero, suc, ◌<◌, ◌≤◌, nat_lt, inl, inr, ◌⊎◌, Bool, true, false, cond, List, [], ◌∷◌, ◌++◌, length, take, map, Option, Some, slice_get, refl, sym}
-use Rattle.fbl_law.proofs.Common.{ap, ◌∙◌, arith, count_by, length-take, filter, filter_map, fold, nat_tests, filter-append, sum_by-cons, length-filter_map, length-left, Start, Event}
-use Rattle.fbl_law.proofs.Common.{Mark, mark_of, member_of, send_of, Has, Leads, Precedes, itself, step, is_send_of, is_receipt_of, sends_of, receipts_of, sent_on, taken_on, in_flight}
-use Rattle.fbl_law.proofs.Common.{MayFollow, WellFormed, At-front, At-below, WellFormed-keeps, WellFormed-none, WellFormed-push, is_sent, in_flight-sent, last_taken, Next, note_of, Action}
-use Rattle.fbl_law.proofs.Common.{took, sent, action_of, actions_of, notes_of, responses, start_of, starts_of, Lawful, At-filter, receipts-noted, eqb-self, append-nil, filter_map-agree}
-use Rattle.fbl_law.proofs.Common.{Earlier-front, cases_lt, drop, drop_all, drop_next, filter_map-append, slice_get_within, subst, take-append-drop, At}
+use Rattle.fbl_law.proofs.Common.{◌≡◌, ℕ, zero, suc, ◌<◌, ◌≤◌, nat_lt, inl, inr, ◌⊎◌, Bool, true, false, cond, List, [], ◌∷◌, ◌++◌, length, take, map, Option, Some, slice_get}
+use Rattle.fbl_law.proofs.Common.{refl, sym, ap, ◌∙◌, arith, count_by, length-take, filter, filter_map, fold, nat_tests, filter-append, sum_by-cons, length-filter_map, length-left}
+use Rattle.fbl_law.proofs.Common.{Start, Event, Mark, mark_of, member_of, send_of, Has, Leads, Precedes, itself, step, is_send_of, is_receipt_of, sends_of, receipts_of, sent_on}
+use Rattle.fbl_law.proofs.Common.{taken_on, in_flight, MayFollow, WellFormed, At-front, At-below, WellFormed-keeps, WellFormed-none, WellFormed-push, is_sent, in_flight-sent}
+use Rattle.fbl_law.proofs.Common.{last_taken, Next, note_of, Action, took, sent, action_of, actions_of, notes_of, responses, start_of, starts_of, Lawful, At-filter, receipts-noted}
+use Rattle.fbl_law.proofs.Common.{eqb-self, append-nil, filter_map-agree, Earlier-front, cases_lt, drop, drop_all, drop_next, filter_map-append, slice_get_within, subst, take_all}
+use Rattle.fbl_law.proofs.Common.{None, At-seam, take-append-drop, At}
 use Rattle.fbl_base.specs.declared.trace.Mark.TheVariants as mark
 use Rattle.fbl_base.specs.declared.trace.Event.TheVariants.{Send, Receipt}
 use Rattle.fbl_law.proofs.Channels.{in_flight-beyond}
-use Rattle.fbl_law.proofs.Lists.{At-seam, filter-At, some-at}
-use Rattle.fbl_law.proofs.Notes.{noted-sent, sent-noted, mark-at}
+use Rattle.fbl_law.proofs.Lists.{filter-At, some-at}
+use Rattle.fbl_law.proofs.ReplayedRecords.{noted-sent, sent-noted, mark-at}
 
--- counts of a kind of event of which each is kept
-count-kept : (keep p : Mark → Bool) (u : List Mark) → ((e : Mark) → Has u e → p e ≡ true → keep e ≡ true) → count_by p (filter keep u) ≡ count_by p u
-count-kept keep p [] all = refl
-count-kept keep p (x ∷ u) all =
-    grind (arith, sum_by-cons (λ y. cond (p y) 1 0) x (filter keep u), sum_by-cons (λ y. cond (p y) 1 0) x u, all x (0, refl), count-kept keep p u (λ e h. all e (suc h.0, h.1)))
+-- where the elements with an image are kept exactly before a place, the images left are those of the elements before it
+front-left : {X Y : Type 0} (g : X → Option Y) (keep : X → Bool) (stop : ℕ) (xs : List X)
+    → ((i : ℕ) (x : X) (y : Y) → slice_get xs i ≡ Some x → g x ≡ Some y → keep x ≡ nat_lt i stop) → filter_map g (filter keep xs) ≡ filter_map g (take stop xs)
+front-left g keep zero [] tells = refl
+front-left g keep (suc stop) [] tells = refl
+front-left {Y = Y} g keep zero (x ∷ xs) tells =
+    grind (arith, nat_tests, λ (y : Y). tells 0 x y refl, front-left g keep zero xs (λ i y z here is. tells (suc i) y z here is ∙ grind (arith, nat_tests)))
+front-left {Y = Y} g keep (suc stop) (x ∷ xs) tells =
+    grind (arith, nat_tests, λ (y : Y). tells 0 x y refl, front-left g keep stop xs (λ i y z here is. tells (suc i) y z here is ∙ grind (arith, nat_tests)))
 
 -- a part of the events of which each one is kept
 pub map-kept : {Y : Type 0} (keep : Mark → Bool) (g : Mark → Option Y) (u : List Mark) → ((e : Mark) (y : Y) → Has u e → g e ≡ Some y → keep e ≡ true)
     → filter_map g (filter keep u) ≡ filter_map g u
-map-kept keep g [] all = refl
-map-kept {Y} keep g (x ∷ u) all =
-    grind (arith, λ (y : Y). all x y (0, refl), map-kept keep g u (λ e y h. all e y (suc h.0, h.1)))
+map-kept keep g u all =
+    front-left g keep (length u) u (λ i e y here is. all e y (i, here) is ∙ grind (arith, nat_tests, slice_get_within u i e here)) ∙ ap (filter_map g) (take_all (length u) u (omega arith))
 
--- counts of a kind of event of which those before a place are kept
+-- a count of events is how many a map gives
+count-map : (p : Mark → Bool) (u : List Mark) → count_by p u ≡ length (filter_map (λ e. cond (p e) (Some e) None) u)
+count-map p [] = refl
+count-map p (x ∷ u) = grind (arith, sum_by-cons (λ y. cond (p y) 1 0) x u, count-map p u)
+
+-- counts of a kind of event of which each is kept, or of which those before a place are kept
+count-kept : (keep p : Mark → Bool) (u : List Mark) → ((e : Mark) → Has u e → p e ≡ true → keep e ≡ true) → count_by p (filter keep u) ≡ count_by p u
+count-kept keep p u all =
+    count-map p (filter keep u) ∙ ap length (map-kept keep (λ e. cond (p e) (Some e) None) u (λ e y here is. all e here (grind (arith, is)))) ∙ sym (count-map p u)
+
 pub count-front : (keep p : Mark → Bool) (stop : ℕ) (u : List Mark) → ((i : ℕ) (e : Mark) → At u i e → p e ≡ true → keep e ≡ nat_lt i stop)
     → count_by p (filter keep u) ≡ count_by p (take stop u)
-count-front keep p zero [] tells = refl
-count-front keep p (suc stop) [] tells = refl
-count-front keep p zero (x ∷ u) tells =
-    grind (arith, nat_tests, sum_by-cons (λ y. cond (p y) 1 0) x (filter keep u), tells 0 x refl, count-front keep p zero u (λ i e here is. tells (suc i) e here is ∙ grind (arith, nat_tests)))
-count-front keep p (suc stop) (x ∷ u) tells =
-    grind (
-      arith,
-      nat_tests,
-      sum_by-cons (λ y. cond (p y) 1 0) x (filter keep u),
-      sum_by-cons (λ y. cond (p y) 1 0) x (take stop u),
-      tells 0 x refl,
-      count-front keep p stop u (λ i e here is. tells (suc i) e here is ∙ grind (arith, nat_tests)),
-    )
+count-front keep p stop u tells =
+    count-map p (filter keep u) ∙ ap length (front-left (λ e. cond (p e) (Some e) None) keep stop u (λ i e y here is. tells i e here (grind (arith, is))))
+    ∙ sym (count-map p (take stop u))
 
 module _ {N : Type 0} where
   -- the two ways to leave events out
@@ -111,16 +114,6 @@ WellFormed-kept n keep t obeys = WellFormed-keeps n (λ u. KeepsCauses keep u �
     at false is = rw append-nil done
     at true is = WellFormed-push n (filter keep u) e done
         (MayFollow-kept n keep u obeys_u done e may (λ a h why. causes a e is ((h.0, length u, At-below u h.0 a h.1, At-front u (e ∷ []) h.0 a h.1, At-seam u e []), why)))
-
--- where the elements with an image are kept exactly before a place, the images left are those of the elements before it
-front-left : {X Y : Type 0} (g : X → Option Y) (keep : X → Bool) (stop : ℕ) (xs : List X)
-    → ((i : ℕ) (x : X) (y : Y) → slice_get xs i ≡ Some x → g x ≡ Some y → keep x ≡ nat_lt i stop) → filter_map g (filter keep xs) ≡ filter_map g (take stop xs)
-front-left g keep zero [] tells = refl
-front-left g keep (suc stop) [] tells = refl
-front-left {Y = Y} g keep zero (x ∷ xs) tells =
-    grind (arith, nat_tests, λ (y : Y). tells 0 x y refl, front-left g keep zero xs (λ i y z here is. tells (suc i) y z here is ∙ grind (arith, nat_tests)))
-front-left {Y = Y} g keep (suc stop) (x ∷ xs) tells =
-    grind (arith, nat_tests, λ (y : Y). tells 0 x y refl, front-left g keep stop xs (λ i y z here is. tells (suc i) y z here is ∙ grind (arith, nat_tests)))
 
 -- a front of which each element is kept
 take-kept : {X : Type 0} (keep : X → Bool) (k : ℕ) (xs : List X) → ((i : ℕ) (x : X) → i < k → slice_get xs i ≡ Some x → keep x ≡ true) → take k (filter keep xs) ≡ take k xs

@@ -1,25 +1,23 @@
 -- A delivery keeps a group sound.
-use Rattle.fbl_law.proofs.Common.{◌≡◌, ◌≢◌, ℕ, suc, ◌+◌, ◌<◌, ◌≤◌, ◌==◌, cond, List, [], ◌∷◌, ◌++◌, length, map, inl, inr, Some, slice_get, refl, sym, ap, ◌∙◌, arith, length-append}
-use Rattle.fbl_law.proofs.Common.{length-map, filter_map, cases_eq, map-append, length-set, get_or-set_same, get_or-set_other, filter-append, filter_map-append, All, Contains-append_cases}
-use Rattle.fbl_law.proofs.Common.{Determinant, Event, mark_of, determinant_of, receipt_of, Next, Lawful, note_of, At-front, eqb-self, piggybacked, Message, receipts_of, MemberRecord}
-use Rattle.fbl_law.proofs.Common.{blank, IsInFlight, IsUp, next_determinant, is_on, between, taken_off, GroupRecord, member, member_checkpoint, channel, marks, knowledge, receipts, IsFold}
-use Rattle.fbl_law.proofs.Common.{IsReplayed, IsSound, receipts_at, step_events, Lawful-deliver, Lawful-begun, note_of-front, IsDelivery, sends_of, messages_from, step_of, receiver, made}
-use Rattle.fbl_law.proofs.Common.{delivery_events, SendsWell, nat_tests, IsOnce, ◌⊎◌, subst, zero, ◌&&◌, Contains, cases_Bool, contains-insert_same, Mark, member_of, send_of, Has}
-use Rattle.fbl_law.proofs.Common.{Precedes, Has-last, Entry, Includes, Store, in_table, in_message, in_checkpoint, owner, IsThere, Owes, send_mark, Names, Holds, IsHolder, IsTrueEntry}
-use Rattle.fbl_law.proofs.Common.{NamesCauses, IsSoundKnowledge, learned, Precedes-front, ◌↔◌, held_by, All-contains, All-push, map-At, Send, WellFormed, fresh}
+use Rattle.fbl_law.proofs.Common.{◌≡◌, ◌≢◌, ℕ, suc, ◌+◌, ◌<◌, ◌≤◌, ◌==◌, cond, List, [], ◌∷◌, ◌++◌, length, map, inl, inr, Some, slice_get, refl, sym, ap, ◌∙◌, arith}
+use Rattle.fbl_law.proofs.Common.{length-append, length-map, filter_map, cases_eq, map-append, length-set, get_or-set_same, get_or-set_other, filter-append, filter_map-append, All}
+use Rattle.fbl_law.proofs.Common.{Contains-append_cases, Determinant, Event, mark_of, determinant_of, receipt_of, Next, Lawful, note_of, At-front, eqb-self, piggybacked, Message}
+use Rattle.fbl_law.proofs.Common.{receipts_of, MemberRecord, blank, IsInFlight, IsUp, next_determinant, is_on, between, taken_off, GroupRecord, member, member_checkpoint, channel}
+use Rattle.fbl_law.proofs.Common.{marks, knowledge, receipts, IsFold, IsReplayed, IsSound, receipts_at, step_events, lawful_deliver, Has-append, Precedes-within, Precedes-entered}
+use Rattle.fbl_law.proofs.Common.{At-seam, contains-union, note_of-front, IsDelivery, sends_of, messages_from, step_of, receiver, made, delivery_events, SendsWell, nat_tests}
+use Rattle.fbl_law.proofs.Common.{IsOnce, ◌⊎◌, subst, zero, ◌&&◌, Contains, cases_Bool, contains-insert_same, Mark, member_of, send_of, Has, Precedes, Has-last, Entry, Includes}
+use Rattle.fbl_law.proofs.Common.{Store, in_table, in_message, in_checkpoint, owner, IsThere, Owes, send_mark, Names, Holds, IsHolder, IsTrueEntry, NamesCauses, IsSoundKnowledge}
+use Rattle.fbl_law.proofs.Common.{learned, Precedes-front, ◌↔◌, held_by, All-contains, All-push, map-At, Send, WellFormed, fresh}
 use Rattle.std.specs.FinSet as sets
 use Rattle.fbl_base.specs.declared.trace.Event.TheVariants as event
 use Rattle.std.proofs.Common.{append-nil}
-use Rattle.fbl_law.proofs.Lists.{At-seam, Contains-at, Contains-from_filter, At-behind, Contains-none, Contains-there}
-use Rattle.fbl_law.proofs.Safe.{never_both, up_if_none, nobody_down_empty, Includes-insert_cases, Includes-only, Includes-union, Names-table, learned-keeps, All-from}
+use Rattle.fbl_law.proofs.Lists.{Contains-at, Contains-from_filter, At-behind, Contains-none, Contains-there}
+use Rattle.fbl_law.proofs.Safe.{never_both, up_if_none, nobody_down_empty, Includes-insert_cases, Includes-only, Names-table, learned-keeps, All-from, once_noted}
 use Rattle.fbl_law.proofs.Channels.{front_may_follow, flight_sent, channel-delivered}
-use Rattle.fbl_law.proofs.Notes.{sent-noted}
-use Rattle.fbl_law.proofs.ReplayedRecords.{replayed-kept, replayed-step, fold-replayed, fold-received, replayed-fold}
-use Rattle.fbl_law.proofs.GatheredTables.{once_noted}
-use Rattle.fbl_law.proofs.GroupFacts.{up_state, received_counted, log_counted, receipt_is_new, new_not_held, new_not_carried}
-use Rattle.fbl_law.proofs.Receipts.{Has-append, disjoint, Precedes-within, Precedes-entered, added-later, length-receipts_at}
+use Rattle.fbl_law.proofs.ReplayedRecords.{sent-noted, replayed-kept, replayed-step, fold-replayed, fold-received, replayed-fold, log-short}
+use Rattle.fbl_law.proofs.Promises.{up_state, received_counted, log_counted, receipt_is_new, new_not_held, new_not_carried}
+use Rattle.fbl_law.proofs.Receipts.{disjoint, added-later, length-receipts_at}
 use Rattle.fbl_law.proofs.Keeping.{KeepsKnowledge, IsSoundAt, NamesCauses-kept, IsTrueEntry-kept, sound_kept, sound_passed, checkpoint_kept, sound_after}
-use Rattle.fbl_law.proofs.Logs.{log-short}
 
 module _ {N : Type 0} where
   pub length-step_events : (p before : ℕ) (sends : List (ℕ × N)) → length (step_events p before sends) ≡ length sends
@@ -89,10 +87,10 @@ module _ {S N : Type 0} (next : Next S N) (old new : GroupRecord S N) (v : Messa
   is_lawful : Lawful next n old.config.starts new.trace
   is_lawful =
       rw (s.trace, counts.0, counts.1)
-      (Lawful-deliver next n old.config.starts old.trace v.to (receipts_of (marks old) v.to + 1) v.from v.ssn v.note sends sound.lawful
+      (lawful_deliver next n old.config.starts old.trace v.to (receipts_of (marks old) v.to + 1) v.from v.ssn v.note sends sound.lawful
       (front_may_follow sound.causes v s.front (omega (arith, room, length-map old.trace mark_of))) noted
       (ap (λ (k : S). (next.step v.to n k v.note).sends.items) (up_state next old sound v.to s.to_member (was_up v.to)))
-      allowed room (Lawful-begun next n old.config.starts old.trace sound.lawful))
+      allowed room)
 
   marks_split : marks new ≡ marks old ++ map mark_of added
   marks_split = rw s.trace (map-append mark_of old.trace added)
@@ -167,7 +165,7 @@ module _ {S N : Type 0} (next : Next S N) (old new : GroupRecord S N) (v : Messa
   good_table : All IsGood (member new v.to).table
   good_table =
       rw receiver_now (All-push IsGood (learned v.to was.table v.carried) _ (learned-keeps IsGood
-      (λ x e q r same. let any = Includes-union x.known e.known in ((q.0.0, λ m h. elim ((any m).0 h) [ inl here ↦ q.0.1 m here | inr there ↦ rw same (r.0.1 m there) ]), (any v.to).1 (inl q.1)))
+      (λ x e q r same. let any = contains-union x.known e.known in ((q.0.0, λ m h. elim ((any m).0 h) [ inl here ↦ q.0.1 m here | inr there ↦ rw same (r.0.1 m there) ]), (any v.to).1 (inl q.1)))
       v.to was.table v.carried
       (All-from IsGood was.table (λ x h. let fact = sound.causes.truth (in_table v.to) x (was_up v.to) h in (still x v.to fact.1 fact.0, fact.1)))
       (All-from (λ e. IsGood (held_by v.to e)) v.carried (λ e h. let fact = sound.causes.truth (in_message v) e flies h in let now = still e v.from fact.1 fact.0 in (
@@ -193,10 +191,17 @@ module _ {S N : Type 0} (next : Next S N) (old new : GroupRecord S N) (v : Messa
       elim (NamesCauses-kept keeps sound.causes was.table b there had d before) [ inl named ↦ inl (Names-delivered d v.to named) | inr stable ↦ inr stable ]
   caught b there (inr came) d before = elim (NamesCauses-kept keeps sound.causes v.carried b there came d before) [ inl named ↦ inl (gained d named) | inr stable ↦ inr stable ]
 
+  -- an event that leads to one of those added is of the receiver, or it is the send of the message
+  abbrev IsEntry : Mark → Type 0
+  IsEntry c = (member_of c ≡ v.to) ⊎ (send_mark v ≡ c)
+
+  enters : (c e : Mark) → Has added_marks e → (member_of c ≡ member_of e) ⊎ (send_of e ≡ Some c) → IsEntry c
+  enters c e among leads = elim leads [ inl same ↦ inl (same ∙ (ours e among).0) | inr sends ↦ inr ((ours e among).1 c sends) ]
+
   -- and of the events added
   mine : (b : Mark) → Has added_marks b → NamesCauses f (knowledge new) (member new v.to).table b
   mine b new_one d before =
-      elim (Precedes-entered (marks old) added_marks apart v.to (send_mark v) (λ e h. let is = ours e h in (is.0, is.1)) new_one (rw trace_now at before)) [
+      elim (Precedes-entered (marks old) added_marks apart IsEntry enters new_one (rw trace_now at before)) [
         | inl late ↦ inl (subst (λ (c : Determinant). Names (member new v.to).table c) ((ours (receipt_of d) late).2 d refl) own_named)
         | inr entered ↦
             let whole : Precedes (marks new) (receipt_of d) entered.0 = rw trace_now (Precedes-front (marks old) added_marks entered.1) in

@@ -1,8 +1,14 @@
--- What every step keeps that leaves up members what they were holders of.
-use Rattle.fbl_law.proofs.Common.{◌≡◌, ℕ, List, inl, inr, arith, subst, refl, Contains, Determinant, Mark, member_of, receipt_of, Has, Precedes, Has-last, some_outside, Entry, piggybacked}
-use Rattle.fbl_law.proofs.Common.{Message, Includes, Knowledge, Store, in_table, in_message, in_checkpoint, owner, entries, table, checkpoint, IsThere, Owes, IsUp, Names, Holds}
-use Rattle.fbl_law.proofs.Common.{IsRecorded, IsHolder, IsStable, IsTrueEntry, NamesCauses, IsDownEmpty, IsCheckpointKept, IsSoundKnowledge, MatchesTrace, WellFormed}
-use Rattle.fbl_law.proofs.Safe.{down_or_up, up_at_ends, IsRecorded-before, recorded_holder, Contains-piggybacked, passed_or_known}
+-- What every step keeps that leaves up members what they were holders of, and that a strike and a checkpoint keep a group sound.
+use Rattle.fbl_law.proofs.Common.{◌≡◌, ℕ, List, inl, inr, arith, subst, refl, Contains, Determinant, Mark, member_of, receipt_of, Has, Precedes, Has-last, some_outside, Entry}
+use Rattle.fbl_law.proofs.Common.{piggybacked, Message, Includes, Knowledge, Store, in_table, in_message, in_checkpoint, owner, entries, table, checkpoint, IsThere, Owes, IsUp}
+use Rattle.fbl_law.proofs.Common.{Names, Holds, IsRecorded, IsHolder, IsStable, IsTrueEntry, NamesCauses, IsDownEmpty, IsCheckpointKept, IsSoundKnowledge, MatchesTrace, WellFormed}
+use Rattle.fbl_law.proofs.Common.{◌≤◌, Some, ap, ◌∙◌, AllBelow, Members, Next, note_of, MemberRecord, blank, IsInFlight, GroupRecord, knowledge, IsFold, IsSound, IsStrike}
+use Rattle.fbl_law.proofs.Common.{RecordedTest, contains-union, IsOnce-none, false, ◌≢◌, ◌<◌, sym, slice_set, cases_eq, length-set, get_or-set_same, get_or-set_other, itself}
+use Rattle.fbl_law.proofs.Common.{member, member_checkpoint, IsReplayed, IsCheckpoint, CheckpointIsRecorded, GroupCheckpointKeeps}
+use Rattle.fbl_law.proofs.Safe.{down_or_up, up_at_ends, IsRecorded-before, recorded_holder, Contains-piggybacked, passed_or_known, never_both, Decides-recorded, up_if_none}
+use Rattle.fbl_law.proofs.Safe.{IsRecorded-reached, nobody_down_empty}
+use Rattle.std.specs.FinSet as sets
+use Rattle.fbl_law.proofs.ReplayedRecords.{fold-replayed}
 
 module _ {S N : Type 0} where
   -- what is true of one store of a sound record
@@ -104,3 +110,144 @@ module _ {S N : Type 0} {n f : ℕ} {old new : Knowledge S N} (keeps : KeepsKnow
     λ (k : Store N) (b : Mark) (there : IsThere new k). (good k there).events b,
     λ (k : Store N) (c : Determinant) (there : IsThere new k). (good k there).named c,
   )
+
+-- who is up after a strike was up before it
+pub was_up : (old struck : Members) (m : ℕ) → sets.contains (sets.union old struck) m ≡ false → sets.contains old m ≡ false
+was_up old struck m up = elim (down_or_up old m) [ inl down ↦ never_both (sets.union old struck) m ((contains-union old struck m).1 (inl down)) up | inr h ↦ h ]
+
+module _ {S N : Type 0} (next : Next S N) (old new : GroupRecord S N) (struck : Members) (s : IsStrike next old new struck) where
+  up : (m : ℕ) → IsUp (knowledge new) m → IsUp (knowledge old) m
+  up m now = was_up old.down struck m (rw s.down at now)
+
+  table_still : (m : ℕ) → IsUp (knowledge new) m → table (knowledge new) m ≡ table (knowledge old) m
+  table_still m now = ap (λ (x : MemberRecord S N). x.table) (s.survivors m now)
+
+  module _ (few : sets.len new.down ≤ old.config.f) (sound : IsSound next old) where
+    keeps : KeepsKnowledge old.config.members old.config.f (knowledge old) (knowledge new)
+    keeps = record {
+      rules = rw s.trace sound.causes.rules;
+      down = record { few = few; tables = λ m down. ap (λ (x : MemberRecord S N). x.table) (s.blanks m down); channels = s.emptied };
+      channels = λ q p up_q up_p. rw (s.channels q p up_q up_p, s.trace) (sound.causes.channels q p (up q up_q) (up p up_p));
+      held = λ d m now holder. elim holder [ inl holds ↦ (now, rw (table_still m now) holds.1) | inr was ↦ never_both old.down m was.0 (up m now) ];
+      left = λ b there recorded. rw s.trace there;
+      paths = λ there path. rw s.trace at path;
+    }
+
+    same : (k : Store N) → IsThere (knowledge new) k → IsSameStore (knowledge old) (knowledge new) k
+    same (in_table m) now = (up m now, table_still m now, λ b there owes. (rw s.trace at there, owes))
+    same (in_message v) flies =
+        let ends = up_at_ends (knowledge new) s.emptied v.from v.to v flies in
+        (rw (s.channels v.from v.to ends.0 ends.1) at flies, refl, λ b there owes. (rw s.trace at there, owes))
+    same (in_checkpoint m) there = (tt, rw (s.checkpoints, s.outside) refl, λ b there owes. (rw s.trace at there, rw (s.checkpoints, s.outside) at owes))
+
+    pub strike_keeps : IsSoundKnowledge old.config.members old.config.f (knowledge new)
+    strike_keeps =
+        sound_after keeps sound.causes (λ k there. sound_kept keeps sound.causes k there (same k there)) (λ m. checkpoint_kept keeps sound.causes m (rw (s.checkpoints, s.outside) refl))
+
+  notes_kept : IsSound next old → (v : Message N) → IsInFlight (knowledge new) v → note_of new.trace v.from v.ssn ≡ Some v.note
+  notes_kept sound v flying =
+      let ends = up_at_ends (knowledge new) s.emptied v.from v.to v flying in
+      rw s.trace (sound.notes v (rw (s.channels v.from v.to ends.0 ends.1) at flying))
+
+  fold_kept : (m : ℕ) → IsUp (knowledge new) m → IsFold next old m → IsFold next new m
+  fold_kept m up f = record {
+    progress = rw (s.survivors m up, s.config, s.trace) f.progress;
+    places = rw (s.survivors m up) f.places;
+    last = λ q below. rw (s.survivors m up, s.trace) (f.last q below);
+  }
+
+  pub group_strike_keeps : AllBelow struck old.config.members → sets.len new.down ≤ old.config.f → IsSound next old → IsSound next new
+  group_strike_keeps within few sound = record {
+    config = rw s.config sound.config;
+    members = rw s.config (s.size ∙ sound.members);
+    checkpoints = rw (s.checkpoints, s.config) sound.checkpoints;
+    saved = λ m below. rw (s.config, s.trace, s.checkpoints, s.outside) (sound.saved m (rw s.config at below));
+    down = λ q down. rw s.config elim ((contains-union old.down struck q).0 (rw s.down at down)) [ inl was ↦ sound.down q was | inr now ↦ within q now ];
+    lawful = rw (s.config, s.trace) sound.lawful;
+    room = rw (s.config, s.trace) sound.room;
+    causes = rw s.config (strike_keeps few sound);
+    folds = λ m below now. fold_kept m now (sound.folds m (rw s.config at below) (up m now));
+    blanks = λ m below down. rw s.config (s.blanks m down);
+    distinct = λ m. elim (down_or_up new.down m) [ inl down ↦ rw (s.blanks m down) IsOnce-none | inr now ↦ rw (s.survivors m now) (sound.distinct m) ];
+    shape = rw s.config s.shape;
+    notes = notes_kept sound;
+    counted = rw (s.trace, s.undone_ever, s.receipts_ever) sound.counted;
+  }
+
+module _ {S N : Type 0} where
+  pub recorded_test : RecordedTest S N
+  recorded_test next r d sound = Decides-recorded r.config.f (knowledge r) sound.causes.down d
+
+-- the receipts of a member's checkpoint are recorded
+pub checkpoint_is_recorded : (S N : Type 0) → CheckpointIsRecorded S N
+checkpoint_is_recorded S N next r m sound below = (
+  (sound.saved m below).within,
+  λ d there to within. IsRecorded-reached r.config.f (knowledge r) sound.causes.closed d (receipt_of d) (rw to within) (itself there),
+)
+
+-- a member's checkpoint is its record
+module _ {S N : Type 0} (next : Next S N) (old new : GroupRecord S N) (p : ℕ) (s : IsCheckpoint old new p) (sound : IsSound next old) where
+  abbrev now : GroupRecord S N
+  now = record old { checkpoints = slice_set old.checkpoints p (member old p) }
+
+  all_up : (m : ℕ) → IsUp (knowledge old) m
+  all_up = up_if_none s.nobody_down
+
+  own : member_checkpoint now p ≡ member old p
+  own = get_or-set_same old.checkpoints p (member old p) (blank old.outside) (omega (arith, s.below, sound.checkpoints))
+
+  other : (m : ℕ) → m ≢ p → member_checkpoint now m ≡ member_checkpoint old m
+  other m apart = get_or-set_other old.checkpoints p m (member old p) (blank old.outside) apart
+
+  keeps_knowledge : KeepsKnowledge old.config.members old.config.f (knowledge old) (knowledge now)
+  keeps_knowledge = record {
+    rules = sound.causes.rules;
+    down = nobody_down_empty old.config.f (knowledge now) s.nobody_down;
+    channels = sound.causes.channels;
+    held = λ d m up_m holder. elim holder [ inl holds ↦ holds | inr down ↦ never_both old.down m down.0 (all_up m) ];
+    left = λ b there recorded. there;
+    paths = λ there path. path;
+  }
+
+  good_table : (m : ℕ) → IsSoundAt old.config.f (knowledge now) (in_table m)
+  good_table m = sound_kept keeps_knowledge sound.causes (in_table m) (all_up m) (all_up m, refl, λ b there owes. (there, owes))
+
+  -- the new checkpoint has its member's table
+  good_own : IsSoundAt old.config.f (knowledge now) (in_checkpoint p)
+  good_own =
+      let good = good_table p in
+      let is : (member_checkpoint now p).table ≡ (member old p).table = ap (λ (x : MemberRecord S N). x.table) own in
+      record { truth = λ e among. good.truth e (rw is at among); events = λ b owes. rw is (good.events b owes.0); named = λ c named. rw is (good.named c (rw is at named)) }
+
+  good : (k : Store N) → IsThere (knowledge now) k → IsSoundAt old.config.f (knowledge now) k
+  good (in_table m) there = good_table m
+  good (in_message v) flies = sound_kept keeps_knowledge sound.causes (in_message v) flies (flies, refl, λ b there owes. (there, owes))
+  good (in_checkpoint m) there = elim (cases_eq m p) [
+    | inl same ↦ rw same good_own
+    | inr apart ↦
+        let is = other m apart in
+        sound_kept keeps_knowledge sound.causes (in_checkpoint m) tt (tt, ap (λ (x : MemberRecord S N). x.table) is, λ b there owes. (there, (owes.0, rw is at owes.1)))
+  ]
+
+  kept : (m : ℕ) → IsCheckpointKept (knowledge now) m
+  kept m = elim (cases_eq m p) [ inl same ↦ rw same (λ d up_p named. rw own at named) | inr apart ↦ checkpoint_kept keeps_knowledge sound.causes m (other m apart) ]
+
+  saved_now : (m : ℕ) → m < old.config.members → IsReplayed next old.config.members old.config.starts old.trace m (member_checkpoint now m)
+  saved_now m below = elim (cases_eq m p) [
+    | inl same ↦ rw (same, own) (fold-replayed sound.lawful.well_formed (sound.folds p s.below (all_up p)))
+    | inr apart ↦ rw (other m apart) (sound.saved m below)
+  ]
+
+  still : (m : ℕ) → m < old.config.members → IsUp (knowledge old) m → IsFold next now m
+  still m below up_m = assumption (sound.folds m below up_m)
+
+  IsSound-checkpoint : IsSound next now
+  IsSound-checkpoint = assumption (
+    length-set old.checkpoints p (member old p) ∙ sound.checkpoints,
+    sound_after keeps_knowledge sound.causes good kept,
+    still,
+    saved_now,
+  )
+
+pub group_checkpoint_keeps : (S N : Type 0) → GroupCheckpointKeeps S N
+group_checkpoint_keeps S N next old new p s sound = subst (IsSound next) (sym s.saved) (IsSound-checkpoint next old new p s sound)

@@ -1,22 +1,75 @@
--- What soundness promises, also of dumps.
-use Rattle.fbl_law.proofs.Common.{◌≡◌, ℕ, inl, inr, arith, take, cases_order, receipt_of, itself, step, some_outside, in_table, IsUp, IsHolder, member, knowledge, IsHeldBy, Includes}
-use Rattle.fbl_law.proofs.Common.{IsDown, IsSoundKnowledge, Knowledge, Members, SurvivorsHold, marks, ◌≤◌, HoldsEachReceipt, OfSound, RecordsCauses, RecordsFirst, eqb-self, is_receipt_of}
-use Rattle.fbl_law.proofs.Common.{nat_tests, receipts_of, ◌+◌, zero, suc, ◌<◌, List, [], ◌∷◌, length, map, get_or, refl, length-append, Contains, zero-add, length-map}
-use Rattle.fbl_law.proofs.Common.{Contains-append_left, Contains-append_right, length-filter_map, Determinant, mark_of, determinant_of, same_determinant, Has, Next, filter_map-At}
-use Rattle.fbl_law.proofs.Common.{At-below, Decides-same_determinant, Entry, Message, MemberRecord, blank, IsInFlight, Names, GroupRecord, receipts, IsSound, ◌*◌, IsOnce, decided}
-use Rattle.fbl_law.proofs.Common.{add-zero, All-append, All-contains, All-map, All-nil, All, length-le_from_is_member, is_member-Decides, Send, Receipt, HeldAt, pairs_of, pairs_from}
-use Rattle.fbl_law.proofs.Common.{held_pairs, dump_of}
-use Rattle.std.specs.FinSet as set
-use Rattle.fbl_law.proofs.Safe.{held-Names, down_or_up, never_both, up_if_none, IsRecorded-before, Has-recorded, IsAlwaysHeld-closed, All-from}
-use Rattle.fbl_law.proofs.Notes.{number-front}
-use Rattle.fbl_law.specs.Dumps.{DumpObeysRules, DumpHasNoOrphan}
+-- What holds in a sound group, and what soundness promises, also of dumps.
+use Rattle.fbl_law.proofs.Common.{◌≡◌, ℕ, ◌<◌, ◌≤◌, false, length, Some, slice_get, ap, ◌∙◌, arith, fold, length-map, count_by-le-length, Determinant, mark_of, receipt_of, Has}
+use Rattle.fbl_law.proofs.Common.{is_send_of, is_receipt_of, sends_of, receipts_of, Next, Progress, after_notes-state, is_held, Message, last_from, in_table, in_message}
+use Rattle.fbl_law.proofs.Common.{IsInFlight, IsUp, Names, GroupRecord, member, channel, marks, knowledge, IsSound, received_notes, next_determinant, inl, inr, take, cases_order}
+use Rattle.fbl_law.proofs.Common.{itself, step, some_outside, IsHolder, IsHeldBy, Includes, IsDown, IsSoundKnowledge, Knowledge, Members, SurvivorsHold, HoldsEachReceipt, OfSound}
+use Rattle.fbl_law.proofs.Common.{RecordsCauses, RecordsFirst, eqb-self, nat_tests, ◌+◌, zero, suc, List, [], ◌∷◌, map, get_or, refl, length-append, Contains, zero-add}
+use Rattle.fbl_law.proofs.Common.{Contains-append_left, Contains-append_right, length-filter_map, determinant_of, same_determinant, filter_map-At, At-below}
+use Rattle.fbl_law.proofs.Common.{Decides-same_determinant, Entry, MemberRecord, blank, receipts, ◌*◌, IsOnce, decided, add-zero, All-append, All-contains, All-map, All-nil, All}
+use Rattle.fbl_law.proofs.Common.{length-le_from_is_member, is_member-Decides, Send, Receipt, HeldAt, pairs_of, pairs_from, held_pairs, dump_of}
 use Rattle.fbl_law.proofs.Lists.{Contains-at, Contains-map, Contains-changed, Contains-none}
-use Rattle.fbl_law.proofs.GroupFacts.{named_received, carried_received, trace_fits}
+use Rattle.fbl_law.proofs.Safe.{Has-named, up_if_named, not-held, held-Names, down_or_up, never_both, up_if_none, IsRecorded-before, Has-recorded, IsAlwaysHeld-closed, All-from}
+use Rattle.fbl_law.proofs.Channels.{channel-at, flight_ends, in_flight-later}
+use Rattle.fbl_law.proofs.ReplayedRecords.{log-length, fold-received, number-front}
+use Rattle.fbl_law.proofs.Receipts.{receipt-number, length-receipts_at}
+use Rattle.std.specs.FinSet as set
+use Rattle.fbl_law.specs.Promises.{DumpObeysRules, DumpHasNoOrphan}
+
+module _ {S N : Type 0} (next : Next S N) (r : GroupRecord S N) (sound : IsSound next r) where
+  -- an up member has as many receipts and sends as the trace says
+  pub received_counted : (m : ℕ) → m < r.config.members → IsUp (knowledge r) m → (member r m).received ≡ receipts_of (marks r) m
+  received_counted m below up = fold-received sound.lawful.well_formed (sound.folds m below up) ∙ length-receipts_at (marks r) m
+
+  pub log_counted : (m : ℕ) → m < r.config.members → IsUp (knowledge r) m → length (member r m).log ≡ sends_of (marks r) m
+  log_counted m below up = ap (λ (p : Progress S N). length p.log) (sound.folds m below up).progress ∙ log-length sound.lawful m
+
+  -- and its state is what its step makes of its receipts
+  pub up_state : (m : ℕ) → m < r.config.members → IsUp (knowledge r) m
+      → (member r m).state ≡ fold (λ state x. (next.step m r.config.members state x).state) (next.initial m r.config.members) (received_notes r.trace m)
+  up_state m below up = ap (λ (p : Progress S N). p.state) (sound.folds m below up).progress ∙ after_notes-state next m r.config.members r.config.starts (received_notes r.trace m)
+
+  pub trace_fits : length (marks r) ≤ 8192
+  trace_fits = omega (arith, length-map r.trace mark_of, sound.room, sound.config.limit.1)
+
+  pub receipts_fit : (m : ℕ) → m < r.config.members → IsUp (knowledge r) m → (member r m).received ≤ length r.trace
+  receipts_fit m below up = omega (arith, received_counted m below up, count_by-le-length (is_receipt_of m) (marks r), length-map r.trace mark_of)
+
+  pub sends_fit : (m : ℕ) → m < r.config.members → IsUp (knowledge r) m → length (member r m).log ≤ length r.trace
+  sends_fit m below up = omega (arith, log_counted m below up, count_by-le-length (is_send_of m) (marks r), length-map r.trace mark_of)
+
+  -- the receipt that an up member makes next is new
+  pub receipt_is_new : (m from ssn : ℕ) → m < r.config.members → IsUp (knowledge r) m → ¬ (Has (marks r) (receipt_of (next_determinant m (member r m) from ssn)))
+  receipt_is_new m from ssn below up has =
+      omega (arith, received_counted m below up, receipt-number r.config.members (marks r) m _ from ssn sound.lawful.well_formed has)
+
+  -- tables and messages in flight name only receipts of the trace
+  pub named_received : (m : ℕ) (d : Determinant) → Names (member r m).table d → Has (marks r) (receipt_of d)
+  named_received m d named =
+      let up = up_if_named r.config.f (knowledge r) sound.causes.down m d named in
+      Has-named (knowledge r) (member r m).table (λ e h. (sound.causes.truth (in_table m) e up h).0) d named
+
+  pub carried_received : (v : Message N) (d : Determinant) → IsInFlight (knowledge r) v → Names v.carried d → Has (marks r) (receipt_of d)
+  carried_received v d flies named = Has-named (knowledge r) v.carried (λ e h. (sound.causes.truth (in_message v) e flies h).0) d named
+
+  -- so no table has a determinant that is new, and no message in flight carries one
+  pub new_not_held : (m : ℕ) (d : Determinant) → ¬ (Has (marks r) (receipt_of d)) → is_held (member r m).table d ≡ false
+  new_not_held m d new = not-held (member r m).table d (λ named. new (named_received m d named))
+
+  pub new_not_carried : (v : Message N) (d : Determinant) → IsInFlight (knowledge r) v → ¬ (Has (marks r) (receipt_of d)) → is_held v.carried d ≡ false
+  new_not_carried v d flies new = not-held v.carried d (λ named. new (carried_received v d flies named))
+
+  -- the number of a channel's front is beyond the last one that its receiver received from its sender
+  pub front_is_later : (v : Message N) → slice_get (channel r v.from v.to) 0 ≡ Some v → last_from (member r v.to) v.from < v.ssn
+  front_is_later v front =
+      let place = channel-at sound.causes v.from v.to 0 v front in
+      let ends = flight_ends sound.causes v (Contains-at (channel r v.from v.to) 0 v front) in
+      let last = (sound.folds v.to ends.1 place.1.1).last v.from (omega (arith, ends.0, sound.config.members.1)) in
+      omega (arith, last, in_flight-later r.config.members (marks r) v.from v.to 0 v.ssn sound.lawful.well_formed place.0.0)
 
 module _ (S N : Type 0) where
   pub sound_holds_each_receipt : OfSound S N HoldsEachReceipt
   sound_holds_each_receipt next r sound nobody d there =
-      elim (IsAlwaysHeld-closed r.config.f (knowledge r) sound.causes.closed d there) [
+      elim (IsAlwaysHeld-closed r.config.f (knowledge r) sound.causes.down sound.causes.closed d there) [
         | inl stable ↦ inl (stable.0, stable.1, λ m among. holder m (stable.2 m among))
         | inr held ↦ inr (λ m depends. held-Names (member r m).table d (held m (up_if_none nobody m) depends).1)
       ]

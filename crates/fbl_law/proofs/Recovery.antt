@@ -1,14 +1,14 @@
 -- A recovery keeps knowledge sound.
 use Rattle.fbl_law.proofs.Common.{List, ◌≡◌, ℕ, ◌↔◌, Bool, true, inl, inr, refl, sym, ap, ◌∙◌, Some, filter, Determinant, Mark, member_of, send_of, receipt_of, Has, Earlier, Leads}
-use Rattle.fbl_law.proofs.Common.{Precedes, itself, step, WellFormed, sent_on, taken_on, Has-first, Knowledge, Store, in_table, in_message, in_checkpoint, IsThere, table, IsDown, IsUp}
-use Rattle.fbl_law.proofs.Common.{Names, Holds, IsRecorded, IsHolder, IsClosed, MatchesTrace, IsSoundKnowledge, NamesCauses, Stays, Send, Receipt, Has-filter, Precedes-filter, nat_tests}
-use Rattle.fbl_law.proofs.Common.{arith, Event, GainsHolders, GroupRecord, IsEventCut, IsRecovery, IsSound, MemberRecord, Next, StaysIsRecorded, knowledge, map, mark_of, marks}
-use Rattle.fbl_law.proofs.Common.{recovery_table}
+use Rattle.fbl_law.proofs.Common.{Precedes, itself, step, WellFormed, sent_on, taken_on, Has-first, Knowledge, Store, in_table, in_message, in_checkpoint, IsThere, table, IsDown}
+use Rattle.fbl_law.proofs.Common.{IsUp, Names, Holds, IsRecorded, IsHolder, IsClosed, MatchesTrace, IsSoundKnowledge, NamesCauses, Stays, Send, Receipt, Has-filter}
+use Rattle.fbl_law.proofs.Common.{Precedes-filter, nat_tests, arith, Event, GainsHolders, GroupRecord, IsEventCut, IsRecovery, IsSound, MemberRecord, Next, StaysIsRecorded}
+use Rattle.fbl_law.proofs.Common.{knowledge, map, mark_of, marks, recovery_table}
 use Rattle.fbl_law.proofs.CutLawful.{KeepsCauses, Has-before, WellFormed-kept, map-kept, marks-filter}
 use Rattle.fbl_law.proofs.Lists.{filter-passes, filter-At}
 use Rattle.fbl_law.proofs.Receipts.{Earlier-joined}
-use Rattle.fbl_law.proofs.GatheredTables.{entries_gathered, gathered_recorded, recorded_gathered}
-use Rattle.fbl_law.proofs.Safe.{down_or_up, down_or_both_up, never_both, nobody_down_empty, up_if_none, IsRecorded-depended, IsRecorded-before, Has-recorded}
+use Rattle.fbl_law.proofs.Safe.{entries_gathered, gathered_recorded, recorded_gathered, down_or_up, down_or_both_up, never_both, nobody_down_empty, up_if_none, IsRecorded-depended}
+use Rattle.fbl_law.proofs.Safe.{IsRecorded-before, Has-recorded}
 use Rattle.fbl_law.proofs.Keeping.{KeepsKnowledge, IsSoundAt, sound_kept, sound_passed, checkpoint_kept, sound_after}
 
 -- an event with a send of its own is a receipt

@@ -1,22 +1,19 @@
 -- How the members that are down replay what the survivors have recorded, why they never get stuck, how many receipts they replay, and from there to a recovery.
-use Rattle.fbl_law.proofs.Common.{ℕ, zero, suc, ◌<◌, ◌≤◌, List, arith, subst, Determinant, Mark, At, receipt_of, WellFormed, sent-before, one_place, Send, ◌≡◌, ◌+◌, Earlier, Has, ◌≢◌, ◌-◌}
-use Rattle.fbl_law.proofs.Common.{◌==◌, ◌&&◌, Some, slice_get, Bool, true, [], ◌∷◌, length, map, refl, sym, ap, ◌∙◌, nat_lt, filter, nat_tests, length-map, Event, mark_of, determinant_of}
-use Rattle.fbl_law.proofs.Common.{AllBelow, Members, Next, MemberRecord, Stays, IsEventCut, GroupRecord, knowledge, receipts, receipts_at, IsReplayed, IsSound, length-left}
-use Rattle.fbl_law.proofs.Common.{length-filter_map, count_in, cond, ◌⊎◌, inl, inr, slice_set, length-append, cases_Bool, cases_eq, length-set, get_or-set_same, get_or-set_other}
-use Rattle.fbl_law.proofs.Common.{count_by-le-length, slice_get_within, slice_index_or, is_receipt_of, is_send_of, Lawful, Entry, found, blank, logged_note, replayed_by, length-numbered}
-use Rattle.fbl_law.proofs.Common.{Names, IsDown, recovery_table, member_checkpoint, IsFold, IsRecovery, IsMadeAgain, IsNextReplay, recovered_trace, stays_by, is_of_receipt, is_replayed}
+use Rattle.fbl_law.proofs.Common.{Receipt, receipts_of, receipts-step, WellFormed-keeps, MayFollow, ◌++◌, filter-append, filter_map-append, append-nil, ℕ, zero, suc, ◌<◌, ◌≤◌, List, arith}
+use Rattle.fbl_law.proofs.Common.{subst, Determinant, Mark, At, receipt_of, WellFormed, sent-before, one_place, Send, ◌≡◌, ◌+◌, Earlier, Has, ◌≢◌, ◌-◌, ◌&&◌, Some, slice_get, Bool}
+use Rattle.fbl_law.proofs.Common.{true, [], ◌∷◌, length, map, refl, sym, ap, ◌∙◌, nat_lt, filter, nat_tests, length-map, Event, mark_of, determinant_of, AllBelow, Members, Next}
+use Rattle.fbl_law.proofs.Common.{MemberRecord, Stays, IsEventCut, GroupRecord, knowledge, receipts, receipts_at, IsReplayed, IsSound, length-left, length-filter_map, count_in}
+use Rattle.fbl_law.proofs.Common.{cond, ◌⊎◌, inl, inr, slice_set, length-append, cases_Bool, cases_eq, length-set, get_or-set_same, get_or-set_other, count_by-le-length}
+use Rattle.fbl_law.proofs.Common.{slice_get_within, slice_index_or, is_receipt_of, is_send_of, Lawful, Entry, found, blank, logged_note, replayed_by, length-numbered, Names}
+use Rattle.fbl_law.proofs.Common.{IsDown, recovery_table, member_checkpoint, IsFold, IsRecovery, IsMadeAgain, IsNextReplay, recovered_trace, stays_by, is_of_receipt, is_replayed}
 use Rattle.fbl_law.proofs.Common.{working, IsReplaying, IsWaiting, replayed_in, IsRebuilt, position_or_len, fails_before_first, find_at, get_or, slice_get-get_or, option_map}
 use Rattle.std.specs.FinSet as set
 use Rattle.fbl_law.proofs.Receipts.{at-most-before, receipts_at-Has, at-most, Has-receipts_at, length-receipts_at}
-use Rattle.fbl_law.proofs.ChannelCounts.{sum_below-agree, sum_below-none, sum_below-at}
+use Rattle.fbl_law.proofs.Lists.{sum_below-agree, sum_below-none, sum_below-at, Contains-here, Contains-there}
 use Rattle.fbl_law.proofs.Recovery.{cut-obeys, cut-recorded, recorded-cut}
 use Rattle.fbl_law.proofs.GroupRecovery.{recovered_trace-cut, recovered_lawful, cut-shorter, stays_by-cut, survivor-replays, folds-all, checkpoint-survives}
-use Rattle.fbl_law.proofs.Lists.{Contains-here, Contains-there}
-use Rattle.fbl_law.proofs.Safe.{down_or_up}
-use Rattle.fbl_law.proofs.GatheredTables.{gathered_recorded, recorded_gathered}
-use Rattle.fbl_law.proofs.Notes.{send-at}
-use Rattle.fbl_law.proofs.Logs.{logged-noted, logged-by, log-short}
-use Rattle.fbl_law.proofs.ReplayedRecords.{replayed-step, replayed-fold}
+use Rattle.fbl_law.proofs.Safe.{down_or_up, gathered_recorded, recorded_gathered}
+use Rattle.fbl_law.proofs.ReplayedRecords.{send-at, replayed-step, replayed-fold, logged-noted, logged-by, log-short}
 use Rattle.fbl_law.proofs.Channels.{made-again, made-again-if}
 
 -- the member has replayed each receipt that comes before the send, so it has sent that message again
@@ -67,48 +64,28 @@ pub count_in-step : (s : Members) (a b : ℕ → ℕ) (n p : ℕ) → p < n → 
 count_in-step s a b n p below in' one others =
     grind (arith, nat_tests, sum_below-at n p 1 (λ q. cond (set.contains s q) (a q) 0) (λ q. cond (set.contains s q) (b q) 0) (λ q. grind (arith, nat_tests, one, others q)))
 
--- the determinant of a receipt of a member of the set
-abbrev pub is_of : Members → Determinant → Bool
-is_of s d = set.contains s d.to
-
--- how many of the receipts are the member's
-abbrev count_to : List Determinant → ℕ → ℕ
-count_to ds p = length (filter (λ (d : Determinant). d.to == p) ds)
-
--- the receipts of the members of a set, counted member by member
-count_in-determinants : (s : Members) (n : ℕ) (ds : List Determinant) → AllBelow s n → count_in s (count_to ds) n ≡ length (filter (is_of s) ds)
-count_in-determinants s n [] within = sum_below-none n _ (λ q. grind arith)
-count_in-determinants s n (d ∷ ds) within =
-    let more = sum_below-at n d.to (cond (set.contains s d.to) 1 0) (λ q. cond (set.contains s q) (count_to ds q) 0) (λ q. cond (set.contains s q) (count_to (d ∷ ds) q) 0)
-    (λ q. grind (arith, nat_tests)) in
-    grind (arith, nat_tests, within d.to, more, count_in-determinants s n ds within)
-
--- the receipts of a member beyond a number of them
-abbrev beyond : (ℕ → ℕ) → Determinant → Bool
-beyond past d = nat_lt (past d.to) d.rsn
-
-beyond-numbered : (k b : ℕ) (ds : List Determinant) → ((j : ℕ) (d : Determinant) → slice_get ds j ≡ Some d → d.rsn ≡ b + j + 1)
-    → length (filter (λ (d : Determinant). nat_lt k d.rsn) ds) ≡ length ds - (k - b)
-beyond-numbered k b [] numbers = omega arith
-beyond-numbered k b (d ∷ ds) numbers = grind (arith, nat_tests, numbers 0 d refl, beyond-numbered k (b + 1) ds (λ j e here. omega (arith, numbers (suc j) e here)))
-
-beyond-of : (past : ℕ → ℕ) (p : ℕ) (ds : List Determinant)
-    → filter (λ (d : Determinant). d.to == p) (filter (beyond past) ds) ≡ filter (λ (d : Determinant). nat_lt (past p) d.rsn) (filter (λ (d : Determinant). d.to == p) ds)
-beyond-of past p [] = refl
-beyond-of past p (d ∷ ds) = grind (arith, nat_tests, beyond-of past p ds)
-
-filter-both : (p q : Determinant → Bool) (ds : List Determinant) → filter p (filter q ds) ≡ filter (λ d. p d && q d) ds
-filter-both p q [] = refl
-filter-both p q (d ∷ ds) = grind (arith, filter-both p q ds)
-
 -- the receipts of the members of a set beyond a number of each member's, counted member by member
-pub count_in-beyond : (s : Members) (past : ℕ → ℕ) (n m : ℕ) (t : List Mark) → AllBelow s n → WellFormed m t
-    → count_in s (λ p. length (receipts_at t p) - past p) n ≡ length (filter (λ d. set.contains s d.to && nat_lt (past d.to) d.rsn) (receipts t))
-count_in-beyond s past n m t within obeys =
-    count_in-same s (λ p. length (receipts_at t p) - past p) (count_to (filter (beyond past) (receipts t))) n
-    (λ p below among. sym (ap length (beyond-of past p (receipts t))
-    ∙ beyond-numbered (past p) 0 (receipts_at t p) (λ j d here. omega (arith, (receipts_at-Has m t p j d obeys here).2)) ∙ omega arith))
-    ∙ count_in-determinants s n (filter (beyond past) (receipts t)) within ∙ ap length (filter-both (is_of s) (beyond past) (receipts t))
+abbrev pub beyond : Members → (ℕ → ℕ) → Determinant → Bool
+beyond s past d = set.contains s d.to && nat_lt (past d.to) d.rsn
+
+count_in-beyond : (s : Members) (past : ℕ → ℕ) (n m : ℕ) (t : List Mark) → AllBelow s n → WellFormed m t
+    → count_in s (λ p. receipts_of t p - past p) n ≡ length (filter (beyond s past) (receipts t))
+count_in-beyond s past n m t within = WellFormed-keeps m (λ u. count_in s (count u) n ≡ length (filter (beyond s past) (receipts u))) none more t where
+  count : List Mark → ℕ → ℕ
+  count u p = receipts_of u p - past p
+
+  none : count_in s (count []) n ≡ 0
+  none = sum_below-none n _ (λ q. grind (arith))
+
+  more : (u : List Mark) (e : Mark) → WellFormed m u → MayFollow m u e → count_in s (count u) n ≡ length (filter (beyond s past) (receipts u))
+      → count_in s (count (u ++ e ∷ [])) n ≡ length (filter (beyond s past) (receipts (u ++ e ∷ [])))
+  more u (Send q k p) obeys may was =
+      count_in-same s (count (u ++ Send q k p ∷ [])) (count u) n (λ x below among. omega (arith, receipts-step u (Send q k p) x)) ∙ was ∙ rw (filter_map-append determinant_of, append-nil) refl
+  more u (Receipt p r q k) obeys may was =
+      let d : Determinant = record { from = q; ssn = k; to = p; rsn = r } in
+      let grown = sum_below-at n p (cond (beyond s past d) 1 0) (λ x. cond (set.contains s x) (count u x) 0) (λ x. cond (set.contains s x) (count (u ++ Receipt p r q k ∷ []) x) 0)
+      (λ x. grind (arith, nat_tests, may.3, receipts-step u (Receipt p r q k) x)) in
+      rw (filter_map-append determinant_of, filter-append, length-append) grind (arith, nat_tests, grown, was, within p)
 
 module _ {S N : Type 0} {next : Next S N} {old : GroupRecord S N} (sound : IsSound next old) {new : List (Event N)} (cut : IsEventCut (Stays (knowledge old)) old.trace new) where
   -- the members that are down replay no more than the trace has
@@ -116,17 +93,19 @@ module _ {S N : Type 0} {next : Next S N} {old : GroupRecord S N} (sound : IsSou
       → ((p : ℕ) → p < old.config.members → set.contains old.down p ≡ true → IsReplayed next old.config.members old.config.starts new p (work p))
       → count_in old.down (λ p. (work p).received) old.config.members ≤ length old.trace
   replayed-most work replays =
-      let most = count_in-most old.down (λ p. (work p).received) (λ p. length (receipts_at (map mark_of new) p)) old.config.members (λ p below down. (replays p below down).within) in
-      let all = count_in-determinants old.down old.config.members (receipts (map mark_of new)) sound.down in
-      let some = length-left (is_of old.down) (receipts (map mark_of new)) in
+      let most = count_in-most old.down (λ p. (work p).received) (λ p. receipts_of (map mark_of new) p - 0) old.config.members
+      (λ p below down. omega (arith, (replays p below down).within, length-receipts_at (map mark_of new) p)) in
+      let all = count_in-beyond old.down (λ p. 0) old.config.members old.config.members (map mark_of new) sound.down (cut-obeys sound cut) in
+      let some = length-left (beyond old.down (λ p. 0)) (receipts (map mark_of new)) in
       omega (arith, most, all, some, cut-shorter sound cut, length-filter_map determinant_of (map mark_of new), length-map new mark_of)
 
   -- and at the end exactly its receipts of theirs, but for what they had replayed before
   pub replayed-count : (work : ℕ → MemberRecord S N) (past : ℕ → ℕ)
       → ((p : ℕ) → p < old.config.members → set.contains old.down p ≡ true → (work p).received ≡ length (receipts_at (map mark_of new) p))
-      → count_in old.down (λ p. (work p).received - past p) old.config.members ≡ length (filter (λ d. set.contains old.down d.to && nat_lt (past d.to) d.rsn) (receipts (map mark_of new)))
+      → count_in old.down (λ p. (work p).received - past p) old.config.members ≡ length (filter (beyond old.down past) (receipts (map mark_of new)))
   replayed-count work past all =
-      count_in-same old.down (λ p. (work p).received - past p) (λ p. length (receipts_at (map mark_of new) p) - past p) old.config.members (λ p below down. ap (λ k. k - past p) (all p below down))
+      count_in-same old.down (λ p. (work p).received - past p) (λ p. receipts_of (map mark_of new) p - past p) old.config.members
+      (λ p below down. ap (λ k. k - past p) (all p below down ∙ length-receipts_at (map mark_of new) p))
       ∙ count_in-beyond old.down past old.config.members old.config.members (map mark_of new) sound.down (cut-obeys sound cut)
 
 -- what a table finds is one of its entries' determinants, of that receipt

@@ -1,13 +1,16 @@
--- What tables name, also after they have learned, and what a closed record promises.
-use Rattle.fbl_law.proofs.Common.{List, ◌≡◌, ℕ, false, [], inl, inr, ◌⊎◌, arith, subst, refl, nat_cmp, Contains, cases_Bool, Members, Determinant, Mark, Has, Precedes, Depends, member_of}
-use Rattle.fbl_law.proofs.Common.{receipt_of, some_member, IsTrueEntry, in_table, in_checkpoint, IsHolder, Includes, Knowledge, table, checkpoint, IsUp, IsDown, Names, IsRecorded}
-use Rattle.fbl_law.proofs.Common.{IsStable, KnowsTruth, IsBeforeCheckpoint, IsClosed, IsDownEmpty, Message, Entry, IsOrphan, RecordsCauses, ◌<◌, ◌||◌, length, get_or, true, ◌∷◌, map, sym}
-use Rattle.fbl_law.proofs.Common.{◌∙◌, nat_le, false_from_ne_true, cases_eq, get_or_past, Any-from_list_any, same_determinant, contains-insert_other, Decides-same_determinant}
-use Rattle.fbl_law.proofs.Common.{MemberRecord, blank, is_held, gathered, learned, piggybacked, ◌↔◌, All, All-head, All-tail, nat_cmp_total, leb_tells, list_any-append, list_any-from_Any}
-use Rattle.fbl_law.proofs.Common.{All-cons, All-contains_itself, All-map, All-weaker, held-carried, held-gathered, held_by, noted, Decides, Decides-like, Decides-or, ◌≤◌, Decides-at}
-use Rattle.fbl_law.proofs.Common.{and_parts, cases_lt, Holds, flagged, contains-flagged, len-remove_one, len-within, IsAlwaysHeld, get_or-map}
+-- What tables name, also after they have learned or are gathered, and what a closed record promises.
+use Rattle.fbl_law.proofs.Common.{List, ◌≡◌, ℕ, false, [], inl, inr, ◌⊎◌, arith, subst, refl, nat_cmp, Contains, cases_Bool, Members, Determinant, Mark, Has, Precedes, Depends}
+use Rattle.fbl_law.proofs.Common.{member_of, receipt_of, some_member, IsTrueEntry, in_table, in_checkpoint, IsHolder, Includes, Knowledge, table, checkpoint, IsUp, IsDown, Names}
+use Rattle.fbl_law.proofs.Common.{IsRecorded, IsStable, KnowsTruth, IsBeforeCheckpoint, IsClosed, IsDownEmpty, Message, Entry, IsOrphan, RecordsCauses, ◌<◌, ◌||◌, length, get_or}
+use Rattle.fbl_law.proofs.Common.{true, ◌∷◌, map, sym, ◌∙◌, nat_le, false_from_ne_true, cases_eq, get_or_past, Any-from_list_any, same_determinant, contains-insert_other}
+use Rattle.fbl_law.proofs.Common.{Decides-same_determinant, MemberRecord, blank, is_held, gathered, learned, piggybacked, ◌↔◌, All, All-head, All-tail, leb_tells, list_any-append}
+use Rattle.fbl_law.proofs.Common.{list_any-from_Any, All-cons, All-contains_itself, All-map, All-weaker, held-carried, held-gathered, held_by, noted, Decides, Decides-like}
+use Rattle.fbl_law.proofs.Common.{Decides-or, ◌≤◌, and_parts, cases_lt, members_where, contains-members_where, contains-union, list_any, list_any_at, get_or_default}
+use Rattle.fbl_law.proofs.Common.{is_recorded_among, false≢true, nat_tests, len-within, IsAlwaysHeld, ◌≢◌, ◌++◌, map-append, map-map, all_pairs_push, IsOnce}
+use Rattle.fbl_law.proofs.Common.{AllPairs-from_IsDistinct, IsDistinct-from_AllPairs, gathered_all, recovery_table, saved_tables, added_new, not_held_learned, IsOnce-none, zero}
+use Rattle.fbl_law.proofs.Common.{suc, Contains-append_left, Contains-append_right, All-append, All-contains, All-from_get_or, All-nil, Contains-get_or, IsSoundKnowledge}
 use Rattle.std.specs.FinSet as set
-use Rattle.fbl_law.proofs.Lists.{Contains-none, Contains-filter, Contains-from_filter}
+use Rattle.fbl_law.proofs.Lists.{Contains-none, Contains-filter, Contains-from_filter, Contains-changed, Contains-map, Contains-here}
 use Rattle.fbl_table.specs.Tables.{added}
 
 -- a set has a member or has not
@@ -89,9 +92,6 @@ Includes-insert_cases s p m h = elim (cases_eq m p) [ inl same ↦ inl same | in
 pub Includes-only : (p m : ℕ) → Includes (set.insert set.empty p) m → m ≡ p
 Includes-only p m h = elim (Includes-insert_cases set.empty p m h) [ inl same ↦ same | inr in_none ↦ never_both set.empty m in_none (set.contains-empty nat_cmp m) ]
 
-pub Includes-union : (s t : Members) (m : ℕ) → Includes (set.union s t) m ↔ Includes s m ⊎ Includes t m
-Includes-union s t m = Decides-at _ _ (set.contains-union nat_cmp_total s t m) (Decides-or (set.contains s m) (set.contains t m) (λ h. h, λ h. h) (λ h. h, λ h. h))
-
 -- two entries of one determinant as one
 abbrev pub joined : Entry → Entry → Entry
 joined x e = record { det = x.det; known = set.union x.known e.known }
@@ -162,57 +162,197 @@ Names-table p xs es own d =
     tells = rw (list_any-append, held-gathered xs (map (held_by p) es) d, held-carried p es d) grind arith
 
 module _ {S N : Type 0} where
-  -- the members whose record in the list has the determinant in its table
-  abbrev naming : List (MemberRecord S N) → Determinant → Members
-  naming xs d = flagged 0 (map (λ (x : MemberRecord S N). is_held x.table d) xs)
+  -- some record's table has the determinant exactly where it names it
+  Decides-named : (outside : S) (xs : List (MemberRecord S N)) (d : Determinant) → Decides (list_any (λ m. is_held m.table d) xs) ((k : ℕ) × Names (get_or xs k (blank outside)).table d)
+  Decides-named outside xs d = (
+    λ held.
+        let some = Any-from_list_any (λ (m : MemberRecord S N). is_held m.table d) xs held in
+        (some.0, Names-held (get_or xs some.0 (blank outside)).table d (rw (← get_or_default xs some.0 some.1 (blank outside) some.2, some.3) some.4)),
+    λ named. list_any_at (λ (m : MemberRecord S N). is_held m.table d) xs named.0 (blank outside) (named_record outside xs named.0 d named.1) (held-Names (get_or xs named.0 (blank outside)).table d named.1),
+  )
 
-  Includes-naming : (outside : S) (xs : List (MemberRecord S N)) (d : Determinant) (m : ℕ) → Includes (naming xs d) m ↔ Names (get_or xs m (blank outside)).table d
-  Includes-naming outside xs d m =
-      Decides-at _ _ (contains-flagged (map (λ (x : MemberRecord S N). is_held x.table d) xs) m ∙ get_or-map (λ (x : MemberRecord S N). is_held x.table d) xs m (blank outside))
-      (Names-held (get_or xs m (blank outside)).table d, held-Names (get_or xs m (blank outside)).table d)
-
--- a set has a member, or none
-some_or_none : (s : Members) → ((m : ℕ) × Includes s m) ⊎ ((m : ℕ) → ¬ (Includes s m))
-some_or_none s = elim (cases_lt 0 (set.len s)) [ inl some ↦ inl (some_member s some) | inr none ↦ inr (λ m h. omega (arith, none, len-remove_one s m h)) ]
+  pub Decides-recorded : (f : ℕ) (r : Knowledge S N) → IsDownEmpty f r → (d : Determinant) → Decides (is_recorded_among r.members r.checkpoints d) (IsRecorded r d)
+  Decides-recorded f r empty d = Decides-or _ _
+      (Decides-like _ (λ one. (one.0, (up_if_named f r empty one.0 d one.1, one.1))) (λ held. (held.0, held.1.1)) (Decides-named r.outside r.members d))
+      (Decides-named r.outside r.checkpoints d)
 
 module _ {S N : Type 0} (r : Knowledge S N) (d : Determinant) where
-  Includes-holding : (m : ℕ) → Includes (set.difference (naming r.members d) r.down) m ↔ Holds r d m
-  Includes-holding m =
-      let has = set.contains-difference nat_cmp_total (naming r.members d) r.down m in
-      let names = Includes-naming r.outside r.members d m in
-      (λ h. let parts = and_parts _ _ (sym has ∙ h) in (grind (arith, parts.1), names.0 parts.0), λ holds. has ∙ (rw (names.1 holds.1, holds.0) refl))
-
   -- those whose tables have it, and those that are down
   abbrev all : Members
-  all = set.union (naming r.members d) r.down
+  all = set.union (members_where (length r.members) (λ m. is_held (table r m) d)) r.down
 
-  holder_all : (m : ℕ) → IsHolder r d m → Includes all m
-  holder_all m (inl holds) = (Includes-union (naming r.members d) r.down m).1 (inl ((Includes-naming r.outside r.members d m).1 holds.1))
-  holder_all m (inr down) = (Includes-union (naming r.members d) r.down m).1 (inr down.0)
+  Includes-all : (m : ℕ) → Includes all m ↔ Names (table r m) d ⊎ IsDown r m
+  Includes-all m =
+      let either = contains-union (members_where (length r.members) (λ m. is_held (table r m) d)) r.down m in
+      let has = contains-members_where (length r.members) (λ m. is_held (table r m) d) m in (
+        λ h. elim (either.0 h) [ inl named ↦ inl (Names-held (table r m) d (and_parts _ _ (sym has ∙ named)).1) | inr down ↦ inr down ],
+        elim [
+          | inl named ↦ either.1 (inl (has ∙ rw (held-Names (table r m) d named) grind (arith, nat_tests, named_record r.outside r.members m d named)))
+          | inr down ↦ either.1 (inr down)
+        ],
+      )
 
   all_holder : IsRecorded r d → (m : ℕ) → Includes all m → IsHolder r d m
   all_holder recorded m h = elim (down_or_up r.down m) [
     | inl down ↦ inr (down, recorded)
-    | inr up ↦ elim ((Includes-union (naming r.members d) r.down m).0 h) [ inl named ↦ inl (up, (Includes-naming r.outside r.members d m).0 named) | inr down ↦ inr (down, recorded) ]
+    | inr up ↦ elim ((Includes-all m).0 h) [ inl named ↦ inl (up, named) | inr down ↦ inr (down, recorded) ]
   ]
 
 module _ {S N : Type 0} where
   -- each receipt of a closed record is stable, or held by each up member that depends on it
-  pub IsAlwaysHeld-closed : (f : ℕ) (r : Knowledge S N) → IsClosed f r → IsAlwaysHeld f r
-  IsAlwaysHeld-closed f r closed d there =
-      elim (cases_lt f (set.len (all r d))) [
-        | inl many ↦ elim (some_or_none (set.difference (naming r.members d) r.down)) [
-          | inl holder ↦ inl (all r d, many, all_holder r d (inl (holder.0, (Includes-holding r d holder.0).0 holder.1)))
-          | inr none ↦ elim (some_or_none (naming r.checkpoints d)) [
-            | inl saver ↦ inl (all r d, many, all_holder r d (inr (saver.0, (Includes-naming r.outside r.checkpoints d saver.0).0 saver.1)))
-            | inr unsaved ↦ inr (λ m up depends. elim (IsRecorded-depended f r closed d m up depends) [
-              | inl held ↦ absurd (none held.0 ((Includes-holding r d held.0).1 held.1))
-              | inr saved ↦ absurd (unsaved saved.0 ((Includes-naming r.outside r.checkpoints d saved.0).1 saved.1))
-            ])
-          ]
-        ]
-        | inr few ↦ inr (λ m up depends. elim (closed.events (in_table m) depends.0 up depends.2 d depends.1) [
-          | inl named ↦ (up, named)
-          | inr stable ↦ absurd (omega (arith, few, stable.1, len-within (set.len stable.0) stable.0 (all r d) refl (λ q h. holder_all r d q (stable.2 q h))))
-        ])
+  pub IsAlwaysHeld-closed : (f : ℕ) (r : Knowledge S N) → IsDownEmpty f r → IsClosed f r → IsAlwaysHeld f r
+  IsAlwaysHeld-closed f r empty closed d there = elim (cases_Bool (is_recorded_among r.members r.checkpoints d)) [
+    | inr lost ↦ inr (λ m up depends. false≢true (sym lost ∙ (Decides-recorded f r empty d).1 (IsRecorded-depended f r closed d m up depends)))
+    | inl is ↦ elim (cases_lt f (set.len (all r d))) [
+      | inl many ↦ inl (all r d, many, all_holder r d ((Decides-recorded f r empty d).0 is))
+      | inr few ↦ inr (λ m up depends. elim (closed.events (in_table m) depends.0 up depends.2 d depends.1) [
+        | inl named ↦ (up, named)
+        | inr stable ↦ absurd (omega (
+          arith,
+          few,
+          stable.1,
+          len-within (set.len stable.0) stable.0 (all r d) refl (λ q h.
+              (Includes-all r d q).1 (elim (stable.2 q h) [ inl holds ↦ inl holds.1 | inr down ↦ inr down.0 ])),
+        ))
+      ])
+    ]
+  ]
+
+-- an entry more of a determinant that the table has not
+once_push : (table : List Entry) (e : Entry) → IsOnce table → is_held table e.det ≡ false → IsOnce (table ++ e ∷ [])
+once_push table e once new =
+    let dets : List Determinant = map (λ (x : Entry). x.det) table in
+    rw (map-append (λ (x : Entry). x.det) table (e ∷ []))
+    (IsDistinct-from_AllPairs Decides-same_determinant (dets ++ e.det ∷ []) (all_pairs_push (λ x y. x ≢ y) dets e.det (AllPairs-from_IsDistinct Decides-same_determinant dets once)
+    (λ k d below same. (let held = held-Names table e.det (Contains-changed (λ (x : Entry). x.det) table e.det (k, below, get_or_default dets k e.det d below ∙ same)) in absurd cc))))
+
+-- an entry of a determinant that the table has changes none
+dets_added : (table : List Entry) (e : Entry) → is_held table e.det ≡ true → map (λ (x : Entry). x.det) (added table e) ≡ map (λ (x : Entry). x.det) table
+unfolding added
+dets_added [] e held = absurd cc
+dets_added (x ∷ table) e held = (let rest = dets_added table e in grind (arith, rest))
+
+once_gathered : (table other : List Entry) → IsOnce table → IsOnce (gathered table other)
+once_gathered table [] once = once
+once_gathered table (e ∷ other) once = once_gathered (added table e) other (elim (cases_Bool (is_held table e.det)) [
+  | inl held ↦ rw (dets_added table e held) once
+  | inr new ↦ rw (added_new table e new) (once_push table e once new)
+])
+
+-- what a member has learned and its own new determinant
+pub once_noted : (p : ℕ) (table carried : List Entry) (own : Determinant) → IsOnce table → is_held table own ≡ false → is_held carried own ≡ false
+    → IsOnce (noted p (learned p table carried) own)
+once_noted p table carried own once new others =
+    once_push (learned p table carried) _ (once_gathered table (map (held_by p) carried) once) (not_held_learned p table carried own new others)
+
+once_gathered_all : (table : List Entry) (ts : List (List Entry)) → IsOnce table → IsOnce (gathered_all table ts)
+once_gathered_all table [] once = once
+once_gathered_all table (t ∷ ts) once = once_gathered_all (gathered table t) ts (once_gathered table t once)
+
+abbrev mark : Members → Entry → Entry
+mark s e = record { det = e.det; known = set.union e.known s }
+
+-- what one of the tables names, the gathered one names
+held-gathered_all : (xs : List Entry) (ts : List (List Entry)) (d : Determinant) → is_held (gathered_all xs ts) d ≡ (is_held xs d || list_any (λ t. is_held t d) ts)
+held-gathered_all xs [] d = grind arith
+held-gathered_all xs (t ∷ ts) d = rw (held-gathered_all (gathered xs t) ts d, held-gathered xs t d) grind arith
+
+-- what holds of each entry of the tables, and of two that are joined, holds of each that is gathered
+module _ (Q : Entry → Type 0) (join : (x e : Entry) → Q x → Q e → x.det ≡ e.det → Q (joined x e)) where
+  gathered_all-keeps : (xs : List Entry) (ts : List (List Entry)) → All Q xs → All (λ t. All Q t) ts → All Q (gathered_all xs ts)
+  gathered_all-keeps xs [] all each = all
+  gathered_all-keeps xs (t ∷ ts) all each =
+      gathered_all-keeps (gathered xs t) ts (gathered-keeps Q join xs t all (All-head (λ t. All Q t) t ts each)) (All-tail (λ t. All Q t) t ts each)
+
+module _ {S N : Type 0} where
+  -- what recovery gathers has no determinant twice
+  pub once_recovery_table : (r : Knowledge S N) → IsOnce (recovery_table r)
+  once_recovery_table r =
+      rw map-map (once_gathered_all [] (map (λ (m : MemberRecord S N). m.table) r.members ++ saved_tables r.outside r.down r.checkpoints (length r.checkpoints)) IsOnce-none)
+
+  -- the tables of checkpoints are those of the members of the set
+  Contains-saved : (outside : S) (s : Members) (checkpoints : List (MemberRecord S N)) (n m : ℕ) → m < n → Includes s m → Contains (saved_tables outside s checkpoints n) (get_or checkpoints m (blank outside)).table
+  Contains-saved outside s checkpoints zero m below among = absurd (omega arith)
+  Contains-saved outside s checkpoints (suc n) m below among =
+      elim (cases_eq m n) [
+        | inl same ↦ rw same (Contains-append_right (saved_tables outside s checkpoints n) _ (get_or checkpoints n (blank outside)).table
+            (let here = rw same at among in rw here (Contains-here (get_or checkpoints n (blank outside)).table [])))
+        | inr other ↦ Contains-append_left (saved_tables outside s checkpoints n) _ (get_or checkpoints m (blank outside)).table (Contains-saved outside s checkpoints n m (omega arith) among)
+      ]
+
+  saved-keeps : (outside : S) (P : List Entry → Type 0) (s : Members) (checkpoints : List (MemberRecord S N)) (n : ℕ) → ((m : ℕ) → P (get_or checkpoints m (blank outside)).table)
+      → All P (saved_tables outside s checkpoints n)
+  saved-keeps outside P s checkpoints zero each = All-nil P
+  saved-keeps outside P s checkpoints (suc n) each =
+      All-append P (saved_tables outside s checkpoints n) _ (saved-keeps outside P s checkpoints n each)
+      (elim (down_or_up s n) [ inl is ↦ rw is (All-cons P _ [] (each n) (All-nil P)) | inr is ↦ rw is (All-nil P) ])
+
+  -- the entry unites what stores know of a recorded determinant, and names those that are down
+  abbrev pub IsGathered : Knowledge S N → Entry → Type 0
+  IsGathered r e = IsRecorded r e.det × ((m : ℕ) → IsDown r m → Includes e.known m) × ((m : ℕ) → Includes e.known m → IsHolder r e.det m)
+
+module _ {S N : Type 0} {n f : ℕ} {r : Knowledge S N} (sound : IsSoundKnowledge n f r) where
+  -- the tables that are gathered
+  abbrev sources : List (List Entry)
+  sources = map (λ (m : MemberRecord S N). m.table) r.members ++ saved_tables r.outside r.down r.checkpoints (length r.checkpoints)
+
+  -- the determinant is recorded, and the entry names holders of it
+  abbrev IsKnown : Entry → Type 0
+  IsKnown e = IsRecorded r e.det × ((m : ℕ) → Includes e.known m → IsHolder r e.det m)
+
+  join_known : (x e : Entry) → IsKnown x → IsKnown e → x.det ≡ e.det → IsKnown (joined x e)
+  join_known x e a b same = (a.0, λ m h. elim ((contains-union x.known e.known m).0 h) [ inl left ↦ a.1 m left | inr right ↦ rw same (b.1 m right) ])
+
+  table_known : (m : ℕ) (e : Entry) → Contains (table r m) e → IsKnown e
+  table_known m e here =
+      let up = up_if_named f r sound.down m e.det (e, here, refl) in
+      (inl (m, (up, (e, here, refl))), (sound.truth (in_table m) e up here).0.1)
+
+  saved_known : (m : ℕ) (e : Entry) → Contains (checkpoint r m).table e → IsKnown e
+  saved_known m e here = (inr (m, (e, here, refl)), (sound.truth (in_checkpoint m) e tt here).0.1)
+
+  all_known : All IsKnown (gathered_all [] sources)
+  all_known = gathered_all-keeps IsKnown join_known [] sources (All-nil IsKnown) (All-append AllKnown _ _
+      (All-map AllKnown (λ (m : MemberRecord S N). m.table) r.members
+      (All-from_get_or (λ (x : MemberRecord S N). AllKnown x.table) r.members (blank r.outside) (λ m below. All-from IsKnown (table r m) (table_known m))))
+      (saved-keeps r.outside AllKnown r.down r.checkpoints (length r.checkpoints) (λ m. All-from IsKnown (checkpoint r m).table (saved_known m))))
+    where
+      AllKnown : List Entry → Type 0
+      AllKnown t = All IsKnown t
+
+  pub entries_gathered : (e : Entry) → Contains (recovery_table r) e → IsGathered r e
+  entries_gathered e among =
+      let was = Contains-changed (mark r.down) (gathered_all [] sources) e among in
+      let known = All-contains IsKnown (gathered_all [] sources) was.0 all_known was.1 in
+      subst (IsGathered r) was.2 (
+        known.0,
+        (λ m down. (contains-union was.0.known r.down m).1 (inr down)),
+        λ m h. elim ((contains-union was.0.known r.down m).0 h) [ inl told ↦ known.1 m told | inr down ↦ inr (down, known.0) ],
+      )
+
+  pub gathered_recorded : (d : Determinant) → Names (recovery_table r) d → IsRecorded r d
+  gathered_recorded d named = subst (λ (c : Determinant). IsRecorded r c) named.2 (entries_gathered named.0 named.1).0
+
+  source_gathered : (t : List Entry) (d : Determinant) → Contains sources t → Names t d → Names (recovery_table r) d
+  source_gathered t d among named =
+      let held = list_any_at (λ u. is_held u d) sources among.0 t among.1 (rw among.2 (held-Names t d named)) in
+      let there = Names-held (gathered_all [] sources) d (rw held-gathered_all held) in
+      (mark r.down there.0, Contains-map (mark r.down) (gathered_all [] sources) there.0 there.1, there.2)
+
+  table_gathered : (m : ℕ) (d : Determinant) → Names (table r m) d → Names (recovery_table r) d
+  table_gathered m d named = source_gathered (table r m) d
+      (Contains-append_left _ _ (table r m) (Contains-map (λ (x : MemberRecord S N). x.table) r.members (get_or r.members m (blank r.outside))
+      (Contains-get_or r.members m (blank r.outside) (named_record r.outside r.members m d named)))) named
+
+  -- what an up member's checkpoint names, the member's table names
+  pub recorded_gathered : (d : Determinant) → IsRecorded r d → Names (recovery_table r) d
+  recorded_gathered d (inl held) = table_gathered held.0 d held.1.1
+  recorded_gathered d (inr saved) =
+      elim (down_or_up r.down saved.0) [
+        | inr up ↦ table_gathered saved.0 d (sound.checkpoints saved.0 d up saved.1)
+        | inl down ↦
+            source_gathered (checkpoint r saved.0).table d
+            (Contains-append_right (map (λ (m : MemberRecord S N). m.table) r.members) _ (checkpoint r saved.0).table
+            (Contains-saved r.outside r.down r.checkpoints (length r.checkpoints) saved.0 (named_record r.outside r.checkpoints saved.0 d saved.1) down))
+            saved.1
       ]

@@ -1,21 +1,21 @@
 -- What each step keeps, of predicates and of a weight, the whole group keeps.
 use Rattle.fbl_law.proofs.Common.{◌≡◌, ℕ, zero, suc, ◌<◌, ◌==◌, inl, inr, List, [], ◌∷◌, ◌++◌, take, drop, map, Some, slice_get, subst, refl, sym, ap, ◌∙◌, arith, length-take, All}
-use Rattle.fbl_law.proofs.Common.{filter_map, fold, cases_eq, eq-eqb, ne_eqb, take-append-drop, All-head, All-tail, filter_map-append, Start, Event, mark_of, WellFormed, Next, Progress}
-use Rattle.fbl_law.proofs.Common.{Action, took, sent, Lawful, action_of, actions_of, notes_of, note_of, responses, starts_of, At-front, At-below, split-at, after_notes-state, eqb-self}
-use Rattle.fbl_law.proofs.Common.{sent-before, StepKeeps, HoldsFirst, GroupRecord, member_checkpoint, marks, IsSound, received_notes, All-cons, All-nil, All-take, HoldsOf, At-filter_map}
-use Rattle.fbl_law.proofs.Common.{All-contains, Option, None, cond, nat_tests, ◌+◌, ◌≤◌, sum_by-cons, sum_by-append, Mark, MayFollow, in_flight, in_flight-send, in_flight-receipt}
-use Rattle.fbl_law.proofs.Common.{receipts-noted, WellFormed-keeps, Message, send_mark, IsUp, member, channel, knowledge, sum_below, sum_by, option_map_or, fold-map, sum_by_push}
-use Rattle.fbl_law.proofs.Common.{sum_by-drop_more, get_or_from_slice_get, slice_get_within, StepMakesNone, StepLosesNone, StepConserves, weight_after, weight_flying, weight_of}
-use Rattle.fbl_law.proofs.Common.{weight_at_first, weight_of_starts, WeighsNoMore, WeighsNoLess, WeighsTheSame, messages_in_flight, nil_from_length}
+use Rattle.fbl_law.proofs.Common.{filter_map, fold, cases_eq, eq-eqb, ne_eqb, take-append-drop, All-head, All-tail, filter_map-append, Start, Event, mark_of, WellFormed, Next}
+use Rattle.fbl_law.proofs.Common.{Progress, Action, took, sent, Lawful, action_of, actions_of, notes_of, note_of, responses, starts_of, At-front, At-below, split-at}
+use Rattle.fbl_law.proofs.Common.{after_notes-state, eqb-self, sent-before, StepKeeps, HoldsFirst, GroupRecord, member_checkpoint, marks, IsSound, received_notes, All-cons}
+use Rattle.fbl_law.proofs.Common.{All-nil, All-take, HoldsOf, At-filter_map, All-contains, Option, None, cond, nat_tests, ◌+◌, ◌≤◌, sum_by-cons, sum_by-append, Mark, MayFollow}
+use Rattle.fbl_law.proofs.Common.{in_flight, in_flight-send, in_flight-receipt, receipts-noted, WellFormed-keeps, Message, send_mark, IsUp, member, channel, knowledge, sum_below}
+use Rattle.fbl_law.proofs.Common.{sum_by, option_map_or, fold-map, sum_by_push, sum_by-drop_more, get_or_from_slice_get, slice_get_within, StepMakesNone, StepLosesNone}
+use Rattle.fbl_law.proofs.Common.{StepConserves, weight_after, weight_flying, weight_of, weight_at_first, weight_of_starts, WeighsNoMore, WeighsNoLess, WeighsTheSame}
+use Rattle.fbl_law.proofs.Common.{messages_in_flight, nil_from_length}
 use Rattle.fbl_base.specs.declared.trace.Mark.TheVariants as mark
 use Rattle.std.specs.FinSet as set
 use Rattle.fbl_base.specs.declared.trace.Event.TheVariants.{Send, Receipt}
-use Rattle.fbl_law.proofs.Lists.{Contains-at, Contains-place}
+use Rattle.fbl_law.proofs.Lists.{Contains-at, Contains-place, sum_below-none, sum_below-at}
 use Rattle.fbl_law.proofs.Safe.{down_or_up, All-from, down_or_both_up, up_if_none}
-use Rattle.fbl_law.proofs.Notes.{noted-sent, one-send, sent-noted, mark-at, send-at}
+use Rattle.fbl_law.proofs.ReplayedRecords.{noted-sent, one-send, sent-noted, mark-at, send-at}
 use Rattle.fbl_law.proofs.Channels.{flight_sent, flight_at}
-use Rattle.fbl_law.proofs.GroupFacts.{up_state}
-use Rattle.fbl_law.proofs.ChannelCounts.{sum_below-none, sum_below-at}
+use Rattle.fbl_law.proofs.Promises.{up_state}
 
 module _ {N : Type 0} where
   -- a trace that obeys the rules has the send of each receipt before it, with the note

@@ -7,19 +7,17 @@ use Rattle.fbl_base.specs.Configs.{Settings, IsConfig}
 use Rattle.fbl_base.specs.Fold.{Next}
 use Rattle.fbl_base.specs.MemberSets.{AllBelow, Members}
 use Rattle.fbl_member.specs.Members.{Message, MemberRecord, blank, logged_note, replayed_by}
-use Rattle.fbl_law.specs.Groups.{GroupRecord, member_checkpoint, marks, knowledge, is_recorded, receipts}
-use Rattle.fbl_law.specs.GroupSteps.{IsGroupStart, IsDelivery, IsStrike, IsCheckpoint, IsRecovery}
+use Rattle.fbl_law.specs.Groups.{GroupRecord, member_checkpoint, marks, knowledge, is_recorded, receipts, receipts_at, IsSound, OfSound}
+use Rattle.fbl_law.specs.GroupSteps.{IsGroupStart, IsDelivery, IsStrike, IsCheckpoint, IsRecovery, Stays, recovery_table, recovered_trace, working, IsReplaying, IsWaiting}
+use Rattle.fbl_law.specs.GroupSteps.{IsRebuilt}
 use Rattle.fbl_base.specs.declared.trace.Determinant.{Determinant}
 use Rattle.fbl_base.specs.Events.{receipt_of, mark_of}
 use Rattle.fbl_base.specs.Precedence.{Has, Precedes}
 use Rattle.fbl_base.specs.Steps.{SendsAllowed}
 use Rattle.fbl_law.specs.Knowledge.{IsRecorded, Includes, IsDown, IsOrphan, Holds}
-use Rattle.fbl_law.specs.Sound.{receipts_at, IsSound, OfSound}
 use Rattle.fbl_law.specs.Promises.{SurvivorsHold}
 use Rattle.fbl_base.specs.declared.trace.Mark.{Mark}
 use Rattle.fbl_table.specs.Tables.{found}
-use Rattle.fbl_law.specs.Steps.{Stays, recovery_table}
-use Rattle.fbl_law.specs.Replaying.{recovered_trace, working, IsReplaying, IsWaiting, IsRebuilt}
 
 -- the behaviour's sends go to other members of the group, at most four at a step
 abbrev pub SendsWell : {S N : Type 0} → Next S N → Type 0

@@ -2,16 +2,20 @@
 -- survivors hold what they depend on, what is recorded is closed under causes, a recovery leaves exactly what is recorded,
 -- and holders never lose it. Depend and Log (here: holders) are those of Alvisi and Marzullo, Message Logging (IEEE TSE
 -- 24(2), 1998).
-use Rattle.std.specs.Prelude.{◌≡◌, ℕ, ◌<◌, ◌≤◌, ◌⊎◌, ◌↔◌, true, false}
+use Rattle.std.specs.Prelude.{◌≡◌, ℕ, ◌<◌, ◌≤◌, ◌⊎◌, ◌↔◌, true, false, ◌+◌, List, [], ◌∷◌, ◌++◌, map}
 use Rattle.std.specs.List.{filter}
 use Rattle.std.specs.FinSet as set
-use Rattle.fbl_base.specs.MemberSets.{Members}
+use Rattle.fbl_base.specs.MemberSets.{Members, AllBelow}
 use Rattle.fbl_base.specs.declared.trace.Determinant.{Determinant}
 use Rattle.fbl_base.specs.Events.{receipt_of}
 use Rattle.fbl_base.specs.Precedence.{Has, Precedes, Depends}
 use Rattle.fbl_table.specs.Tables.{is_held}
-use Rattle.fbl_law.specs.Knowledge.{Includes, Knowledge, table, Names, Holds, IsHolder, IsRecorded}
-use Rattle.fbl_law.specs.Groups.{GroupRecord, member, marks, knowledge, receipts, is_recorded}
+use Rattle.fbl_law.specs.Knowledge.{Includes, Knowledge, table, Names, Holds, IsHolder, IsRecorded, IsDown}
+use Rattle.fbl_law.specs.Groups.{GroupRecord, member, marks, knowledge, receipts, is_recorded, IsSound}
+use Rattle.fbl_base.specs.Fold.{Next}
+use Rattle.fbl_base.specs.Audit.{Parts, IsDump, IsDumpOrphan}
+use Rattle.fbl_table.specs.declared.entry.Entry.{Entry}
+use Rattle.fbl_member.specs.Members.{MemberRecord}
 
 -- the member's table has the determinant
 abbrev pub IsHeldBy : {S N : Type 0} → GroupRecord S N → Determinant → ℕ → Type 0
@@ -55,3 +59,34 @@ GainsHolders old new = (d : Determinant) (m : ℕ) → Holds new d m ↔ IsHolde
 -- whoever held a receipt that is left holds it still
 abbrev pub KeepsHolders : {S N : Type 0} → Knowledge S N → Knowledge S N → Type 0
 KeepsHolders old new = (d : Determinant) (m : ℕ) → Has new.trace (receipt_of d) → Holds old d m → Holds new d m
+
+-- the member with each determinant of its table, in order
+abbrev pub pairs_of : ℕ → List Entry → List (ℕ × Determinant)
+pairs_of m table = map (λ e. (m, e.det)) table
+
+-- the pairs of the members, of which the first has the number m
+abbrev pub pairs_from : {S N : Type 0} → ℕ → List (MemberRecord S N) → List (ℕ × Determinant)
+pairs_from m [] = []
+pairs_from m (x ∷ members) = pairs_of m x.table ++ pairs_from (m + 1) members
+
+-- the held pairs: members in order, each table in its order
+abbrev pub held_pairs : {S N : Type 0} → GroupRecord S N → List (ℕ × Determinant)
+held_pairs r = pairs_from 0 r.members
+
+-- the trace without notes, the held pairs and the strike set given
+abbrev pub dump_of : {S N : Type 0} → GroupRecord S N → Members → Parts
+dump_of r strike =
+    record { members = r.config.members; f = r.config.f; events = marks r; held = held_pairs r; strike = strike }
+
+-- a dump of a sound group with a strike set of its members obeys the rules of dumps
+unfoldable pub DumpObeysRules : Type 0 → Type 0 → Type 0
+DumpObeysRules S N =
+    (next : Next S N) (r : GroupRecord S N) (strike : Members)
+    → IsSound next r → AllBelow strike r.config.members → IsDump (dump_of r strike)
+
+-- whichever strike set has those that are down and at most f members in all, the dump of a sound group with it has no orphan
+unfoldable pub DumpHasNoOrphan : Type 0 → Type 0 → Type 0
+DumpHasNoOrphan S N =
+    (next : Next S N) (r : GroupRecord S N) (strike : Members) (m : ℕ)
+    → IsSound next r → ((q : ℕ) → IsDown (knowledge r) q → Includes strike q) → set.len strike ≤ r.config.f
+    → ¬ (IsDumpOrphan (dump_of r strike) m)

@@ -2,14 +2,11 @@
 //! contract of a function that does nothing, so that the check of the crate proves it.
 
 ghost use Rattle.std.specs.Prelude.{◌≡◌, ℕ};
-ghost use Rattle.fbl_law.specs.Dumps.{DumpHasNoOrphan, DumpObeysRules};
+ghost use Rattle.fbl_law.specs.Promises.{DumpHasNoOrphan, DumpObeysRules, GainsHolders, HoldsEachReceipt, LeavesRecorded, RecordsCauses, RecordsFirst};
 ghost use Rattle.fbl_law.specs.GroupLaws.{CheckpointIsRecorded, CutIsClosed, GainsTheDown, GroupCheckpointKeeps, GroupDeliveryKeeps, GroupRecoveryKeeps, GroupStartIsSound, GroupStrikeKeeps, NoSurvivorIsOrphan, OfRecovery, RebuiltIsRecovered, RecordedTest, ReplayBegins, ReplayEnds, ReplayIsRight, RunIsSound, SoundSurvivorsHold, StaysIsRecorded, UndoesLost};
-ghost use Rattle.fbl_law.specs.Groups.{knowledge};
+ghost use Rattle.fbl_law.specs.Groups.{knowledge, OfSound};
 ghost use Rattle.fbl_law.specs.Knowledge.{IsAlwaysHeld, IsOrphan};
-ghost use Rattle.fbl_law.specs.Promises.{GainsHolders, HoldsEachReceipt, LeavesRecorded, RecordsCauses, RecordsFirst};
-ghost use Rattle.fbl_law.specs.Replaying.{recovered_trace};
-ghost use Rattle.fbl_law.specs.Sound.{OfSound};
-ghost use Rattle.fbl_law.specs.Steps.{IsEventCut, Stays};
+ghost use Rattle.fbl_law.specs.GroupSteps.{recovered_trace, IsEventCut, Stays};
 
 /// A group in which nothing is received yet is sound: its trace has the starts alone, so there is no determinant to hold.
 ///

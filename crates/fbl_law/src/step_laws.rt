@@ -1,8 +1,7 @@
 //! What a law of one step gives of a whole group, whatever was delivered, struck and recovered. A behaviour says its law by an
 //! `impl` of one of these traits, and the function of the same law gives that of every sound group of it.
 
-ghost use Rattle.fbl_law.specs.Groups.{GroupRecord};
-ghost use Rattle.fbl_law.specs.Sound.{IsSound};
+ghost use Rattle.fbl_law.specs.Groups.{GroupRecord, IsSound};
 ghost use Rattle.fbl_law.specs.StepLaws.{HoldsOf, WeighsNoMore, WeighsNoLess, WeighsTheSame};
 
 use fbl_base::Behaviour;

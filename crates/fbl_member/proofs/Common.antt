@@ -10,7 +10,7 @@ pub use Rattle.std.proofs.lemmas.Option.{get_or_from_slice_get, slice_get-get_or
 pub use Rattle.std.specs.List.{All, AllByRecursion}
 pub use Rattle.std.specs.Option.{option_copied, option_map}
 pub use Rattle.std.specs.Vec.{vec_capacity, vec_len}
-pub use Rattle.fbl_base.proofs.Sifted.{length-filter_map}
+pub use Rattle.fbl_base.proofs.Gets.{length-filter_map}
 pub use Rattle.fbl_base.specs.Events.{same_determinant}
 pub use Rattle.fbl_base.specs.Fold.{numbered, starts_of}
 pub use Rattle.fbl_base.specs.declared.trace.Determinant.{Determinant}

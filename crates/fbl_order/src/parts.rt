@@ -1,7 +1,7 @@
 //! A dump in several parts, as the members of a group write one each.
 
 ghost use Rattle.std.specs.Prelude.{◌≡◌, ◌<◌, ◌≤◌, ℕ, IfErr, IfOk, MatchOption, length, sum};
-ghost use Rattle.fbl_base.specs.DumpParts.{parts_of};
+ghost use Rattle.fbl_base.specs.Audit.{parts_of};
 ghost use Rattle.fbl_order.specs.Parts.{Agrees, AgreesAt, Differs, IsFirstOther, IsPlaceIn, IsUnited, RefusesParts};
 
 use fbl_base::{MemberSet, RawDump};

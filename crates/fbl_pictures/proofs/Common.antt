@@ -11,7 +11,7 @@ pub use Rattle.std.specs.Cmp.{booleans_Decides}
 pub use Rattle.std.specs.List.{flat_map, fold, range_with_len, position_from, filter}
 pub use Rattle.std.specs.Option.{is_some, option_or, option_to_list}
 pub use Rattle.std.specs.Prelude.{◌*◌, ◌/◌, ◌^◌, nat_lt}
-pub use Rattle.fbl_base.proofs.Numbers.{rows_on}
+pub use Rattle.fbl_base.proofs.Gets.{rows_on}
 pub use Rattle.fbl_base.specs.Audit.{lost_determinants, orphan_start_in, IsDumpOrphan}
 pub use Rattle.fbl_audit.specs.Paths.{IsOrphanPath}
 pub use Rattle.fbl_base.specs.Events.{is_message, same_message}

@@ -3,8 +3,7 @@ use Rattle.std.specs.Prelude.{ℕ, false, List, [], ◌∷◌, Option, Some, Non
 use Rattle.fbl_base.specs.declared.trace.Mark.{Mark}
 use Rattle.fbl_base.specs.declared.trace.Mark.TheVariants.{Send, Receipt}
 use Rattle.fbl_base.specs.declared.trace.Determinant.{Determinant}
-use Rattle.fbl_base.specs.Audit.{Parts}
-use Rattle.fbl_base.specs.Holders.{holders_of}
+use Rattle.fbl_base.specs.Audit.{Parts, holders_of}
 use Rattle.fbl_pictures.specs.declared.shape.ArrowKind.TheVariants.{Message}
 use Rattle.fbl_pictures.specs.declared.shape.Shape.{Shape}
 use Rattle.fbl_pictures.specs.declared.shape.Shape.TheVariants as shape

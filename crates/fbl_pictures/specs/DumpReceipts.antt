@@ -7,8 +7,7 @@ use Rattle.fbl_base.specs.Events.{same_message, is_message}
 use Rattle.fbl_base.specs.declared.trace.Determinant.{Determinant}
 use Rattle.fbl_base.specs.declared.trace.Mark.{Mark}
 use Rattle.fbl_base.specs.declared.trace.Mark.TheVariants.{Send, Receipt}
-use Rattle.fbl_base.specs.Audit.{Parts, is_held_outside}
-use Rattle.fbl_base.specs.Holders.{holders_of}
+use Rattle.fbl_base.specs.Audit.{Parts, is_held_outside, holders_of}
 use Rattle.fbl_pictures.specs.declared.shape.Kind.{Kind}
 use Rattle.fbl_pictures.specs.declared.shape.Kind.TheVariants.{Stable, Recorded, Lost}
 use Rattle.fbl_base.specs.declared.trace.MessageName.{MessageName}

@@ -11,7 +11,7 @@ pub use Rattle.fbl_base.specs.Configs.{Settings}
 pub use Rattle.fbl_base.specs.Fold.{Next}
 pub use Rattle.fbl_base.specs.MemberSets.{Members}
 pub use Rattle.fbl_base.specs.Events.{mark_of, receipt_of, receipts, same_determinant}
-pub use Rattle.fbl_base.proofs.Recorded.{Decides-same_determinant}
+pub use Rattle.fbl_base.proofs.Holding.{Decides-same_determinant}
 pub use Rattle.fbl_base.specs.Precedence.{Has, itself}
 pub use Rattle.fbl_base.specs.declared.strike.Strike.{Strike}
 pub use Rattle.fbl_base.specs.declared.trace.Determinant.{Determinant}
@@ -20,12 +20,11 @@ pub use Rattle.fbl_group.specs.Strikes.{lost_receipts}
 pub use Rattle.fbl_history.specs.declared.column.Column.{Column}
 pub use Rattle.fbl_input.proofs.Inputs.{over_input}
 pub use Rattle.fbl_input.specs.declared.output.OutputFault.{OutputFault}
-pub use Rattle.fbl_law.proofs.GroupStrike.{recorded_test, was_up}
+pub use Rattle.fbl_law.proofs.Keeping.{recorded_test, was_up}
 pub use Rattle.fbl_law.proofs.Safe.{no_orphan, up_if_none}
 pub use Rattle.fbl_law.specs.GroupSteps.{IsStrike}
-pub use Rattle.fbl_law.specs.Groups.{GroupRecord, is_recorded, knowledge, marks}
+pub use Rattle.fbl_law.specs.Groups.{GroupRecord, is_recorded, knowledge, marks, IsSound}
 pub use Rattle.fbl_law.specs.Knowledge.{IsRecorded, IsUp, Names}
-pub use Rattle.fbl_law.specs.Sound.{IsSound}
 pub use Rattle.fbl_member.specs.Members.{MemberRecord}
 pub use Rattle.fbl_texts.specs.Scripts.{IsScriptFault, IsScriptOf, outline}
 pub use Rattle.fbl_texts.specs.declared.script.Command.{Command}

@@ -8,9 +8,8 @@ use Rattle.fbl_input.specs.declared.fault.RunFault.{RunFault}
 use Rattle.fbl_input.specs.declared.output.OutputFault.{OutputFault}
 use Rattle.fbl_input.specs.declared.output.OutputFault.TheVariants as outputs
 use Rattle.fbl_input.specs.Faults.{OverInput}
-use Rattle.fbl_law.specs.Groups.{GroupRecord}
+use Rattle.fbl_law.specs.Groups.{GroupRecord, IsSound}
 use Rattle.fbl_law.specs.GroupSteps.{IsGroupStart}
-use Rattle.fbl_law.specs.Sound.{IsSound}
 use Rattle.fbl_texts.specs.declared.script.BehaviourName.{BehaviourName}
 use Rattle.fbl_texts.specs.declared.script.BehaviourName.TheVariants.{Relay, Mix}
 use Rattle.fbl_texts.specs.declared.script.Command.{Command}

@@ -4,7 +4,7 @@ use Rattle.std.specs.FinSet as set
 use Rattle.fbl_base.specs.declared.trace.Note.{Note}
 use Rattle.fbl_base.specs.Configs.{Settings}
 use Rattle.fbl_base.specs.MemberSets.{Members}
-use Rattle.fbl_base.specs.Plans.{IsFirstBad, IsPlanFault}
+use Rattle.fbl_base.specs.Breaches.{IsFirstBad, IsPlanFault}
 use Rattle.fbl_base.specs.declared.fault.PlanFault.{PlanFault}
 use Rattle.fbl_base.specs.declared.strike.Strike.{Strike}
 use Rattle.fbl_group.specs.declared.refusals.CheckpointRefusal.{CheckpointRefusal}

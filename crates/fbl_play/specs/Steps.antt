@@ -18,7 +18,7 @@ use Rattle.fbl_group.specs.Deliveries.{deliver_refusal, Delivers}
 use Rattle.fbl_group.specs.Names.{checkpoint_name, deliver_name, dump_group_name, recover_name, strike_name}
 use Rattle.fbl_group.specs.Recoveries.{Recovers}
 use Rattle.fbl_group.specs.Strikes.{lost_receipts, strike_refusal, Strikes}
-use Rattle.fbl_law.specs.Dumps.{dump_of}
+use Rattle.fbl_law.specs.Promises.{dump_of}
 use Rattle.fbl_law.specs.Groups.{GroupRecord, is_recorded, member_checkpoint}
 use Rattle.fbl_law.specs.GroupSteps.{IsCheckpoint}
 use Rattle.fbl_texts.specs.declared.script.Command.{Command}

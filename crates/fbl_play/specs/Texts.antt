@@ -4,7 +4,7 @@ use Rattle.std.specs.FinSet as set
 use Rattle.fbl_base.specs.declared.trace.Note.{Note}
 use Rattle.fbl_base.specs.Audit.{IsDumpOrphan, lost_determinants}
 use Rattle.fbl_law.specs.Groups.{GroupRecord, member, messages_in_flight}
-use Rattle.fbl_law.specs.Dumps.{dump_of}
+use Rattle.fbl_law.specs.Promises.{dump_of}
 use Rattle.fbl_texts.specs.DumpLines.{dump_line}
 use Rattle.fbl_texts.specs.Lines.{line, lost_line, orphans_line}
 use Rattle.fbl_texts.specs.Sets.{set_words}

@@ -4,7 +4,7 @@ ghost use Rattle.std.specs.Prelude.{◌≡◌, Bool, IfErr, IfOk, not};
 ghost use Rattle.std.specs.List.{filter};
 ghost use Rattle.fbl_base.specs.declared.trace.Determinant.{Determinant};
 ghost use Rattle.fbl_group.specs.Strikes.{lost_receipts};
-ghost use Rattle.fbl_law.specs.Sound.{IsSound};
+ghost use Rattle.fbl_law.specs.Groups.{IsSound};
 ghost use Rattle.fbl_play.specs.Reasons.{IsPlanRefused};
 ghost use Rattle.fbl_play.specs.Steps.{CheckpointStep, DeliverStep, HasMembers, IsDumped, IsRunAnswer, RecoverStep, RunStep, Step, StrikeStep};
 

@@ -5,9 +5,8 @@
 #![tactic(auto)]
 
 ghost use Rattle.std.specs.Prelude.{◌≡◌, ℕ, ◌<◌, ◌≤◌, ◌==◌, slice_index, if◌then◌else◌};
-ghost use Rattle.fbl_law.specs.Groups.{knowledge, member as record_of};
+ghost use Rattle.fbl_law.specs.Groups.{knowledge, member as record_of, received_notes};
 ghost use Rattle.fbl_law.specs.Knowledge.{IsUp};
-ghost use Rattle.fbl_law.specs.Sound.{received_notes};
 ghost use Rattle.fbl_store.specs.Commands.{amount_of, made_of};
 ghost use Rattle.fbl_store.specs.Shards.{amount_brought, key_owner};
 

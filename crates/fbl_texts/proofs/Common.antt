@@ -50,10 +50,8 @@ pub use Rattle.fbl_texts.specs.declared.auditing.Verdict.{Verdict}
 pub use Rattle.fbl_texts.specs.declared.auditing.Verdict.TheVariants.{Safe, Unsafe}
 pub use Rattle.fbl_base.proofs.ClockLaws.{member_within}
 pub use Rattle.fbl_audit.specs.Paths.{IsPathTo}
-pub use Rattle.fbl_base.proofs.PlacesAndEvents.{depends-from_places, places-from_depends}
-pub use Rattle.fbl_base.proofs.PrecedenceLaws.{Has-first, Has-last}
-pub use Rattle.fbl_base.specs.Places.{DependsOnPlace}
-pub use Rattle.fbl_base.specs.Precedence.{Has}
+pub use Rattle.fbl_base.proofs.PrecedenceLaws.{depends-from_places, places-from_depends, Has-first, Has-last}
+pub use Rattle.fbl_base.specs.Precedence.{DependsOnPlace, Has}
 pub use Rattle.fbl_base.specs.Rules.{WellFormed}
 pub use Rattle.fbl_texts.specs.Whys.{ArePathsFrom, IsPathFrom, IsLossReason}
 pub use Rattle.fbl_texts.specs.declared.why.LossReason.{LossReason}

@@ -3,11 +3,10 @@ use Rattle.std.specs.Prelude.{ℕ, ◌≡◌, ◌<◌, ◌≤◌, ◌+◌, List,
 use Rattle.std.specs.List.{AllZip}
 use Rattle.fbl_base.specs.MemberSets.{Members}
 use Rattle.fbl_base.specs.declared.trace.Determinant.{Determinant}
-use Rattle.fbl_base.specs.Audit.{Parts, lost_determinants}
+use Rattle.fbl_base.specs.Audit.{Parts, lost_determinants, holders_of}
 use Rattle.fbl_base.specs.Events.{At, receipt_of, receipts}
 use Rattle.fbl_audit.specs.declared.checking.UnsafeReceipt.{UnsafeReceipt}
 use Rattle.fbl_audit.specs.Checking.{IsLeftOrphan, SaysUnsafe}
-use Rattle.fbl_base.specs.Holders.{holders_of}
 use Rattle.fbl_audit.specs.Paths.{IsPathTo}
 use Rattle.fbl_texts.specs.declared.why.LossReason.{LossReason}
 use Rattle.fbl_texts.specs.declared.why.OrphanPath.{OrphanPath}

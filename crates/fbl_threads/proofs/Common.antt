@@ -19,7 +19,7 @@ pub use Rattle.fbl_base.specs.Configs.{Settings}
 pub use Rattle.fbl_base.specs.Events.{mark_of, member_of}
 pub use Rattle.fbl_base.specs.Fold.{Next}
 pub use Rattle.fbl_base.specs.MemberSets.{Members, same_from_contains}
-pub use Rattle.fbl_base.specs.Plans.{IsPlan, MayBeStruck, set_at}
+pub use Rattle.fbl_base.specs.Breaches.{IsPlan, MayBeStruck, set_at}
 pub use Rattle.fbl_base.specs.Precedence.{Has}
 pub use Rattle.fbl_base.specs.declared.strike.Strike.{Strike}
 pub use Rattle.fbl_base.specs.declared.trace.Event.{Event}
@@ -35,10 +35,9 @@ pub use Rattle.fbl_group.specs.declared.refusals.CommitRefusal.{CommitRefusal}
 pub use Rattle.fbl_group.specs.declared.refusals.CommitRefusal.TheVariants.{Down, Full, Memory, Stale}
 pub use Rattle.fbl_group.specs.declared.refusals.CrashRefusal.{CrashRefusal}
 pub use Rattle.fbl_base.specs.declared.ticket.Ticket.{Ticket}
-pub use Rattle.fbl_law.specs.GroupSteps.{IsDelivery, IsStrike, delivery_events}
+pub use Rattle.fbl_law.specs.GroupSteps.{IsDelivery, IsStrike, delivery_events, IsEventCut, Stays}
 pub use Rattle.fbl_law.specs.Groups.{GroupRecord, knowledge}
 pub use Rattle.fbl_law.specs.Promises.{KeepsHolders}
-pub use Rattle.fbl_law.specs.Steps.{IsEventCut, Stays}
 pub use Rattle.fbl_member.specs.Members.{Message}
 pub use lib.ListN.{get_elem?}
 pub use mathlib.Core.Logic.{dite, ⊎_elim}

@@ -1,5 +1,5 @@
-use Rattle.fbl_base.proofs.PrecedenceLaws.{Depends-push}
+use Rattle.fbl_base.proofs.PrecedenceLaws.{depends_push}
 use Rattle.fbl_base.proofs.laws.depends_law.Goals as goal
 
 pub returns : goal.returns
-returns c = Depends-push
+returns c = depends_push

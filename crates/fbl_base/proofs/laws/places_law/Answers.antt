@@ -1,4 +1,4 @@
-use Rattle.fbl_base.proofs.PlacesAndEvents.{events-from_places, places-from_events, depends-from_places, places-from_depends}
+use Rattle.fbl_base.proofs.PrecedenceLaws.{events-from_places, places-from_events, depends-from_places, places-from_depends}
 use Rattle.fbl_base.proofs.laws.places_law.Goals as goal
 
 pub returns-clause-precedes : goal.returns-clause-precedes

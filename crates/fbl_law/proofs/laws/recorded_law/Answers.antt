@@ -1,5 +1,4 @@
-use Rattle.fbl_law.proofs.GroupStrike.{recorded_test}
-use Rattle.fbl_law.proofs.GroupCheckpoint.{checkpoint_is_recorded}
+use Rattle.fbl_law.proofs.Keeping.{recorded_test, checkpoint_is_recorded}
 use Rattle.fbl_law.proofs.Promises.{sound_records_causes, sound_records_first}
 use Rattle.fbl_law.proofs.laws.recorded_law.Goals as goal
 

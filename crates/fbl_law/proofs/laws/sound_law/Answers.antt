@@ -1,8 +1,7 @@
 use Rattle.fbl_law.proofs.Common.{RunIsSound, starts, delivers, strikes, checkpoints, recovers}
 use Rattle.fbl_law.proofs.GroupStart.{group_start_is_sound}
 use Rattle.fbl_law.proofs.GroupDelivery.{group_delivery_keeps}
-use Rattle.fbl_law.proofs.GroupStrike.{group_strike_keeps}
-use Rattle.fbl_law.proofs.GroupCheckpoint.{group_checkpoint_keeps}
+use Rattle.fbl_law.proofs.Keeping.{group_strike_keeps, group_checkpoint_keeps}
 use Rattle.fbl_law.proofs.GroupRecovery.{group_recovery_keeps}
 use Rattle.fbl_law.proofs.laws.sound_law.Goals as goal
 

@@ -1,6 +1,6 @@
 use Rattle.std.proofs.Common.{◌≡◌, ◌∙◌, ap, length, rules}
 use Rattle.std.specs.Vec.{vec_len}
-use Rattle.fbl_law.specs.Dumps.{dump_of}
+use Rattle.fbl_law.specs.Promises.{dump_of}
 use Rattle.fbl_play.proofs.answer.totals_of.Goals as goal
 
 pub returns : goal.returns

@@ -1,5 +1,5 @@
 use Rattle.std.proofs.Common.{◌≡◌, ◌∙◌, ap, inr, Ok, Result}
-use Rattle.fbl_base.specs.DumpParts.{parts_of}
+use Rattle.fbl_base.specs.Audit.{parts_of}
 use Rattle.fbl_base.specs.declared.fault.Breach.{Breach}
 use Rattle.fbl_base.specs.declared.refusal.DumpRefusal.{DumpRefusal}
 use Rattle.fbl_base.specs.declared.refusal.DumpRefusal.TheVariants as dump

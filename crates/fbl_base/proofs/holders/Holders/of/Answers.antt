@@ -1,10 +1,9 @@
 use Rattle.fbl_base.proofs.Common.{ℕ, Bool, Option, Some, ◌≡◌, ◌==◌, ◌||◌, ◌&&◌, ◌∙◌, true, ap, cond, unwrap_or, arith, nat_tests, nat_cmp, nat_cmp_total, unsigned_tied}
 use Rattle.fbl_base.proofs.Common.{drop_all, length, refl, slice_get_read, same_determinant, Members, same_from_contains}
 use Rattle.fbl_base.proofs.Gets.{drop_next}
-use Rattle.fbl_base.proofs.Recorded.{Decides-same_determinant}
+use Rattle.fbl_base.proofs.Holding.{Decides-same_determinant, contains-holders}
 use Rattle.std.specs.FinSet as set
 use Rattle.std.specs.HashMap as hash_map
-use Rattle.fbl_base.proofs.Holding.{contains-holders}
 use Rattle.fbl_base.proofs.holders.Holders.of.Goals as goal
 
 pub loop-holder-init : goal.loop-holder-init

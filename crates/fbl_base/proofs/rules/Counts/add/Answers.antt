@@ -1,5 +1,5 @@
 use Rattle.std.proofs.lemmas.Result.{on_ok_weaker}
-use Rattle.fbl_base.proofs.CountedLaws.{counted_event}
+use Rattle.fbl_base.proofs.RulesLaws.{counted_event}
 use Rattle.fbl_base.proofs.rules.Counts.add.Goals as goal
 
 pub returns : goal.returns

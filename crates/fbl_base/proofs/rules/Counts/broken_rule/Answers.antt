@@ -1,4 +1,4 @@
-use Rattle.fbl_base.proofs.CountedLaws.{judged, named}
+use Rattle.fbl_base.proofs.RulesLaws.{judged, named}
 use Rattle.fbl_base.proofs.rules.Counts.broken_rule.Goals as goal
 
 pub returns-clause-verdict : goal.returns-clause-verdict

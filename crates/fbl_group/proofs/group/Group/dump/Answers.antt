@@ -1,5 +1,5 @@
 use Rattle.fbl_group.proofs.Common.{sym, subst, ◌∙◌, Parts, IsDumpOrphan, dump_obeys_rules, dump_has_no_orphan}
-use Rattle.fbl_law.specs.Dumps.{DumpObeysRules, DumpHasNoOrphan}
+use Rattle.fbl_law.specs.Promises.{DumpObeysRules, DumpHasNoOrphan}
 use Rattle.fbl_group.proofs.group.Group.dump.Goals as goal
 
 pub lawful-requires : goal.lawful-requires
