@@ -10,9 +10,8 @@ pub use Rattle.std.proofs.lemmas.Result.{IfOk-weaker}
 pub use Rattle.std.specs.Cmp.{nat_cmp_total}
 pub use Rattle.std.specs.Option.{is_some}
 pub use Rattle.std.specs.Ordering.{nat_cmp}
-pub use Rattle.fbl_base.proofs.CauseLaws.{orphan_by_cause, with_next}
+pub use Rattle.fbl_base.proofs.AuditLaws.{orphan_by_cause, with_next, holds, is_receipt}
 pub use Rattle.fbl_base.proofs.ClockLaws.{has_last, last_step, member_below, member_within, same_event, set_other, set_same}
-pub use Rattle.fbl_base.proofs.Holding.{holds, is_receipt}
 pub use Rattle.fbl_base.proofs.Gets.{At-below, drop_next, filter_map-At, get_or-same}
 pub use Rattle.fbl_base.proofs.PrecedenceLaws.{Precedes-joined, depends-from_places, places-from_depends, Has-first}
 pub use Rattle.fbl_base.proofs.Sets.{len-remove_one, len-within, some_member}

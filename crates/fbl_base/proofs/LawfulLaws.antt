@@ -62,18 +62,6 @@ module _ {N : Type 0} where
       (rw append_assoc at (sends_obey n p (before + 1) (u ++ e ∷ []) sends (WellFormed-push n u e obeys may) member more
       (All-tail (λ (x : ℕ × N). (x.0 < n) × (x.0 ≢ p)) s sends allowed) (omega (arith, room, length-append u (e ∷ [])))))
 
-  -- what a member does stays the same as the trace grows, where each receipt's note is known
-  actions-front : (t s u : List (Event N)) (m : ℕ) →
-      ((i to rsn from ssn : ℕ) → slice_get u i ≡ Some (Receipt to rsn from ssn) → (note : N) × (note_of t from ssn ≡ Some note))
-      → filter_map (action_of (t ++ s) m) u ≡ filter_map (action_of t m) u
-  actions-front t s u m noted = filter_map-agree (action_of (t ++ s) m) (action_of t m) u agree where
-    agree : (i : ℕ) (e : Event N) → slice_get u i ≡ Some e → action_of (t ++ s) m e ≡ action_of t m e
-    agree i (Send q k to x) here = refl
-    agree i (Receipt to rsn from ssn) here =
-        let n = noted i to rsn from ssn here in
-        let e : note_of (t ++ s) from ssn ≡ note_of t from ssn = note_of-front t s from ssn n.0 n.1 ∙ sym n.1 in
-        rw e refl
-
   -- a message that was sent has a note
   pub sent-note : (t : List (Event N)) (i q k p : ℕ) → At (map mark_of t) i (mark.Send q k p) → (note : N) × (note_of t q k ≡ Some note)
   sent-note [] i q k p h = cc
@@ -90,10 +78,18 @@ module _ {N : Type 0} where
       let sent' = sent-before n (map mark_of t) obeys i to rsn from ssn (slice_get-map mark_of t i ∙ (rw at)) in
       sent-note t sent'.0 from ssn to sent'.2
 
-  pub actions-append : (t new : List (Event N)) (m : ℕ)
-      → ((i to rsn from ssn : ℕ) → slice_get t i ≡ Some (Receipt to rsn from ssn) → (note : N) × (note_of t from ssn ≡ Some note))
-      → actions_of (t ++ new) m ≡ actions_of t m ++ filter_map (action_of (t ++ new) m) new
-  actions-append t new m noted = filter_map-append (action_of (t ++ new) m) t new ∙ ap (λ xs. xs ++ filter_map (action_of (t ++ new) m) new) (actions-front t new t m noted)
+  -- what a member did stays the same as the trace grows
+  actions-append : (n : ℕ) (t new : List (Event N)) (m : ℕ) → WellFormed n (map mark_of t) → actions_of (t ++ new) m ≡ actions_of t m ++ filter_map (action_of (t ++ new) m) new
+  actions-append n t new m obeys =
+      filter_map-append (action_of (t ++ new) m) t new
+      ∙ ap (λ xs. xs ++ filter_map (action_of (t ++ new) m) new) (filter_map-agree (action_of (t ++ new) m) (action_of t m) t agree)
+    where
+      agree : (i : ℕ) (e : Event N) → slice_get t i ≡ Some e → action_of (t ++ new) m e ≡ action_of t m e
+      agree i (Send q k to x) here = refl
+      agree i (Receipt to rsn from ssn) here =
+          let noted = receipts-noted n t obeys i to rsn from ssn here in
+          let e : note_of (t ++ new) from ssn ≡ note_of t from ssn = note_of-front t new from ssn noted.0 noted.1 ∙ sym noted.1 in
+          rw e refl
 
 module _ {S N : Type 0} where
   -- a delivery keeps a trace lawful
@@ -107,7 +103,7 @@ module _ {S N : Type 0} where
       let tail : List (Action N) = took note ∷ map sent sends in
       let count : before ≡ sends_of (map mark_of t ++ R ∷ []) p = rw (sum_by-append (λ y. cond (is_send_of p y) 1 0) (map mark_of t) (R ∷ [])) (omega arith) in
       let fits : length (map mark_of t ++ R ∷ []) + length sends ≤ 8192 = omega (arith, length-append (map mark_of t) (R ∷ []), length-map t mark_of, room) in
-      let grown = λ (m : ℕ). actions-append t new m (receipts-noted n t lawful.well_formed) in
+      let grown = λ (m : ℕ). actions-append n t new m lawful.well_formed in
       let own : actions_of (t ++ new) p ≡ old ++ tail = grown p ∙ (rw (step-actions (t ++ new) p p before sends, eqb-self p, note_of-front t new q s note noted) refl) in
       let notes : notes_of (old ++ tail) ≡ notes_of old ++ note ∷ [] = notes_of-append old tail ∙ ap (λ xs. notes_of old ++ note ∷ xs) (notes_of-sent sends) in
       record {

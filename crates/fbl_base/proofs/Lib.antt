@@ -1,9 +1,8 @@
 pub mod Common
 pub mod ClockLaws
-pub mod CauseLaws
 pub mod Gets
 pub mod RulesLaws
 pub mod PrecedenceLaws
-pub mod Holding
 pub mod LawfulLaws
 pub mod Sets
+pub mod AuditLaws

@@ -1,8 +1,8 @@
 -- Laws of the rules of events: traces that obey them, what is in flight after one more event, and what is counted.
-use Rattle.fbl_base.proofs.Common.{slice_index, slice_set, ◌+◌, ◌==◌, ◌&&◌, not, None, ℕ, zero, suc, Bool, true, cond, ◌≡◌, ◌<◌, inl, inr, List, [], ◌∷◌, ◌++◌, length, take, drop}
-use Rattle.fbl_base.proofs.Common.{Some, refl, ap, ◌∙◌, arith, count_by, slice_get, and_parts, nat_tests, filter_map, list_any, take-append-le, take_all, sum_by-cons, Mark, At}
-use Rattle.fbl_base.proofs.Common.{Has, is_send_of, sends_of, receipts_of, sent_on, taken_on, in_flight, MayFollow, WellFormed, eqb-true, cond_some, append-nil, take-append-drop}
-use Rattle.fbl_base.proofs.Common.{sum_by_push, Send, Receipt, is_receipt_of, false, ◌≢◌, ◌≤◌, filter, cons_option, list_any-append, filter-append, filter_map-append}
+use Rattle.fbl_base.proofs.Common.{cases_Bool, slice_index, slice_set, ◌+◌, ◌==◌, ◌&&◌, not, None, ℕ, zero, suc, Bool, true, cond, ◌≡◌, ◌<◌, inl, inr, List, [], ◌∷◌, ◌++◌, length}
+use Rattle.fbl_base.proofs.Common.{take, drop, Some, refl, ap, ◌∙◌, arith, count_by, slice_get, and_parts, nat_tests, filter_map, list_any, take-append-le, take_all, sum_by-cons}
+use Rattle.fbl_base.proofs.Common.{Mark, At, Has, is_send_of, sends_of, receipts_of, sent_on, taken_on, in_flight, MayFollow, WellFormed, eqb-true, cond_some, append-nil}
+use Rattle.fbl_base.proofs.Common.{take-append-drop, sum_by_push, Send, Receipt, is_receipt_of, false, ◌≢◌, ◌≤◌, filter, list_any-append, filter-append, filter_map-append}
 use Rattle.fbl_base.proofs.Common.{first_in_flight, FitsEvent, next_number, Option, MatchOption, length-set, common_steps, Counted, BreaksEvent, EventRule, IfSome, Counts}
 use Rattle.fbl_base.proofs.Common.{destination_of, source_of, CountsEvent, first_by, next_by, Breaks}
 use Rattle.std.proofs.lemmas.List.{length-take, append_assoc}
@@ -172,22 +172,19 @@ filter_first s (x ∷ xs) first others =
 pub in_flight-receipt : (n : ℕ) (t : List Mark) → WellFormed n t → (p r q s a b : ℕ) → MayFollow n t (Receipt p r q s)
     → in_flight (t ++ Receipt p r q s ∷ []) a b ≡ cond (q == a && p == b) (drop 1 (in_flight t a b)) (in_flight t a b)
 in_flight-receipt n t obeys p r q s a b may =
-    let sent : filter_map (sent_on a b) (t ++ Receipt p r q s ∷ []) ≡ filter_map (sent_on a b) t = rw (filter_map-append (sent_on a b) t (Receipt p r q s ∷ [])) (append-nil _) in
-    rw (sent, filter_map-append (taken_on a b) t (Receipt p r q s ∷ [])) (on (q == a) (p == b) refl refl) where
-      on : (x y : Bool) → (q == a) ≡ x → (p == b) ≡ y
-          → filter (λ ssn. not (list_any (λ k. k == ssn) (filter_map (taken_on a b) t ++ cons_option (cond (x && y) (Some s) None) [])))
-          (filter_map (sent_on a b) t) ≡ cond (x && y) (drop 1 (in_flight t a b)) (in_flight t a b)
-      on true true ex ey =
+    rw (filter_map-append (sent_on a b) t (Receipt p r q s ∷ []), append-nil (filter_map (sent_on a b) t), filter_map-append (taken_on a b) t (Receipt p r q s ∷ []))
+    (elim (cases_Bool (q == a && p == b)) [
+      | inl own ↦
           let e1 : q ≡ a = grind (arith, nat_tests) in
           let e2 : p ≡ b = grind (arith, nat_tests) in
           let first : slice_get (in_flight t a b) 0 ≡ Some s = rw (← e1, ← e2) may.5 in
-          filter_twice (filter_map (taken_on a b) t) s (filter_map (sent_on a b) t)
+          rw own (filter_twice (filter_map (taken_on a b) t) s (filter_map (sent_on a b) t)
           ∙ filter_first s (in_flight t a b) first (λ i x at.
           let apart = Apart-filter (λ ssn. not (list_any (λ k. k == ssn) (filter_map (taken_on a b) t))) (filter_map (sent_on a b) t) s x (0, suc i, omega arith, first, at) in
           let rises = sent-rises n t obeys a b s x apart in
-          omega (arith, rises))
-      on true false ex ey = rw append-nil
-      on false y ex ey = rw append-nil
+          omega (arith, rises)))
+      | inr other ↦ rw (other, append-nil (filter_map (taken_on a b) t)) refl
+    ])
 
 -- what an event that may follow has
 pub room : (n : ℕ) (t : List Mark) (e : Mark) → MayFollow n t e → length t < 8192

@@ -133,7 +133,7 @@ impl<'a, A: Allocator> Model for Audit<'a, A> {
 }
 
 /// Whether no member outside the strike set is among these, which hold the determinant.
-#[tactic(auto, using(crate::proofs::Holding::lost_test))]
+#[tactic(auto, using(crate::proofs::AuditLaws::lost_test))]
 fn loses<A: Allocator + Copy>(
     dump: &Dump<A>,
     holders: &Holders<A>,
@@ -166,7 +166,7 @@ fn lost_by<A: Allocator + Copy>(
 }
 
 /// Whether the event is a lost receipt, where these are the holders.
-#[tactic(auto, using(crate::proofs::Holding::held_outside))]
+#[tactic(auto, using(crate::proofs::AuditLaws::held_outside))]
 fn is_lost_receipt<A: Allocator + Copy>(dump: &Dump<A>, holders: &Holders<A>, event: Mark) -> bool
     requires { AreHolders dump.now holders.now }
     ensures { (result ≡ true) ↔ IsLost dump.now event }

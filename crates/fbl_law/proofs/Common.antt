@@ -30,7 +30,7 @@ pub use Rattle.fbl_base.proofs.RulesLaws.{filter_all, in_flight-receipt, in_flig
 pub use Rattle.fbl_base.proofs.RulesLaws.{WellFormed-push, WellFormed-take, count_at, eqb-self, in_flight-sent, is_sent, receipts-step, sends-step, sent-before}
 pub use Rattle.fbl_base.proofs.PrecedenceLaws.{one_place, one_send, Earlier-front, Has-append, Has-filter, Has-first, Has-last, Precedes-entered, Precedes-filter, Precedes-front}
 pub use Rattle.fbl_base.proofs.PrecedenceLaws.{Precedes-within}
-pub use Rattle.fbl_base.proofs.Holding.{is_receipt, Decides-same_determinant}
+pub use Rattle.fbl_base.proofs.AuditLaws.{is_receipt, Decides-same_determinant}
 pub use Rattle.fbl_base.proofs.Sets.{len-within, some_member, some_outside}
 pub use Rattle.fbl_base.specs.Audit.{HeldAt}
 pub use Rattle.fbl_base.specs.Configs.{IsConfig, Settings, StartAllowed}

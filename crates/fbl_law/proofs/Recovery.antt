@@ -1,5 +1,5 @@
 -- A recovery keeps knowledge sound.
-use Rattle.fbl_law.proofs.Common.{List, ◌≡◌, ℕ, ◌↔◌, Bool, true, inl, inr, refl, sym, ap, ◌∙◌, Some, filter, Determinant, Mark, member_of, send_of, receipt_of, Has, Earlier, Leads}
+use Rattle.fbl_law.proofs.Common.{List, ◌≡◌, ℕ, ◌↔◌, Bool, true, inl, inr, refl, sym, ap, ◌∙◌, Some, filter, Determinant, Mark, member_of, send_of, receipt_of, Has, Earlier}
 use Rattle.fbl_law.proofs.Common.{Precedes, itself, step, WellFormed, sent_on, taken_on, Has-first, Knowledge, Store, in_table, in_message, in_checkpoint, IsThere, table, IsDown}
 use Rattle.fbl_law.proofs.Common.{IsUp, Names, Holds, IsRecorded, IsHolder, IsClosed, MatchesTrace, IsSoundKnowledge, NamesCauses, Stays, Send, Receipt, Has-filter}
 use Rattle.fbl_law.proofs.Common.{Precedes-filter, nat_tests, arith, Event, GainsHolders, GroupRecord, IsEventCut, IsRecovery, IsSound, MemberRecord, Next, StaysIsRecorded}
@@ -44,10 +44,6 @@ module _ {S N : Type 0} (n f : ℕ) (old : Knowledge S N) (obeys : WellFormed n 
         IsRecorded-before f old closed c is.0 (stays down is.0 (ap member_of (sym is.1)) (inl (sym is.1))) (rw is.1 at (step p l))
   ])
 
-  -- what leads to an event that stays stays
-  Stays-leads : (a b : Mark) → Stays old b → Leads old.trace a b → Stays old a
-  Stays-leads a b stays leads = Stays-recorded old a (leads.0.0, leads.0.3) (λ c before. recorded_before c stays (step before leads))
-
 -- what a cut of a sound group's trace leaves
 module _ {S N : Type 0} {next : Next S N} {old : GroupRecord S N} (sound : IsSound next old) {new : List (Event N)} (cut : IsEventCut (Stays (knowledge old)) old.trace new) where
   abbrev keep : Mark → Bool
@@ -58,8 +54,9 @@ module _ {S N : Type 0} {next : Next S N} {old : GroupRecord S N} (sound : IsSou
 
   pub cut-causes : KeepsCauses keep (marks old)
   cut-causes a b kept leads =
-      (cut.2 a (leads.0.0, leads.0.3)).1
-      (Stays-leads old.config.members old.config.f (knowledge old) sound.causes.rules sound.causes.closed a b ((cut.2 b (leads.0.1, leads.0.4)).0 kept) leads)
+      let there : Has (marks old) a = (leads.0.0, leads.0.3) in
+      (cut.2 a there).1 (Stays-recorded (knowledge old) a there (λ c before.
+      recorded_before old.config.members old.config.f (knowledge old) sound.causes.rules sound.causes.closed c ((cut.2 b (leads.0.1, leads.0.4)).0 kept) (step before leads)))
 
   pub cut-was : (e : Mark) → Has (map mark_of new) e → Has (marks old) e × (keep e ≡ true)
   cut-was e there =

@@ -29,14 +29,8 @@ number-front p (x ∷ u) zero zero k e here passes number = grind (arith, nat_te
 number-front p (x ∷ u) zero (suc stop) k e here passes number = grind (arith, nat_tests, sum_by-cons (λ y. cond (p y) 1 0) x (take stop u))
 number-front p (x ∷ u) (suc i) zero k e here passes number = grind (arith, nat_tests)
 number-front p (x ∷ u) (suc i) (suc stop) k e here passes number =
-    grind (
-      arith,
-      nat_tests,
-      number,
-      sum_by-cons (λ y. cond (p y) 1 0) x (take i u),
-      sum_by-cons (λ y. cond (p y) 1 0) x (take stop u),
-      number-front p u i stop (count_by p (take i u) + 1) e here passes refl,
-    )
+    let first = λ (k : ℕ). sum_by-cons (λ y. cond (p y) 1 0) x (take k u) in
+    grind (arith, nat_tests, number, first i, first stop, number-front p u i stop (count_by p (take i u) + 1) e here passes refl)
 
 -- a sender's number names one message
 pub one-send : (n : ℕ) (t : List Mark) → WellFormed n t → (q k to to' : ℕ) → Has t (mark.Send q k to) → Has t (mark.Send q k to') → to ≡ to'

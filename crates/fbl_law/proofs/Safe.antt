@@ -136,6 +136,11 @@ module _ (Q : Entry → Type 0) (join : (x e : Entry) → Q x → Q e → x.det 
   gathered-keeps xs [] all each = all
   gathered-keeps xs (e ∷ es) all each = gathered-keeps (added xs e) es (added-keeps xs e all (All-head Q e es each)) (All-tail Q e es each)
 
+  gathered_all-keeps : (xs : List Entry) (ts : List (List Entry)) → All Q xs → All (λ t. All Q t) ts → All Q (gathered_all xs ts)
+  gathered_all-keeps xs [] all each = all
+  gathered_all-keeps xs (t ∷ ts) all each =
+      gathered_all-keeps (gathered xs t) ts (gathered-keeps xs t all (All-head (λ t. All Q t) t ts each)) (All-tail (λ t. All Q t) t ts each)
+
   pub learned-keeps : (p : ℕ) (xs es : List Entry) → All Q xs → All (λ e. Q (held_by p e)) es → All Q (learned p xs es)
   learned-keeps p xs es all each = gathered-keeps xs (map (held_by p) es) all (All-map Q (held_by p) es each)
 
@@ -202,7 +207,7 @@ module _ {S N : Type 0} where
   -- each receipt of a closed record is stable, or held by each up member that depends on it
   pub IsAlwaysHeld-closed : (f : ℕ) (r : Knowledge S N) → IsDownEmpty f r → IsClosed f r → IsAlwaysHeld f r
   IsAlwaysHeld-closed f r empty closed d there = elim (cases_Bool (is_recorded_among r.members r.checkpoints d)) [
-    | inr lost ↦ inr (λ m up depends. false≢true (sym lost ∙ (Decides-recorded f r empty d).1 (IsRecorded-depended f r closed d m up depends)))
+    | inr lost ↦ inr (λ m up depends. absurd (false≢true (sym lost ∙ (Decides-recorded f r empty d).1 (IsRecorded-depended f r closed d m up depends))))
     | inl is ↦ elim (cases_lt f (set.len (all r d))) [
       | inl many ↦ inl (all r d, many, all_holder r d ((Decides-recorded f r empty d).0 is))
       | inr few ↦ inr (λ m up depends. elim (closed.events (in_table m) depends.0 up depends.2 d depends.1) [
@@ -256,13 +261,6 @@ mark s e = record { det = e.det; known = set.union e.known s }
 held-gathered_all : (xs : List Entry) (ts : List (List Entry)) (d : Determinant) → is_held (gathered_all xs ts) d ≡ (is_held xs d || list_any (λ t. is_held t d) ts)
 held-gathered_all xs [] d = grind arith
 held-gathered_all xs (t ∷ ts) d = rw (held-gathered_all (gathered xs t) ts d, held-gathered xs t d) grind arith
-
--- what holds of each entry of the tables, and of two that are joined, holds of each that is gathered
-module _ (Q : Entry → Type 0) (join : (x e : Entry) → Q x → Q e → x.det ≡ e.det → Q (joined x e)) where
-  gathered_all-keeps : (xs : List Entry) (ts : List (List Entry)) → All Q xs → All (λ t. All Q t) ts → All Q (gathered_all xs ts)
-  gathered_all-keeps xs [] all each = all
-  gathered_all-keeps xs (t ∷ ts) all each =
-      gathered_all-keeps (gathered xs t) ts (gathered-keeps Q join xs t all (All-head (λ t. All Q t) t ts each)) (All-tail (λ t. All Q t) t ts each)
 
 module _ {S N : Type 0} where
   -- what recovery gathers has no determinant twice

@@ -11,7 +11,7 @@ pub use Rattle.fbl_base.specs.Configs.{Settings}
 pub use Rattle.fbl_base.specs.Fold.{Next}
 pub use Rattle.fbl_base.specs.MemberSets.{Members}
 pub use Rattle.fbl_base.specs.Events.{mark_of, receipt_of, receipts, same_determinant}
-pub use Rattle.fbl_base.proofs.Holding.{Decides-same_determinant}
+pub use Rattle.fbl_base.proofs.AuditLaws.{Decides-same_determinant}
 pub use Rattle.fbl_base.specs.Precedence.{Has, itself}
 pub use Rattle.fbl_base.specs.declared.strike.Strike.{Strike}
 pub use Rattle.fbl_base.specs.declared.trace.Determinant.{Determinant}

@@ -19,7 +19,7 @@ pub use Rattle.std.specs.Ordering.{nat_cmp}
 pub use Rattle.std.specs.Prelude.{nat_lt}
 pub use Rattle.std.specs.Vec.{vec_capacity}
 pub use Rattle.fbl_base.proofs.Gets.{drop_next, length-filter_map, length-left}
-pub use Rattle.fbl_base.proofs.Holding.{Decides-same_determinant}
+pub use Rattle.fbl_base.proofs.AuditLaws.{Decides-same_determinant}
 pub use Rattle.fbl_base.proofs.Sets.{len-within}
 pub use Rattle.fbl_base.specs.Events.{same_determinant}
 pub use Rattle.fbl_base.specs.MemberSets.{same_from_contains}

@@ -21,7 +21,7 @@ pub use Rattle.clap.specs.declared.error.kind.ErrorKind.TheVariants.{OutOfMemory
 pub use Rattle.clap.specs.declared.parser.matches.ArgMatches.{ArgMatches}
 pub use Rattle.clap.specs.declared.parser.matches.ArgMatches.TheViews.{out-ArgMatches, out-SubCommand}
 pub use Rattle.clap.specs.declared.parser.matches.SubCommand.{SubCommand}
-pub use Rattle.fbl_base.proofs.Holding.{or_false}
+pub use Rattle.fbl_base.proofs.AuditLaws.{or_false}
 pub use Rattle.fbl_base.specs.Configs.{WorkersAllowed}
 pub use Rattle.fbl_play.specs.Steps.{is_refusal}
 pub use Rattle.fbl_play.specs.declared.answer.Answer.{Answer}

@@ -1,5 +1,5 @@
 use Rattle.fbl_base.proofs.Common.{◌∙◌, arith, false≢true, sym}
-use Rattle.fbl_base.proofs.Holding.{Decides-is_received}
+use Rattle.fbl_base.proofs.AuditLaws.{Decides-is_received}
 use Rattle.fbl_base.proofs.audit.broken_rule.Goals as goal
 
 pub returns-then-not-contains : goal.returns-then-not-contains

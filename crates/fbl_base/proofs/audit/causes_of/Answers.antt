@@ -1,6 +1,6 @@
 use Rattle.fbl_base.proofs.Common.{◌≡◌, ap, arith, ◌∙◌, sym, length, refl, true, false≢true, slice_get_read, At}
 use Rattle.fbl_base.proofs.ClockLaws.{same_event}
-use Rattle.fbl_base.proofs.CauseLaws.{causes_all, causes_more, causes_same}
+use Rattle.fbl_base.proofs.AuditLaws.{causes_all, causes_more, causes_same}
 use Rattle.fbl_base.proofs.audit.causes_of.Goals as goal
 
 pub loop-place-preserved : goal.loop-place-preserved

@@ -1,4 +1,4 @@
-use Rattle.fbl_base.proofs.CauseLaws.{AreCausesBy}
+use Rattle.fbl_base.proofs.AuditLaws.{AreCausesBy}
 use Rattle.fbl_base.proofs.audit.causes_of.Given as goal
 
 abbrev pub invariant-loop-place : goal.invariant-loop-place

@@ -1,6 +1,6 @@
 use Rattle.fbl_base.proofs.Common.{add-one, refl, slice_get_read}
 use Rattle.fbl_base.proofs.Gets.{each_all, each_more, take-more}
-use Rattle.fbl_base.proofs.Holding.{WellFormed-below}
+use Rattle.fbl_base.proofs.AuditLaws.{WellFormed-below}
 use Rattle.fbl_base.proofs.audit.first_bad_event.Goals as goal
 
 pub loop-place-preserved : goal.loop-place-preserved

@@ -1,5 +1,5 @@
 use Rattle.fbl_base.proofs.Common.{arith}
-use Rattle.fbl_base.proofs.Holding.{more}
+use Rattle.fbl_base.proofs.AuditLaws.{more}
 use Rattle.fbl_base.proofs.audit.receipts.Goals as goal
 
 pub loop-event-preserved : goal.loop-event-preserved

@@ -1,5 +1,5 @@
 use Rattle.fbl_base.proofs.Common.{sym, ◌∙◌, arith, cases_eq, inl, inr, false≢true, slice_get-get_or, slice_get_within, get_or_from_slice_get}
-use Rattle.fbl_base.proofs.CauseLaws.{cause_before, first_right}
+use Rattle.fbl_base.proofs.AuditLaws.{cause_before, first_right}
 use Rattle.fbl_base.proofs.audit.Audit.first_cause.Goals as goal
 
 pub returns-then-depends : goal.returns-then-depends

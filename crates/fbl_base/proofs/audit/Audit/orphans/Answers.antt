@@ -1,6 +1,6 @@
 use Rattle.fbl_base.proofs.Common.{ℕ, ◌≡◌, ◌∙◌, ap, sym, arith, inl, inr, false≢true, nat_cmp, IsCause}
 use Rattle.std.specs.FinSet as set
-use Rattle.fbl_base.proofs.CauseLaws.{has_cause, orphans_right, with_next}
+use Rattle.fbl_base.proofs.AuditLaws.{has_cause, orphans_right, with_next}
 use Rattle.fbl_base.proofs.audit.Audit.orphans.Goals as goal
 
 pub loop-number-init : goal.loop-number-init

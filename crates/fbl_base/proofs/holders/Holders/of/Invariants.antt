@@ -2,7 +2,7 @@
 use Rattle.fbl_base.proofs.Common.{◌≡◌, ◌||◌, ℕ, drop, list_any, unwrap_or, Determinant, same_determinant, holders_of}
 use Rattle.std.specs.FinSet as set
 use Rattle.std.specs.HashMap as hash_map
-use Rattle.fbl_base.proofs.Holding.{is_pair}
+use Rattle.fbl_base.proofs.AuditLaws.{is_pair}
 use Rattle.fbl_base.proofs.holders.Holders.of.Given as goal
 
 abbrev pub invariant-loop-holder : goal.invariant-loop-holder

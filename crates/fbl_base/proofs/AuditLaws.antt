@@ -1,0 +1,227 @@
+-- Which determinants a trace and the pairs of a dump have, who holds them, and the lost receipts that no lost one precedes.
+use Rattle.fbl_base.proofs.Common.{ℕ, ◌≡◌, Bool, false, not, ◌&&◌, ◌||◌, refl, sym, Decides, arith, nat_cmp, nat_tests, Any-from_list_any, list_any-from_Any, Determinant}
+use Rattle.fbl_base.proofs.Common.{and_parts, Parts, is_held_outside, same_determinant, or-false, not-true, IsHeldOutside, drop, ◌+◌, ◌<◌, true, List, [], ◌∷◌, length, take}
+use Rattle.fbl_base.proofs.Common.{get_or, Some, ap, ◌∙◌, list_any, cons_option, take_more, take-append-le, list_any-append, filter_map-append, get_or_from_slice_get, Mark, At}
+use Rattle.fbl_base.proofs.Common.{determinant_of, Has, ObeysAt, WellFormed, is_received, length-take, take-append-drop, slice_get-get_or, Send, Receipt, receipt_of, receipts}
+use Rattle.fbl_base.proofs.Common.{◌==◌, ◌↔◌, inl, inr, map, false≢true, cases_eq, eqb-true, nat_cmp_total, filter, Contains, Members, holders_of, ◌≤◌, ◌⊎◌, ◌++◌, slice_get}
+use Rattle.fbl_base.proofs.Common.{slice_get_within, cases_order, None, Option, MatchOption, contains-insert_same, contains-insert_other, IsDumpOrphan, IsLostAt, IsReached}
+use Rattle.fbl_base.proofs.Common.{IsCause, IsFirstCause, AreCauses, DependsOnPlace, same_place}
+use Rattle.std.specs.FinSet as set
+use Rattle.fbl_base.proofs.Gets.{At-front, At-below, At-filter_map, filter_map-At, At-seam, At-push}
+use Rattle.fbl_base.proofs.RulesLaws.{eqb-self}
+use Rattle.fbl_base.proofs.Sets.{len-remove_one, some_member}
+use Rattle.std.specs.Option.{is_some}
+use Rattle.fbl_base.proofs.ClockLaws.{member_within, not_later}
+use Rattle.fbl_base.proofs.PrecedenceLaws.{Precedes-joined, depends-from_places, places-from_depends, Has-first}
+
+abbrev holds_it : set.FinSet nat_cmp → Determinant → ℕ × Determinant → Bool
+holds_it strike d h = not (set.contains strike h.0) && same_determinant h.1 d
+
+pub or_false : (b : Bool) → b ≡ (b || false)
+or_false b = sym (or-false b)
+
+pub Decides-same_determinant : (a b : Determinant) → Decides (same_determinant a b) (a ≡ b)
+Decides-same_determinant a b = grind (arith, nat_tests)
+
+pub Decides-is_held_outside : (dump : Parts) (d : Determinant) → Decides (is_held_outside dump d) (IsHeldOutside dump d)
+Decides-is_held_outside dump d = (
+  λ h.
+      let a = Any-from_list_any (holds_it dump.strike d) dump.held h in
+      let b = and_parts (not (set.contains dump.strike a.1.0)) (same_determinant a.1.1 d) a.4 in
+      let is : a.1.1 ≡ d = (Decides-same_determinant a.1.1 d).0 b.1 in
+      (a.1.0, (a.0, a.2, (let pair : (a.1.0, d) ≡ a.1 = (λ i. (a.1.0, sym is i)) in rw pair a.3)), not-true (set.contains dump.strike a.1.0) b.0),
+  λ r. list_any-from_Any (holds_it dump.strike d) dump.held (r.1.0, (r.0, d), r.1.1, r.1.2, rw (r.2, (Decides-same_determinant d d).1 refl)),
+)
+
+pub ruleset held_outside = (Decides-is_held_outside)
+
+pub more : (events : List Mark) (i : ℕ) (e : Mark) (d : Determinant) → i < length events → e ≡ get_or events i e
+    → is_received (take (i + 1) events) d ≡ (is_received (take i events) d || list_any (λ x. same_determinant x d) (cons_option (determinant_of e) []))
+more events i e d below is = rw (take_more events i e below, ← is, filter_map-append determinant_of (take i events) (e ∷ []), list_any-append (λ x. same_determinant x d))
+
+pub is_receipt : (e : Mark) (d : Determinant) → determinant_of e ≡ Some d → e ≡ receipt_of d
+is_receipt (Send q s p) d h = cc
+is_receipt (Receipt p r q s) d h = (let e : ◌≡◌ {A = Determinant} (record { from = q; ssn = s; to = p; rsn = r }) d = cc in rw (← e))
+
+-- the test means that the events have the receipt
+pub Decides-is_received : (events : List Mark) (d : Determinant) → Decides (is_received events d) (Has events (receipt_of d))
+Decides-is_received events d = (has, received) where
+  has : is_received events d ≡ true → Has events (receipt_of d)
+  has h =
+      let a = Any-from_list_any (λ x. same_determinant x d) (receipts events) h in
+      let same : a.1 ≡ d = (Decides-same_determinant a.1 d).0 a.4 in
+      let b = At-filter_map determinant_of events a.0 a.1 (slice_get-get_or (receipts events) a.0 a.1 a.2 ∙ ap Some a.3) in
+      (b.0, b.2 ∙ ap Some (is_receipt b.1 a.1 b.3 ∙ ap receipt_of same))
+
+  received : Has events (receipt_of d) → is_received events d ≡ true
+  received has' =
+      let a = filter_map-At determinant_of events has'.0 (receipt_of d) d has'.1 refl in
+      list_any-from_Any (λ x. same_determinant x d) (receipts events)
+      (a.0, d, At-below _ a.0 d a.1, get_or_from_slice_get (receipts events) a.0 d d a.1, (Decides-same_determinant d d).1 refl)
+
+-- the front of a trace whose places obey the rules
+pub WellFormed-below : (n : ℕ) (t : List Mark) (i : ℕ) → ((j : ℕ) → j < i → ObeysAt n t j) → WellFormed n (take i t)
+WellFormed-below n t i obeyed j e at =
+    let below : j < length (take i t) = At-below (take i t) j e at in
+    let within : j < i = omega (arith, length-take i t) in
+    let whole : At t j e = (rw take-append-drop at (At-front (take i t) (drop i t) j e at)) in
+    let front : take j (take i t) ≡ take j t = (rw take-append-drop at (sym (take-append-le j (take i t) (drop i t) (omega (arith, below))))) in
+    rw front (obeyed j within e whole)
+
+abbrev pub is_pair : Determinant → ℕ → ℕ × Determinant → Bool
+is_pair d holder h = same_determinant h.1 d && (h.0 == holder)
+
+any_holder : (d : Determinant) (holder : ℕ) (held : List (ℕ × Determinant))
+    → list_any (λ y. y == holder) (map (λ h. h.0) (filter (λ h. same_determinant h.1 d) held)) ≡ list_any (is_pair d holder) held
+any_holder d holder [] = refl
+any_holder d holder (x ∷ xs) = (let rest = any_holder d holder xs in grind (arith, rest))
+
+pub contains-holders : (dump : Parts) (d : Determinant) (holder : ℕ) → set.contains (holders_of dump d) holder ≡ list_any (is_pair d holder) dump.held
+contains-holders dump d holder = set.contains-from_list_nat _ holder ∙ any_holder d holder dump.held
+
+-- the holders are exactly those that the pairs name
+pub holds : (dump : Parts) (d : Determinant) (holder : ℕ) → (set.contains (holders_of dump d) holder ≡ true) ↔ Contains dump.held (holder, d)
+holds dump d holder = (
+  λ h.
+      let a = Any-from_list_any (is_pair d holder) dump.held (sym (contains-holders dump d holder) ∙ h) in
+      let b = and_parts (same_determinant a.1.1 d) (a.1.0 == holder) a.4 in
+      let det : a.1.1 ≡ d = (Decides-same_determinant a.1.1 d).0 b.0 in
+      let member : a.1.0 ≡ holder = eqb-true a.1.0 holder b.1 in
+      (a.0, a.2, (let pair : (holder, d) ≡ a.1 = (λ i. (sym member i, sym det i)) in rw pair a.3)),
+  λ r. contains-holders dump d holder ∙ list_any-from_Any (is_pair d holder) dump.held (r.0, (holder, d), r.1, r.2, (rw ((Decides-same_determinant d d).1 refl, eqb-self holder))),
+)
+
+-- the determinant is lost exactly where nobody outside the strike set is among its holders
+pub lost_test : (dump : Parts) (d : Determinant) → (set.len (set.difference (holders_of dump d) dump.strike) == 0) ≡ not (is_held_outside dump d)
+lost_test dump d = by_test (is_held_outside dump d) refl where
+  outside : (q : ℕ) → (set.contains (set.difference (holders_of dump d) dump.strike) q ≡ true) ↔ ((set.contains dump.strike q ≡ false) × (set.contains (holders_of dump d) q ≡ true))
+  outside q = grind (arith, set.contains-difference nat_cmp_total (holders_of dump d) dump.strike q)
+
+  left : Members
+  left = set.difference (holders_of dump d) dump.strike
+
+  by_test : (b : Bool) → is_held_outside dump d ≡ b → (set.len left == 0) ≡ not b
+  by_test true is =
+      let held = (Decides-is_held_outside dump d).0 is in
+      let one = len-remove_one left held.0 ((outside held.0).1 (held.2, (holds dump d held.0).1 held.1)) in
+      grind (arith, nat_tests, one)
+  by_test false is = elim (cases_eq (set.len left) 0) [
+    | inl none ↦ grind (arith, nat_tests)
+    | inr more ↦
+        let q = some_member left (omega (arith, more)) in
+        let out = (outside q.0).0 q.1 in
+        absurd (false≢true (sym is ∙ (Decides-is_held_outside dump d).1 (q.0, (holds dump d q.0).0 out.1, out.0)))
+  ]
+
+-- the places among the first p events
+pub record AreCausesBy (dump : Parts) (p : ℕ) (places : List ℕ) : Type 0 where
+  pub lost : (k i : ℕ) → slice_get places k ≡ Some i → (i < p) × IsLostAt dump i
+  pub all : (i : ℕ) → i < p → IsLostAt dump i → IsReached dump.events places i
+  pub rise : (k l i j : ℕ) → k < l → slice_get places k ≡ Some i → slice_get places l ≡ Some j → i < j
+
+-- the next event is no lost receipt, or one is known that precedes it
+pub causes_same : (dump : Parts) (p : ℕ) (places : List ℕ) → AreCausesBy dump p places → (IsLostAt dump p → IsReached dump.events places p) → AreCausesBy dump (p + 1) places
+causes_same dump p places causes known = record {
+  lost = λ k i at. (let c = causes.lost k i at in (omega (arith, c.0), c.1));
+  all = λ i within lost. elim (cases_eq i p) [
+    | inl here ↦ rw here (known (rw here at lost))
+    | inr ne ↦ causes.all i (omega (arith, within, ne)) lost
+  ];
+  rise = causes.rise;
+}
+
+-- the next event is a lost receipt
+pub causes_more : (dump : Parts) (p : ℕ) (places : List ℕ) → AreCausesBy dump p places → IsLostAt dump p → AreCausesBy dump (p + 1) (places ++ p ∷ [])
+causes_more dump p places causes lost = record {
+  lost = λ k i at. elim (At-push places p k i at) [
+    | inl old ↦ (let c = causes.lost k i old in (omega (arith, c.0), c.1))
+    | inr new ↦ (omega (arith, new.1), rw (← new.1) lost)
+  ];
+  all = λ i within is. elim (cases_eq i p) [
+    | inl here ↦ (length places, p, At-seam places p [], rw here (same_place lost.1))
+    | inr ne ↦ (let r = causes.all i (omega (arith, within, ne)) is in (r.0, r.1, At-front places (p ∷ []) r.0 r.1 r.2, r.3))
+  ];
+  rise = λ k l i j below at_i at_j. elim (At-push places p l j at_j) [
+    | inl old_j ↦ elim (At-push places p k i at_i) [
+      | inl old_i ↦ causes.rise k l i j below old_i old_j
+      | inr new_i ↦ (let within = slice_get_within places l j old_j in absurd (omega (arith, new_i.0, below, within)))
+    ]
+    | inr new_j ↦ elim (At-push places p k i at_i) [
+      | inl old_i ↦ (let c = causes.lost k i old_i in omega (arith, c.0, new_j.1))
+      | inr new_i ↦ absurd (omega (arith, new_i.0, new_j.0, below))
+    ]
+  ];
+}
+
+-- at the end these are the causes
+pub causes_all : (dump : Parts) (p : ℕ) (places : List ℕ) → AreCausesBy dump p places → length dump.events ≤ p → AreCauses dump places
+causes_all dump p places causes end = record {
+  lost = λ k i at. (causes.lost k i at).1;
+  all = λ i lost. causes.all i (let within = At-below dump.events i lost.0 lost.1 in omega (arith, within, end)) lost;
+  rise = causes.rise;
+}
+
+-- who depends on a lost receipt depends on one of the causes that stands no later
+pub cause_before : (dump : Parts) (places : List ℕ) → AreCauses dump places → (q i : ℕ) → IsCause dump q i
+    → (k : ℕ) × (c : ℕ) × (slice_get places k ≡ Some c) × DependsOnPlace dump.events q c × (c ≤ i)
+cause_before dump places causes q i cause =
+    let r = causes.all i cause.0 in
+    let d = cause.1 in
+    (r.0, r.1, r.2, (d.0, d.1, Precedes-joined r.3 d.2, d.3, d.4), not_later r.3)
+
+-- a member is an orphan exactly where it is left and has a cause
+pub orphan_by_cause : (dump : Parts) (q : ℕ) → WellFormed dump.members dump.events
+    → IsDumpOrphan dump q ↔ (set.contains dump.strike q ≡ false) × ((i : ℕ) × IsCause dump q i)
+orphan_by_cause dump q obeys = (
+  λ orphan.
+      let has = Has-first orphan.1.2.1 in
+      (orphan.0, (has.0, ((orphan.1.0, has.1, orphan.1.1), places-from_depends dump.members dump.events obeys q has.0 orphan.1.0 has.1 orphan.1.2))),
+  λ is. (is.0, (is.1.1.0.0, is.1.1.0.2, depends-from_places dump.events q is.1.0 is.1.1.0.0 is.1.1.0.1 is.1.1.1)),
+)
+
+-- the first cause on which the member depends
+pub first_right : (dump : Parts) (places : List ℕ) → AreCauses dump places → (q k c : ℕ) → slice_get places k ≡ Some c → DependsOnPlace dump.events q c
+    → ((l i : ℕ) → l < k → slice_get places l ≡ Some i → ¬ (DependsOnPlace dump.events q i)) → IsFirstCause dump q c
+first_right dump places causes q k c at depends none = (
+  (causes.lost k c at, depends),
+  λ i before cause.
+      let b = cause_before dump places causes q i cause in
+      elim (cases_order b.0 k) [
+        | inl here ↦ (let same : Some b.1 ≡ Some c = sym b.2 ∙ (rw here at) in let is : b.1 ≡ c = cc in omega (arith, is, b.4, before))
+        | inr other ↦ elim other [
+          | inl less ↦ none b.0 b.1 less b.2 b.3
+          | inr more ↦ (let rises = causes.rise k b.0 c b.1 more at b.2 in omega (arith, rises, b.4, before))
+        ]
+      ],
+)
+
+-- who has a first one
+pub has_cause : (dump : Parts) (q : ℕ) (o : Option ℕ) → MatchOption o ((i : ℕ) → ¬ (IsCause dump q i)) (IsFirstCause dump q) → (is_some o ≡ true) ↔ ((i : ℕ) × IsCause dump q i)
+has_cause dump q None none = (λ h. cc, λ is. absurd (none is.0 is.1))
+has_cause dump q (Some i) first = (λ h. (i, first.0), λ is. refl)
+
+-- a set that is made of the members below n of which P holds, with one more
+pub with_next : (P : ℕ → Type 0) (s new : Members) (n : ℕ) → ((q : ℕ) → (set.contains s q ≡ true) ↔ (q < n) × P q)
+    → ((P n × (new ≡ set.insert s n)) ⊎ (¬ (P n) × (new ≡ s))) → (q : ℕ) → (set.contains new q ≡ true) ↔ (q < n + 1) × P q
+with_next P s new n are next q = elim (cases_eq q n) [
+  | inl here ↦ rw here (elim next [
+    | inl own ↦ rw own.1 (λ h. (omega arith, own.0), λ h. contains-insert_same s n)
+    | inr other ↦ rw other.1 (λ h. (let was = (are n).0 h in absurd (omega (arith, was.0))), λ h. absurd (other.0 h.1))
+  ])
+  | inr ne ↦ elim next [
+    | inl own ↦ (rw (own.1, contains-insert_other s n q ne) (λ h. (let was = (are q).0 h in (omega (arith, was.0), was.1)), λ h. (are q).1 (omega (arith, h.0, ne), h.1)))
+    | inr other ↦ (rw other.1 (λ h. (let was = (are q).0 h in (omega (arith, was.0), was.1)), λ h. (are q).1 (omega (arith, h.0, ne), h.1)))
+  ]
+]
+
+-- the members that have a cause, without those that are struck, are the orphans
+pub orphans_right : (dump : Parts) → WellFormed dump.members dump.events → dump.members ≤ 16 → (found : Members)
+    → ((q : ℕ) → (set.contains found q ≡ true) ↔ (q < 16) × ((i : ℕ) × IsCause dump q i)) → (q : ℕ)
+    → (set.contains (set.difference found dump.strike) q ≡ true) ↔ IsDumpOrphan dump q
+orphans_right dump obeys few found are q =
+    let orphan = orphan_by_cause dump q obeys in
+    let left = set.contains-difference nat_cmp_total found dump.strike q in
+    let below : (i : ℕ) × IsCause dump q i → q < 16 = λ is. (let d = is.1.1 in (rw (← d.4) (member_within dump.members dump.events d.0 d.1 obeys few d.3))) in (
+      λ h. (let is = (are q).0 (grind (arith, left, h)) in orphan.1 (grind (arith, left, h), is.1)),
+      λ o. (let why = orphan.0 o in let is = (are q).1 (below why.1, why.1) in grind (arith, left, is, why.0)),
+    )
