@@ -122,14 +122,9 @@ taken-sent n t obeys q p s j at =
 pub sent-rises : (n : ℕ) (t : List Mark) → WellFormed n t → (q p x y : ℕ) → Apart (filter_map (sent_on q p) t) x y → x < y
 sent-rises n t obeys q p x y apart =
     let r = Apart-filter_map (sent_on q p) t x y apart in
-    let ex = is_sent q p x r.0 r.3 in
-    let ey = is_sent q p y r.1 r.4 in
-    let at_x : At t r.2.0 (Send q x p) = r.2.3 ∙ ap Some ex in
-    let at_y : At t r.2.1 (Send q y p) = r.2.4 ∙ ap Some ey in
-    let number_y = obeys r.2.1 (Send q y p) at_y in
-    let front : At (take r.2.1 t) r.2.0 (Send q x p) = slice_get-take t r.2.1 r.2.0 (Send q x p) r.2.2 at_x in
-    let below = sent-number n (take r.2.1 t) (WellFormed-take n r.2.1 t obeys) q x p (r.2.0, front) in
-    omega (arith, number_y.3, below)
+    let at_y : At t r.2.1 (Send q y p) = r.2.4 ∙ ap Some (is_sent q p y r.1 r.4) in
+    let front = slice_get-take t r.2.1 r.2.0 (Send q x p) r.2.2 (r.2.3 ∙ ap Some (is_sent q p x r.0 r.3)) in
+    omega (arith, (obeys r.2.1 (Send q y p) at_y).3, sent-number n (take r.2.1 t) (WellFormed-take n r.2.1 t obeys) q x p (r.2.0, front))
 
 -- a test that each element passes keeps the list
 pub filter_all : {X : Type 0} (p : X → Bool) (xs : List X) → ((i : ℕ) (x : X) → slice_get xs i ≡ Some x → p x ≡ true) → filter p xs ≡ xs

@@ -1,7 +1,7 @@
 -- How many members sets have, and operations on bits as operations on sets.
 use Rattle.fbl_base.proofs.Common.{ℕ, zero, suc, ◌+◌, ◌-◌, ◌<◌, ◌≤◌, ◌≡◌, true, false, cond, ◌||◌, List, [], ◌∷◌, refl, sym, ap, ◌∙◌, arith, inl, inr, cases_eq, false≢true}
 use Rattle.fbl_base.proofs.Common.{list_any, nat_cmp, unsigned_tied, nat_cmp_total, same_from_contains, eq-eqb, eq_by_cmp, ◌*◌, nat_tests, contains-insert_other, ◌/◌, ◌%◌, ◌^◌}
-use Rattle.fbl_base.proofs.Common.{eqb, bit_and, bit_or, w16, cases_lt, bit_at-lt, bit_at_or, bit_at_and, bit_at_not, bit_at_above, bit_at_set_same, bit_at_set_other, shr_and_one}
+use Rattle.fbl_base.proofs.Common.{eqb, bit_and, bit_or, w16, bit_at-lt, bit_at_or, bit_at_and, bit_at_not, bit_at_above, bit_at_set_same, bit_at_set_other, shr_and_one}
 use Rattle.fbl_base.proofs.Common.{bit_at-zero, mod-lt, or_lt, and_le_l, bit_at, ones_step, contains-insert_same, contains-members_where, contains-set_of, has_one, bit_at-suc}
 use Rattle.fbl_base.proofs.Common.{bit_at_lowest, Bool}
 use Rattle.std.specs.FinSet as set
@@ -77,10 +77,7 @@ difference_bits a b wa wb = same-bits (bit_and a (65535 - b)) _ (omega (arith, w
     let y = bit_at-lt b q in
     let past = bit_at_above a 16 q wa in
     let other = bit_at_not w16 b q wb in
-    rw (set.contains-difference nat_cmp_total, contains-set_of a q wa, contains-set_of b q wb, bit_at_and a (65535 - b) q) (elim (cases_lt q 16) [
-      | inl below ↦ grind (arith, nat_tests, x, y, other below)
-      | inr above ↦ grind (arith, nat_tests, past above)
-    ]))
+    rw (set.contains-difference nat_cmp_total, contains-set_of a q wa, contains-set_of b q wb, bit_at_and a (65535 - b) q) (grind (arith, nat_tests, x, y, past, other)))
 
 pub insert_bits : (b m : ℕ) → b < 65536 → m < 16 → set_of (bit_or b (1 * 2 ^ m % 65536)) ≡ set.insert (set_of b) m
 insert_bits b m wb wm = same-bits (bit_or b (1 * 2 ^ m % 65536)) _ (or_lt 16 b (1 * 2 ^ m % 65536) wb (mod-lt (1 * 2 ^ m) (let z : 0 < 65536 = omega arith in z))) (λ q.

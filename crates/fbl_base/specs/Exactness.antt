@@ -3,8 +3,7 @@ use Rattle.std.specs.Prelude.{◌≡◌, ◌↔◌, ℕ, ◌==◌, ◌&&◌, Boo
 use Rattle.std.specs.Cmp.Lexicographic.{pointwise}
 use Rattle.std.specs.Bool.{Decides}
 use Rattle.std.proofs.Common.{ap, arith, refl}
-use Rattle.std.proofs.lemmas.Bool.{false≢true}
-use Rattle.std.proofs.lemmas.Bool.Decides.{nat_tests}
+use Rattle.std.proofs.lemmas.Bool.Decides.{Decides-and, Decides-like, nat_tests}
 use Rattle.std.proofs.lemmas.Slice.Eq.{slice_eq-Decides}
 
 -- the test answers `true` for equal values alone
@@ -31,9 +30,5 @@ pub exact_fields : {T A B : Type 0} {same_first : A → A → Bool} {same_second
     → ((s t : T) → first s ≡ first t → second s ≡ second t → s ≡ t) → IsExact same_first → IsExact same_second
     → IsExact (λ (s t : T). same_first (first s) (first t) && same_second (second s) (second t))
 exact_fields {same_first = same_first} {same_second = same_second} first second whole exact_first exact_second s t =
-    both (same_first (first s) (first t)) (same_second (second s) (second t)) (exact_first (first s) (first t)) (exact_second (second s) (second t)) where
-      both : (a b : Bool) → IsTrue a ↔ (first s ≡ first t) → IsTrue b ↔ (second s ≡ second t) → IsTrue (a && b) ↔ (s ≡ t)
-      both true true one two = ((λ same. whole s t (one.0 refl) (two.0 refl)), λ same. refl)
-      both true false one two = ((λ same. absurd (false≢true same)), λ same. two.1 (ap second same))
-      both false true one two = ((λ same. absurd (false≢true same)), λ same. one.1 (ap first same))
-      both false false one two = ((λ same. absurd (false≢true same)), λ same. one.1 (ap first same))
+    let fields = Decides-and (same_first (first s) (first t)) (same_second (second s) (second t)) (decides _ (exact_first (first s) (first t))) (decides _ (exact_second (second s) (second t))) in
+    holds (same_first (first s) (first t) && same_second (second s) (second t)) (Decides-like _ (λ is. whole s t is.0 is.1) (λ same. (ap first same, ap second same)) fields)
