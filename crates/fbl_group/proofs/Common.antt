@@ -30,7 +30,7 @@ pub use Rattle.fbl_base.specs.Fold.{Next, step_events}
 pub use Rattle.fbl_base.specs.MemberSets.{AllBelow, Members}
 pub use Rattle.fbl_base.specs.Precedence.{Has, itself}
 pub use Rattle.fbl_base.specs.Rules.{in_flight, sent_on, taken_on}
-pub use Rattle.fbl_base.specs.Steps.{SendsAllowed}
+pub use Rattle.fbl_base.specs.Steps.{SendsAllowed, SendsWell}
 pub use Rattle.fbl_base.specs.declared.outcome.Outcome.{Outcome}
 pub use Rattle.fbl_base.specs.declared.trace.Determinant.{Determinant}
 pub use Rattle.fbl_base.specs.declared.trace.Event.{Event}
@@ -51,7 +51,6 @@ pub use Rattle.fbl_law.proofs.ReplayLaws.{count_in-same, replaying-room, replayi
 pub use Rattle.fbl_law.proofs.Safe.{IsRecorded-before, down_or_both_up, down_or_up, no_orphan, up_if_none}
 pub use Rattle.fbl_law.proofs.WeightKept.{flow, into, out, weight_in, weight_on}
 pub use Rattle.fbl_law.specs.Promises.{pairs_from, pairs_of}
-pub use Rattle.fbl_law.specs.GroupLaws.{SendsWell}
 pub use Rattle.fbl_law.specs.GroupSteps.{IsCheckpoint, IsDelivery, IsRecovery, IsStrike, delivery_events, message_of_send, start_events, step_of, between, gathered_all, is_on}
 pub use Rattle.fbl_law.specs.GroupSteps.{recovery_table, saved_tables, taken_off, IsRebuilt, IsReplaying, IsWaiting, count_in, is_replayed, recovered_trace, replayed_in, resent}
 pub use Rattle.fbl_law.specs.GroupSteps.{resent_to, sent_again, stays_by, working}

@@ -115,7 +115,6 @@ module _ {N : Type 0} where
       rw (now, map-append send_mark, map-append (λ ssn. Send q ssn p), messages_between made q p)
       grind (arith, was, drop-map send_mark 1 channel, drop-map (λ ssn. Send q ssn p) 1 (in_flight t q p))
 
-module _ {N : Type 0} where
   -- the log's numbers beyond one
   beyond-sent : (t : List (Event N)) (q p k : ℕ) → map (λ (s : ℕ × N). s.0) (logged_beyond (filter_map (logged_of q) t) p k)
       ≡ filter (λ x. nat_lt k x) (filter_map (sent_on q p) (map mark_of t))
@@ -171,20 +170,19 @@ in_flight-outside n t q p obeys out = at (in_flight t q p) refl where
       let may = obeys sent.0 (Send q x p) sent.1 in
       absurd (omega (arith, out, may.0, may.1))
 
-module _ {S N : Type 0} where
-  -- and there is no channel but between them, so one is made again if it is where it is between members
-  pub made-again-if : (r : GroupRecord S N) (q p : ℕ) → WellFormed r.config.members (marks r) → HasChannels r.config.members r.channels
-      → (q < r.config.members → p < r.config.members → IsMadeAgain r q p) → IsMadeAgain r q p
-  made-again-if r q p obeys shape inside = elim (cases_lt q r.config.members) [
-    | inr past ↦ outside (inl past)
-    | inl below ↦ elim (cases_lt p r.config.members) [ inr past ↦ outside (inr past) | inl below_p ↦ inside below below_p ]
-  ]
-    where
-      outside : (r.config.members ≤ q) ⊎ (r.config.members ≤ p) → IsMadeAgain r q p
-      outside out =
-          let none : channel r q p ≡ [] = grind (arith, shape.senders, shape.receivers q, get_or_past r.channels q [], get_or_past (get_or r.channels q []) p []) in
-          record {
-            sends = ap (map send_mark) none ∙ sym (ap (map (λ ssn. Send q ssn p)) (in_flight-outside r.config.members (marks r) q p obeys out));
-            notes = λ v among. absurd (Contains-none v (rw none at among));
-            carried = λ v among. absurd (Contains-none v (rw none at among));
-          }
+-- and there is no channel but between them, so one is made again if it is where it is between members
+pub made-again-if : {S N : Type 0} → (r : GroupRecord S N) (q p : ℕ) → WellFormed r.config.members (marks r) → HasChannels r.config.members r.channels
+    → (q < r.config.members → p < r.config.members → IsMadeAgain r q p) → IsMadeAgain r q p
+made-again-if r q p obeys shape inside = elim (cases_lt q r.config.members) [
+  | inr past ↦ outside (inl past)
+  | inl below ↦ elim (cases_lt p r.config.members) [ inr past ↦ outside (inr past) | inl below_p ↦ inside below below_p ]
+]
+  where
+    outside : (r.config.members ≤ q) ⊎ (r.config.members ≤ p) → IsMadeAgain r q p
+    outside out =
+        let none : channel r q p ≡ [] = grind (arith, shape.senders, shape.receivers q, get_or_past r.channels q [], get_or_past (get_or r.channels q []) p []) in
+        record {
+          sends = ap (map send_mark) none ∙ sym (ap (map (λ ssn. Send q ssn p)) (in_flight-outside r.config.members (marks r) q p obeys out));
+          notes = λ v among. absurd (Contains-none v (rw none at among));
+          carried = λ v among. absurd (Contains-none v (rw none at among));
+        }

@@ -40,6 +40,7 @@ pub use Rattle.fbl_base.specs.Fold.{start_of, starts_of, step_events, took}
 pub use Rattle.fbl_base.specs.MemberSets.{AllBelow, Members, contains-members_where, contains-union, contains-insert_other, contains-insert_same, members_where}
 pub use Rattle.fbl_base.specs.Precedence.{Depends, Earlier, Has, Leads, Precedes, itself, step}
 pub use Rattle.fbl_base.specs.Rules.{MayFollow, WellFormed, in_flight, is_receipt_of, is_send_of, receipts_of, sends_of, sent_on, taken_on}
+pub use Rattle.fbl_base.specs.Steps.{SendsWell}
 pub use Rattle.fbl_base.specs.declared.trace.Determinant.{Determinant}
 pub use Rattle.fbl_base.specs.declared.trace.Event.{Event}
 pub use Rattle.fbl_base.specs.declared.trace.Mark.{Mark}
@@ -54,8 +55,8 @@ pub use Rattle.fbl_table.specs.Tables.{found, gathered, held_by, is_held, is_of_
 pub use Rattle.fbl_table.specs.declared.entry.Entry.{Entry}
 pub use Rattle.fbl_law.specs.Promises.{dump_of, held_pairs, pairs_from, pairs_of, GainsHolders, HoldsEachReceipt, IsHeldBy, LeavesRecorded, RecordsCauses, RecordsFirst}
 pub use Rattle.fbl_law.specs.Promises.{SurvivorsHold}
-pub use Rattle.fbl_law.specs.GroupLaws.{CheckpointIsRecorded, GainsTheDown, GroupCheckpointKeeps, OfRecovery, RecordedTest, RunIsSound, SendsWell, StaysIsRecorded, checkpoints}
-pub use Rattle.fbl_law.specs.GroupLaws.{delivers, recovers, starts, strikes}
+pub use Rattle.fbl_law.specs.GroupLaws.{CheckpointIsRecorded, GainsTheDown, GroupCheckpointKeeps, OfRecovery, RecordedTest, RunIsSound, StaysIsRecorded, checkpoints, delivers}
+pub use Rattle.fbl_law.specs.GroupLaws.{recovers, starts, strikes}
 pub use Rattle.fbl_law.specs.GroupSteps.{IsCheckpoint, IsDelivery, IsGroupStart, IsMadeAgain, IsRecovery, IsStrike, delivery_events, made, message_of_send, receiver, start_events}
 pub use Rattle.fbl_law.specs.GroupSteps.{step_of, IsEventCut, Stays, UpTo, between, gathered_all, is_on, recovery_table, saved_tables, taken_off, IsNextReplay, IsRebuilt}
 pub use Rattle.fbl_law.specs.GroupSteps.{IsReplaying, IsWaiting, count_in, before_lost, is_lost, is_replayed, recovered_trace, replayed_in, resent, resent_to, sent_again, stays_by}

@@ -121,17 +121,16 @@ take-kept keep zero xs all = refl
 take-kept keep (suc k) [] all = refl
 take-kept {X} keep (suc k) (x ∷ xs) all = rw (all 0 x (omega arith) refl) (ap (λ (ys : List X). x ∷ ys) (take-kept keep k xs (λ i y below. all (suc i) y (omega arith))))
 
-module _ {S N : Type 0} where
-  -- a front of a run's actions that ends where a note comes next, or at their end, has the actions of a run
-  front_responds : (next : Next S N) (p n : ℕ) (state : S) (sends : List (ℕ × N)) (notes : List N) (xs rest : List (Action N))
-      → ((y : Action N) (ys : List (Action N)) → rest ≡ y ∷ ys → IsNote y) → xs ++ rest ≡ map sent sends ++ responses next p n state notes
-      → xs ≡ map sent sends ++ responses next p n state (notes_of xs)
-  front_responds next p n state [] notes [] rest ends is = refl
-  front_responds next p n state (s ∷ sends) notes [] rest ends is = absurd (ends (sent s) _ is)
-  front_responds next p n state [] (note ∷ notes) (took x ∷ xs) rest ends is =
-      cc (front_responds next p n (next.step p n state note).state (next.step p n state note).sends.items notes xs rest ends (cc))
-  front_responds next p n state (s ∷ sends) notes (sent x ∷ xs) rest ends is = cc (front_responds next p n state sends notes xs rest ends (cc))
-  front_responds _ _ _ _ _ _ _ _ ends is = absurd cc
+-- a front of a run's actions that ends where a note comes next, or at their end, has the actions of a run
+front_responds : {S N : Type 0} → (next : Next S N) (p n : ℕ) (state : S) (sends : List (ℕ × N)) (notes : List N) (xs rest : List (Action N))
+    → ((y : Action N) (ys : List (Action N)) → rest ≡ y ∷ ys → IsNote y) → xs ++ rest ≡ map sent sends ++ responses next p n state notes
+    → xs ≡ map sent sends ++ responses next p n state (notes_of xs)
+front_responds next p n state [] notes [] rest ends is = refl
+front_responds next p n state (s ∷ sends) notes [] rest ends is = absurd (ends (sent s) _ is)
+front_responds next p n state [] (note ∷ notes) (took x ∷ xs) rest ends is =
+    cc (front_responds next p n (next.step p n state note).state (next.step p n state note).sends.items notes xs rest ends (cc))
+front_responds next p n state (s ∷ sends) notes (sent x ∷ xs) rest ends is = cc (front_responds next p n state sends notes xs rest ends (cc))
+front_responds _ _ _ _ _ _ _ _ ends is = absurd cc
 
 -- the notes of what is left
 module _ {N : Type 0} (n : ℕ) (keep : Mark → Bool) (t : List (Event N)) (obeys : WellFormed n (map mark_of t)) (causes : KeepsCauses keep (map mark_of t)) where

@@ -13,6 +13,10 @@ use Rattle.fbl_law.proofs.Lists.{Contains-from_filter, Contains-place, Contains-
 use Rattle.fbl_law.proofs.Safe.{never_both, up_if_none, nobody_down_empty}
 use Rattle.fbl_law.proofs.ReplayedRecords.{sent-noted, replayed-fresh, replayed-fold}
 
+none_taken : (q p : ℕ) (t : List Mark) → filter_map determinant_of t ≡ [] → filter_map (taken_on q p) t ≡ []
+none_taken q p [] e = refl
+none_taken q p (x ∷ t) e = grind (arith, none_taken q p t)
+
 module _ {N : Type 0} where
   -- the send of a start after the events so far
   abbrev send_of : List (Event N) → Start N → Event N
@@ -50,11 +54,6 @@ module _ {N : Type 0} where
       let more : WellFormed n (map mark_of (done ++ send_of done s ∷ [])) = rw (map-append mark_of done (send_of done s ∷ [])) (WellFormed-push n (map mark_of done) e obeys may) in
       starts_obey n allowed_note (done ++ send_of done s ∷ []) ss more (λ i x at. allowed (suc i) x at) (omega (arith, length-append done (send_of done s ∷ []), room))
 
-none_taken : (q p : ℕ) (t : List Mark) → filter_map determinant_of t ≡ [] → filter_map (taken_on q p) t ≡ []
-none_taken q p [] e = refl
-none_taken q p (x ∷ t) e = grind (arith, none_taken q p t)
-
-module _ {N : Type 0} where
   -- the messages of the sends on a channel, by their marks
   marks_between : (q p : ℕ) (t : List (Event N)) → map send_mark (filter (is_on q p) (filter_map message_of_send t)) ≡ map (λ ssn. Send q ssn p) (filter_map (sent_on q p) (map mark_of t))
   marks_between q p [] = refl

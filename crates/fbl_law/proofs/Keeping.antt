@@ -174,9 +174,8 @@ module _ {S N : Type 0} (next : Next S N) (old new : GroupRecord S N) (struck : 
     counted = rw (s.trace, s.undone_ever, s.receipts_ever) sound.counted;
   }
 
-module _ {S N : Type 0} where
-  pub recorded_test : RecordedTest S N
-  recorded_test next r d sound = Decides-recorded r.config.f (knowledge r) sound.causes.down d
+pub recorded_test : {S N : Type 0} → RecordedTest S N
+recorded_test next r d sound = Decides-recorded r.config.f (knowledge r) sound.causes.down d
 
 -- the receipts of a member's checkpoint are recorded
 pub checkpoint_is_recorded : (S N : Type 0) → CheckpointIsRecorded S N

@@ -16,11 +16,10 @@ receives : (e b : Mark) → send_of e ≡ Some b → (d : Determinant) × (e ≡
 receives (Send from ssn to) b h = absurd cc
 receives (Receipt to rsn from ssn) b h = (record { from = from; ssn = ssn; to = to; rsn = rsn }, refl)
 
-module _ {S N : Type 0} where
-  -- an event stays where each receipt that precedes it is recorded
-  pub Stays-recorded : (r : Knowledge S N) (b : Mark) → Has r.trace b → ((c : Determinant) → Precedes r.trace (receipt_of c) b → IsRecorded r c) → Stays r b
-  Stays-recorded r b there recorded down c same up_to =
-      recorded c (elim up_to [ inl is ↦ rw is (itself there) | inr earlier ↦ step (itself (earlier.0, earlier.3)) (earlier, inl same) ])
+-- an event stays where each receipt that precedes it is recorded
+pub Stays-recorded : {S N : Type 0} → (r : Knowledge S N) (b : Mark) → Has r.trace b → ((c : Determinant) → Precedes r.trace (receipt_of c) b → IsRecorded r c) → Stays r b
+Stays-recorded r b there recorded down c same up_to =
+    recorded c (elim up_to [ inl is ↦ rw is (itself there) | inr earlier ↦ step (itself (earlier.0, earlier.3)) (earlier, inl same) ])
 
 module _ {S N : Type 0} (n f : ℕ) (old : Knowledge S N) (obeys : WellFormed n old.trace) (closed : IsClosed f old) where
   -- an event of the same member that comes before one that stays stays
@@ -88,12 +87,11 @@ module _ {S N : Type 0} {next : Next S N} {old : GroupRecord S N} (sound : IsSou
   recorded-cut d recorded =
       left_if (receipt_of d) (Has-recorded (knowledge old) sound.causes.truth d recorded) (λ c. IsRecorded-before old.config.f (knowledge old) sound.causes.closed c d recorded)
 
-module _ {S N : Type 0} where
-  pub stays_is_recorded : StaysIsRecorded S N
-  stays_is_recorded next r sound e there = (
-    λ stays c before. recorded_before r.config.members r.config.f (knowledge r) sound.causes.rules sound.causes.closed c stays before,
-    Stays-recorded (knowledge r) e there,
-  )
+pub stays_is_recorded : {S N : Type 0} → StaysIsRecorded S N
+stays_is_recorded next r sound e there = (
+  λ stays c before. recorded_before r.config.members r.config.f (knowledge r) sound.causes.rules sound.causes.closed c stays before,
+  Stays-recorded (knowledge r) e there,
+)
 
 module _ {S N : Type 0} (next : Next S N) (old new : GroupRecord S N) (recovery : IsRecovery next old new) (sound : IsSound next old) where
   abbrev cut : IsEventCut (Stays (knowledge old)) old.trace new.trace

@@ -125,10 +125,9 @@ found-some p k table d named to rsn =
     let first : ¬ (named.1.0 < place) = λ before. (let fails = fails_before_first (is_of_receipt p k) table named.1.0 named.0 before in let is = named.1.2 in cc) in
     ((get_or table place named.0).det, ap (option_map (λ (e : Entry). e.det)) (find_at (is_of_receipt p k) table ∙ slice_get-get_or table place named.0 (omega (arith, first, named.1.1))))
 
-module _ {S N : Type 0} where
-  -- a record with a table that it has
-  pub with-table : (m : MemberRecord S N) (t : List Entry) → m.table ≡ t → m ≡ record m { table = t }
-  with-table m t is = ap (λ (x : List Entry). record m { table = x }) is
+-- a record with a table that it has
+pub with-table : {S N : Type 0} → (m : MemberRecord S N) (t : List Entry) → m.table ≡ t → m ≡ record m { table = t }
+with-table m t is = ap (λ (x : List Entry). record m { table = x }) is
 
 module _ {S N : Type 0} (next : Next S N) (old : GroupRecord S N) (sound : IsSound next old) where
   abbrev cut : IsEventCut (Stays (knowledge old)) old.trace (recovered_trace old)

@@ -12,16 +12,6 @@ use Rattle.fbl_base.specs.declared.trace.Event.TheVariants.{Send, Receipt}
 use Rattle.fbl_law.proofs.Receipts.{MayFollow-seam, receipts_at-Has, Has-receipts_at, length-received_notes, note-at, last-from}
 use Rattle.fbl_law.proofs.Lists.{some-at}
 
-module _ {N : Type 0} where
-  -- a note that the trace names was sent
-  pub noted-sent : (t : List (Event N)) (q k : ℕ) (x : N) → note_of t q k ≡ Some x → (i : ℕ) × (to : ℕ) × (slice_get t i ≡ Some (Send q k to x))
-  noted-sent [] q k x is = absurd cc
-  noted-sent (Send q' k' to' x' ∷ t) q k x is = elim (cases_Bool (q' == q && k' == k)) [
-    | inl own ↦ (0, to', grind (arith, nat_tests))
-    | inr other ↦ let r = noted-sent t q k x (rw other at is) in (suc r.0, r.1, r.2)
-  ]
-  noted-sent (Receipt to' r q' k' ∷ t) q k x is = let r = noted-sent t q k x is in (suc r.0, r.1, r.2)
-
 -- an event's number, one more than the count before it, is within the count of the first events exactly where it is one of these
 pub number-front : (p : Mark → Bool) (u : List Mark) (i stop k : ℕ) (e : Mark) → At u i e → p e ≡ true → k ≡ count_by p (take i u) + 1 → nat_le k (count_by p (take stop u)) ≡ nat_lt i stop
 number-front p [] i stop k e here passes number = absurd cc
@@ -32,13 +22,16 @@ number-front p (x ∷ u) (suc i) (suc stop) k e here passes number =
     let first = λ (k : ℕ). sum_by-cons (λ y. cond (p y) 1 0) x (take k u) in
     grind (arith, nat_tests, number, first i, first stop, number-front p u i stop (count_by p (take i u) + 1) e here passes refl)
 
--- a sender's number names one message
-pub one-send : (n : ℕ) (t : List Mark) → WellFormed n t → (q k to to' : ℕ) → Has t (mark.Send q k to) → Has t (mark.Send q k to') → to ≡ to'
-one-send n t obeys q k to to' a b =
-    let same = one_send n t obeys q k to to' a.0 b.0 a.1 b.1 in
-    cc (rw same at a.1, b.1)
-
 module _ {N : Type 0} where
+  -- a note that the trace names was sent
+  pub noted-sent : (t : List (Event N)) (q k : ℕ) (x : N) → note_of t q k ≡ Some x → (i : ℕ) × (to : ℕ) × (slice_get t i ≡ Some (Send q k to x))
+  noted-sent [] q k x is = absurd cc
+  noted-sent (Send q' k' to' x' ∷ t) q k x is = elim (cases_Bool (q' == q && k' == k)) [
+    | inl own ↦ (0, to', grind (arith, nat_tests))
+    | inr other ↦ let r = noted-sent t q k x (rw other at is) in (suc r.0, r.1, r.2)
+  ]
+  noted-sent (Receipt to' r q' k' ∷ t) q k x is = let r = noted-sent t q k x is in (suc r.0, r.1, r.2)
+
   -- the mark of an event stands at its place
   pub mark-at : (t : List (Event N)) (i : ℕ) (e : Event N) → slice_get t i ≡ Some e → At (map mark_of t) i (mark_of e)
   mark-at t i e here = slice_get-map mark_of t i ∙ (rw here refl)
@@ -61,7 +54,6 @@ module _ {N : Type 0} where
       let e = one_send n (map mark_of t) obeys q k first.1 to first.0 i (mark-at t first.0 (Send q k first.1 some.0) first.2) (mark-at t i (Send q k to x) here) in
       cc (some.1, rw e at first.2)
 
-module _ {N : Type 0} where
   -- the sends among a member's actions
   abbrev pub sends_in : List (Action N) → List (ℕ × N)
   sends_in [] = []
@@ -198,12 +190,11 @@ module _ {S N : Type 0} {next : Next S N} {n : ℕ} {starts : List (Start N)} {t
       rw (ap (λ (x : Progress S N). x.log) replayed.progress, log-after next p n starts (take m.received (received_notes t p)))
       (numbered-has 0 ssn _ (omega (arith, number)) (omega (arith, number, sends-count t (take (suc j) t) p, sends, enough)))
 
-module _ {N : Type 0} where
-  -- a member with as many receipts as the trace has of it has them all
-  pub all-taken : (n : ℕ) (t : List (Event N)) (p k : ℕ) → WellFormed n (map mark_of t) → k ≡ length (receipts_at (map mark_of t) p)
-      → (take k (received_notes t p) ≡ received_notes t p) × (take k (receipts_at (map mark_of t) p) ≡ receipts_at (map mark_of t) p)
-  all-taken n t p k obeys count =
-      (take_all k (received_notes t p) (omega (arith, length-received_notes n t p obeys)), take_all k (receipts_at (map mark_of t) p) (omega arith))
+-- a member with as many receipts as the trace has of it has them all
+pub all-taken : {N : Type 0} → (n : ℕ) (t : List (Event N)) (p k : ℕ) → WellFormed n (map mark_of t) → k ≡ length (receipts_at (map mark_of t) p)
+    → (take k (received_notes t p) ≡ received_notes t p) × (take k (receipts_at (map mark_of t) p) ≡ receipts_at (map mark_of t) p)
+all-taken n t p k obeys count =
+    (take_all k (received_notes t p) (omega (arith, length-received_notes n t p obeys)), take_all k (receipts_at (map mark_of t) p) (omega arith))
 
 module _ {S N : Type 0} where
   -- a fresh member has replayed nothing

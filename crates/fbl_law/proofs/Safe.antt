@@ -100,10 +100,9 @@ joined x e = record { det = x.det; known = set.union x.known e.known }
 pub All-from : {X : Type 0} (P : X → Type 0) (xs : List X) → ((x : X) → Contains xs x → P x) → All P xs
 All-from P xs each = All-weaker (Contains xs) P each xs (All-contains_itself xs)
 
-module _ {S N : Type 0} where
-  -- a record whose table names something is one of the list
-  pub named_record : (outside : S) (xs : List (MemberRecord S N)) (m : ℕ) (d : Determinant) → Names (get_or xs m (blank outside)).table d → m < length xs
-  named_record outside xs m d named = omega (arith, λ (past : length xs ≤ m). (let none : Names [] d = rw (get_or_past xs m (blank outside) past) at named in Contains-none none.0 none.1))
+-- a record whose table names something is one of the list
+pub named_record : {S N : Type 0} → (outside : S) (xs : List (MemberRecord S N)) (m : ℕ) (d : Determinant) → Names (get_or xs m (blank outside)).table d → m < length xs
+named_record outside xs m d named = omega (arith, λ (past : length xs ≤ m). (let none : Names [] d = rw (get_or_past xs m (blank outside) past) at named in Contains-none none.0 none.1))
 
 -- a table that has a determinant names it
 pub Names-held : (entries : List Entry) (d : Determinant) → is_held entries d ≡ true → Names entries d
@@ -203,25 +202,24 @@ module _ {S N : Type 0} (r : Knowledge S N) (d : Determinant) where
     | inr up ↦ elim ((Includes-all m).0 h) [ inl named ↦ inl (up, named) | inr down ↦ inr (down, recorded) ]
   ]
 
-module _ {S N : Type 0} where
-  -- each receipt of a closed record is stable, or held by each up member that depends on it
-  pub IsAlwaysHeld-closed : (f : ℕ) (r : Knowledge S N) → IsDownEmpty f r → IsClosed f r → IsAlwaysHeld f r
-  IsAlwaysHeld-closed f r empty closed d there = elim (cases_Bool (is_recorded_among r.members r.checkpoints d)) [
-    | inr lost ↦ inr (λ m up depends. absurd (false≢true (sym lost ∙ (Decides-recorded f r empty d).1 (IsRecorded-depended f r closed d m up depends))))
-    | inl is ↦ elim (cases_lt f (set.len (all r d))) [
-      | inl many ↦ inl (all r d, many, all_holder r d ((Decides-recorded f r empty d).0 is))
-      | inr few ↦ inr (λ m up depends. elim (closed.events (in_table m) depends.0 up depends.2 d depends.1) [
-        | inl named ↦ (up, named)
-        | inr stable ↦ absurd (omega (
-          arith,
-          few,
-          stable.1,
-          len-within (set.len stable.0) stable.0 (all r d) refl (λ q h.
-              (Includes-all r d q).1 (elim (stable.2 q h) [ inl holds ↦ inl holds.1 | inr down ↦ inr down.0 ])),
-        ))
-      ])
-    ]
+-- each receipt of a closed record is stable, or held by each up member that depends on it
+pub IsAlwaysHeld-closed : {S N : Type 0} → (f : ℕ) (r : Knowledge S N) → IsDownEmpty f r → IsClosed f r → IsAlwaysHeld f r
+IsAlwaysHeld-closed f r empty closed d there = elim (cases_Bool (is_recorded_among r.members r.checkpoints d)) [
+  | inr lost ↦ inr (λ m up depends. absurd (false≢true (sym lost ∙ (Decides-recorded f r empty d).1 (IsRecorded-depended f r closed d m up depends))))
+  | inl is ↦ elim (cases_lt f (set.len (all r d))) [
+    | inl many ↦ inl (all r d, many, all_holder r d ((Decides-recorded f r empty d).0 is))
+    | inr few ↦ inr (λ m up depends. elim (closed.events (in_table m) depends.0 up depends.2 d depends.1) [
+      | inl named ↦ (up, named)
+      | inr stable ↦ absurd (omega (
+        arith,
+        few,
+        stable.1,
+        len-within (set.len stable.0) stable.0 (all r d) refl (λ q h.
+            (Includes-all r d q).1 (elim (stable.2 q h) [ inl holds ↦ inl holds.1 | inr down ↦ inr down.0 ])),
+      ))
+    ])
   ]
+]
 
 -- an entry more of a determinant that the table has not
 once_push : (table : List Entry) (e : Entry) → IsOnce table → is_held table e.det ≡ false → IsOnce (table ++ e ∷ [])

@@ -1,11 +1,11 @@
 -- What each step keeps, of predicates and of a weight, the whole group keeps.
-use Rattle.fbl_law.proofs.Common.{◌≡◌, ℕ, zero, suc, ◌<◌, ◌==◌, inl, inr, List, [], ◌∷◌, ◌++◌, take, drop, map, Some, slice_get, subst, refl, sym, ap, ◌∙◌, arith, length-take, All}
-use Rattle.fbl_law.proofs.Common.{filter_map, fold, cases_eq, eq-eqb, ne_eqb, take-append-drop, All-head, All-tail, filter_map-append, Start, Event, mark_of, WellFormed, Next}
-use Rattle.fbl_law.proofs.Common.{Progress, Action, took, sent, Lawful, action_of, actions_of, notes_of, note_of, responses, starts_of, At-front, At-below, split-at}
-use Rattle.fbl_law.proofs.Common.{after_notes-state, eqb-self, sent-before, StepKeeps, HoldsFirst, GroupRecord, member_checkpoint, marks, IsSound, received_notes, All-cons}
-use Rattle.fbl_law.proofs.Common.{All-nil, All-take, HoldsOf, At-filter_map, All-contains, Option, None, cond, nat_tests, ◌+◌, ◌≤◌, sum_by-cons, sum_by-append, Mark, MayFollow}
-use Rattle.fbl_law.proofs.Common.{in_flight, in_flight-send, in_flight-receipt, receipts-noted, WellFormed-keeps, Message, send_mark, IsUp, member, channel, knowledge, sum_below}
-use Rattle.fbl_law.proofs.Common.{sum_by, option_map_or, fold-map, sum_by_push, sum_by-drop_more, get_or_from_slice_get, slice_get_within, StepMakesNone, StepLosesNone}
+use Rattle.fbl_law.proofs.Common.{one_send, ◌≡◌, ℕ, zero, suc, ◌<◌, ◌==◌, inl, inr, List, [], ◌∷◌, ◌++◌, take, drop, map, Some, slice_get, subst, refl, sym, ap, ◌∙◌, arith}
+use Rattle.fbl_law.proofs.Common.{length-take, All, filter_map, fold, cases_eq, eq-eqb, ne_eqb, take-append-drop, All-head, All-tail, filter_map-append, Start, Event, mark_of}
+use Rattle.fbl_law.proofs.Common.{WellFormed, Next, Progress, Action, took, sent, Lawful, action_of, actions_of, notes_of, note_of, responses, starts_of, At-front, At-below}
+use Rattle.fbl_law.proofs.Common.{split-at, after_notes-state, eqb-self, sent-before, StepKeeps, HoldsFirst, GroupRecord, member_checkpoint, marks, IsSound, received_notes}
+use Rattle.fbl_law.proofs.Common.{All-cons, All-nil, All-take, HoldsOf, At-filter_map, All-contains, Option, None, cond, nat_tests, ◌+◌, ◌≤◌, sum_by-cons, sum_by-append, Mark}
+use Rattle.fbl_law.proofs.Common.{MayFollow, in_flight, in_flight-send, in_flight-receipt, receipts-noted, WellFormed-keeps, Message, send_mark, IsUp, member, channel, knowledge}
+use Rattle.fbl_law.proofs.Common.{sum_below, sum_by, option_map_or, fold-map, sum_by_push, sum_by-drop_more, get_or_from_slice_get, slice_get_within, StepMakesNone, StepLosesNone}
 use Rattle.fbl_law.proofs.Common.{StepConserves, weight_after, weight_flying, weight_of, weight_at_first, weight_of_starts, WeighsNoMore, WeighsNoLess, WeighsTheSame}
 use Rattle.fbl_law.proofs.Common.{messages_in_flight, nil_from_length}
 use Rattle.fbl_base.specs.declared.trace.Mark.TheVariants as mark
@@ -13,18 +13,17 @@ use Rattle.std.specs.FinSet as set
 use Rattle.fbl_base.specs.declared.trace.Event.TheVariants.{Send, Receipt}
 use Rattle.fbl_law.proofs.Lists.{Contains-at, Contains-place, sum_below-none, sum_below-at}
 use Rattle.fbl_law.proofs.Safe.{down_or_up, All-from, down_or_both_up, up_if_none}
-use Rattle.fbl_law.proofs.ReplayedRecords.{noted-sent, one-send, sent-noted, mark-at, send-at}
+use Rattle.fbl_law.proofs.ReplayedRecords.{noted-sent, sent-noted, mark-at, send-at}
 use Rattle.fbl_law.proofs.Channels.{flight_sent, flight_at}
 use Rattle.fbl_law.proofs.Promises.{up_state}
 
-module _ {N : Type 0} where
-  -- a trace that obeys the rules has the send of each receipt before it, with the note
-  receipt-noted : (n : ℕ) (t : List (Event N)) (i p r q s : ℕ) → WellFormed n (map mark_of t) → slice_get t i ≡ Some (Receipt p r q s)
-      → (x : N) × (note_of t q s ≡ Some x) × (j : ℕ) × (j < i) × (slice_get t j ≡ Some (Send q s p x))
-  receipt-noted n t i p r q s obeys here =
-      let before = sent-before n (map mark_of t) obeys i p r q s (mark-at t i (Receipt p r q s) here) in
-      let sent = send-at t before.0 q s p before.2 in
-      (sent.0, sent-noted n t obeys before.0 q s p sent.0 sent.1, before.0, before.1, sent.1)
+-- a trace that obeys the rules has the send of each receipt before it, with the note
+receipt-noted : {N : Type 0} → (n : ℕ) (t : List (Event N)) (i p r q s : ℕ) → WellFormed n (map mark_of t) → slice_get t i ≡ Some (Receipt p r q s)
+    → (x : N) × (note_of t q s ≡ Some x) × (j : ℕ) × (j < i) × (slice_get t j ≡ Some (Send q s p x))
+receipt-noted n t i p r q s obeys here =
+    let before = sent-before n (map mark_of t) obeys i p r q s (mark-at t i (Receipt p r q s) here) in
+    let sent = send-at t before.0 q s p before.2 in
+    (sent.0, sent-noted n t obeys before.0 q s p sent.0 sent.1, before.0, before.1, sent.1)
 
 module _ {S N : Type 0} (next : Next S N) (n : ℕ) (P : ℕ → S → Type 0) (Q : ℕ → ℕ → N → Type 0) (keeps : StepKeeps next n P Q) where
   -- a send of the member, and a start, that has Q
@@ -109,35 +108,36 @@ module _ {S N : Type 0} (next : Next S N) (n : ℕ) (P : ℕ → S → Type 0) (
       let here = All-head (Came m) x notes came in
       state-kept m (next.step m n state x).state notes below (keeps m here.0 state x below holds here.1).0 (All-tail (Came m) x notes came)
 
-module _ {S N : Type 0} where
-  -- what each step of n members keeps holds of a sound group of them, if it holds at first
-  pub holds-of_sound : (next : Next S N) (r : GroupRecord S N) (P : ℕ → S → Type 0) (Q : ℕ → ℕ → N → Type 0) → IsSound next r
-      → StepKeeps next r.config.members P Q → HoldsFirst next r.config P Q → HoldsOf r P Q
-  holds-of_sound next r P Q sound keeps first = record {
-    states = λ m below. elim (down_or_up r.down m) [
-      | inl down ↦ rw (sound.blanks m below down) (first.0 m below)
-      | inr up ↦ rw (up_state next r sound m below up) (state-kept next n P Q keeps m (next.initial m n) (received_notes r.trace m) below (first.0 m below) (came m))
-    ];
-    checkpoints = λ m below.
-        let first_ones = take (member_checkpoint r m).received (received_notes r.trace m) in
-        let e : (member_checkpoint r m).state ≡ fold (λ s x. (next.step m n s x).state) (next.initial m n) first_ones = ap (λ (x : Progress S N). x.state) (sound.saved m below).progress
-        ∙ after_notes-state next m n r.config.starts first_ones in
-        rw e (state-kept next n P Q keeps m (next.initial m n) first_ones below (first.0 m below) (All-take (Came next n P Q keeps m) (member_checkpoint r m).received (received_notes r.trace m) (came m)));
-    flying = λ v flies.
-        let sent = noted-sent r.trace v.from v.ssn v.note (sound.notes v flies) in
-        let e : sent.1 ≡ v.to = one-send n (marks r) sound.lawful.well_formed v.from v.ssn sent.1 v.to
-        (sent.0, mark-at r.trace sent.0 (Send v.from v.ssn sent.1 v.note) sent.2) (flight_sent sound.causes v flies) in
-        rw e at (every sent.0 v.from v.ssn sent.1 v.note sent.2);
-    sent = every;
-  } where
-    n : ℕ
-    n = r.config.members
+-- what each step of n members keeps holds of a sound group of them, if it holds at first
+pub holds-of_sound : {S N : Type 0} → (next : Next S N) (r : GroupRecord S N) (P : ℕ → S → Type 0) (Q : ℕ → ℕ → N → Type 0) → IsSound next r
+    → StepKeeps next r.config.members P Q → HoldsFirst next r.config P Q → HoldsOf r P Q
+holds-of_sound {S} {N} next r P Q sound keeps first = record {
+  states = λ m below. elim (down_or_up r.down m) [
+    | inl down ↦ rw (sound.blanks m below down) (first.0 m below)
+    | inr up ↦ rw (up_state next r sound m below up) (state-kept next n P Q keeps m (next.initial m n) (received_notes r.trace m) below (first.0 m below) (came m))
+  ];
+  checkpoints = λ m below.
+      let first_ones = take (member_checkpoint r m).received (received_notes r.trace m) in
+      let e : (member_checkpoint r m).state ≡ fold (λ s x. (next.step m n s x).state) (next.initial m n) first_ones = ap (λ (x : Progress S N). x.state) (sound.saved m below).progress
+      ∙ after_notes-state next m n r.config.starts first_ones in
+      rw e (state-kept next n P Q keeps m (next.initial m n) first_ones below (first.0 m below) (All-take (Came next n P Q keeps m) (member_checkpoint r m).received (received_notes r.trace m) (came m)));
+  flying = λ v flies.
+      let sent = noted-sent r.trace v.from v.ssn v.note (sound.notes v flies) in
+      let was = flight_sent sound.causes v flies in
+      let here = mark-at r.trace sent.0 (Send v.from v.ssn sent.1 v.note) sent.2 in
+      let place = one_send n (marks r) sound.lawful.well_formed v.from v.ssn sent.1 v.to sent.0 was.0 here was.1 in
+      let e : sent.1 ≡ v.to = cc (rw place at here, was.1) in
+      rw e at (every sent.0 v.from v.ssn sent.1 v.note sent.2);
+  sent = every;
+} where
+  n : ℕ
+  n = r.config.members
 
-    every : AllSent next n P Q keeps r.trace
-    every = all-sent next n P Q keeps r.config.starts r.trace sound.lawful first.0 first.1
+  every : AllSent next n P Q keeps r.trace
+  every = all-sent next n P Q keeps r.config.starts r.trace sound.lawful first.0 first.1
 
-    came : (m : ℕ) → All (Came next n P Q keeps m) (received_notes r.trace m)
-    came m = all-came next n P Q keeps r.config.starts r.trace sound.lawful first.0 first.1 m
+  came : (m : ℕ) → All (Came next n P Q keeps m) (received_notes r.trace m)
+  came m = all-came next n P Q keeps r.config.starts r.trace sound.lawful first.0 first.1 m
 
 -- sums over members
 sum_below-plus : (n : ℕ) (a b : ℕ → ℕ) → sum_below n (λ x. a x + b x) ≡ sum_below n a + sum_below n b

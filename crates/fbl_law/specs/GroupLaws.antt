@@ -13,15 +13,11 @@ use Rattle.fbl_law.specs.GroupSteps.{IsRebuilt}
 use Rattle.fbl_base.specs.declared.trace.Determinant.{Determinant}
 use Rattle.fbl_base.specs.Events.{receipt_of, mark_of}
 use Rattle.fbl_base.specs.Precedence.{Has, Precedes}
-use Rattle.fbl_base.specs.Steps.{SendsAllowed}
+use Rattle.fbl_base.specs.Steps.{SendsWell}
 use Rattle.fbl_law.specs.Knowledge.{IsRecorded, Includes, IsDown, IsOrphan, Holds}
 use Rattle.fbl_law.specs.Promises.{SurvivorsHold}
 use Rattle.fbl_base.specs.declared.trace.Mark.{Mark}
 use Rattle.fbl_table.specs.Tables.{found}
-
--- the behaviour's sends go to other members of the group, at most four at a step
-abbrev pub SendsWell : {S N : Type 0} → Next S N → Type 0
-SendsWell {S} {N} next = (me n : ℕ) (state : S) (note : N) → 2 ≤ n → me < n → SendsAllowed me n (next.step me n state note)
 
 -- a group in which nothing is received yet is sound
 abbrev pub GroupStartIsSound : Type 0 → Type 0 → Type 0
