@@ -1,10 +1,10 @@
 -- Laws of the rules of events: traces that obey them, what is in flight after one more event, and what is counted.
 use Rattle.fbl_base.proofs.Common.{cases_Bool, slice_index, slice_set, ◌+◌, ◌==◌, ◌&&◌, not, None, ℕ, zero, suc, Bool, true, cond, ◌≡◌, ◌<◌, inl, inr, List, [], ◌∷◌, ◌++◌, length}
-use Rattle.fbl_base.proofs.Common.{take, drop, Some, refl, ap, ◌∙◌, arith, count_by, slice_get, and_parts, nat_tests, filter_map, list_any, take-append-le, take_all, sum_by-cons}
-use Rattle.fbl_base.proofs.Common.{Mark, At, Has, is_send_of, sends_of, receipts_of, sent_on, taken_on, in_flight, MayFollow, WellFormed, eqb-true, cond_some, append-nil}
-use Rattle.fbl_base.proofs.Common.{take-append-drop, sum_by_push, Send, Receipt, is_receipt_of, false, ◌≢◌, ◌≤◌, filter, list_any-append, filter-append, filter_map-append}
-use Rattle.fbl_base.proofs.Common.{first_in_flight, FitsEvent, next_number, Option, MatchOption, length-set, common_steps, Counted, BreaksEvent, EventRule, IfSome, Counts}
-use Rattle.fbl_base.proofs.Common.{destination_of, source_of, CountsEvent, first_by, next_by, Breaks}
+use Rattle.fbl_base.proofs.Common.{take, drop, Some, refl, ap, ◌∙◌, arith, count_by, slice_get, nat_tests, filter_map, list_any, take-append-le, take_all, sum_by-cons, Mark, At}
+use Rattle.fbl_base.proofs.Common.{Has, is_send_of, sends_of, receipts_of, sent_on, taken_on, in_flight, MayFollow, WellFormed, append-nil, take-append-drop, sum_by_push, Send}
+use Rattle.fbl_base.proofs.Common.{Receipt, is_receipt_of, false, ◌≢◌, ◌≤◌, filter, list_any-append, filter-append, filter_map-append, first_in_flight, FitsEvent, next_number}
+use Rattle.fbl_base.proofs.Common.{Option, MatchOption, length-set, common_steps, Counted, BreaksEvent, EventRule, IfSome, Counts, destination_of, source_of, CountsEvent, first_by}
+use Rattle.fbl_base.proofs.Common.{next_by, Breaks}
 use Rattle.std.proofs.lemmas.List.{length-take, append_assoc}
 use Rattle.fbl_base.proofs.Gets.{At-front, At-seam, At-below, At-push, At-filter, At-filter_map, Apart, Apart-filter, Apart-filter_map, slice_get-take}
 use Rattle.fbl_base.specs.declared.fault.EventRule.TheVariants as rules
@@ -55,33 +55,25 @@ receipts-step t e x = sum_by_push (λ y. cond (is_receipt_of x y) 1 0) t e
 -- a place that passes the test is counted
 pub count_at : (p : Mark → Bool) (t : List Mark) (i : ℕ) (e : Mark) → At t i e → p e ≡ true → count_by p (take i t) < count_by p t
 count_at p [] i e at passes = cc
-count_at p (x ∷ t) zero e at passes =
-    let px : p x ≡ true = cc in
-    rw (sum_by-cons (λ y. cond (p y) 1 0) x t, px) (omega arith)
-count_at p (x ∷ t) (suc i) e at passes =
-    let ih = count_at p t i e at passes in
-    rw (sum_by-cons (λ y. cond (p y) 1 0) x t, sum_by-cons (λ y. cond (p y) 1 0) x (take i t)) (omega (arith, ih))
+count_at p (x ∷ t) zero e at passes = (let px : p x ≡ true = cc in rw (sum_by-cons (λ y. cond (p y) 1 0) x t, px) (omega arith))
+count_at p (x ∷ t) (suc i) e at passes = omega (arith, sum_by-cons (λ y. cond (p y) 1 0) x t, sum_by-cons (λ y. cond (p y) 1 0) x (take i t), count_at p t i e at passes)
+
+-- an event's number is at most how many of its kind its member has
+pub sent-number : (n : ℕ) (t : List Mark) → WellFormed n t → (q s p : ℕ) → Has t (Send q s p) → s ≤ sends_of t q
+sent-number n t obeys q s p has = omega (arith, (obeys has.0 (Send q s p) has.1).3, count_at (is_send_of q) t has.0 (Send q s p) has.1 (eqb-self q))
+
+pub receipt-number : (n : ℕ) (t : List Mark) (p r q s : ℕ) → WellFormed n t → Has t (Receipt p r q s) → r ≤ receipts_of t p
+receipt-number n t p r q s obeys has =
+    omega (arith, (obeys has.0 (Receipt p r q s) has.1).3, count_at (is_receipt_of p) t has.0 (Receipt p r q s) has.1 (eqb-self p))
 
 -- an event that may come next is not there yet
 pub MayFollow-new : (n : ℕ) (t : List Mark) (e : Mark) → WellFormed n t → MayFollow n t e → ¬ (Has t e)
-MayFollow-new n t (Send from ssn to) obeys may has =
-    let before = obeys has.0 (Send from ssn to) has.1 in
-    let fewer = count_at (is_send_of from) t has.0 (Send from ssn to) has.1 (eqb-self from) in
-    omega (arith, may.3, before.3, fewer)
-MayFollow-new n t (Receipt to rsn from ssn) obeys may has =
-    let before = obeys has.0 (Receipt to rsn from ssn) has.1 in
-    let fewer = count_at (is_receipt_of to) t has.0 (Receipt to rsn from ssn) has.1 (eqb-self to) in
-    omega (arith, may.3, before.3, fewer)
+MayFollow-new n t (Send from ssn to) obeys may has = omega (arith, may.3, sent-number n t obeys from ssn to has)
+MayFollow-new n t (Receipt to rsn from ssn) obeys may has = omega (arith, may.3, receipt-number n t to rsn from ssn obeys has)
 
 -- which event tells of a message
-pub on_channel : (a b q p k s : ℕ) → cond (a == q && b == p) (Some k) None ≡ Some s → (a ≡ q) × (b ≡ p) × (k ≡ s)
-on_channel a b q p k s h =
-    let parts = cond_some (a == q && b == p) k s h in
-    let ends = and_parts (a == q) (b == p) parts.0 in
-    (eqb-true a q ends.0, eqb-true b p ends.1, parts.1)
-
 pub is_sent : (q p s : ℕ) (e : Mark) → sent_on q p e ≡ Some s → e ≡ Send q s p
-is_sent q p s (Send q' s' p') h = (let on = on_channel q' p' q p s' s h in rw (on.0, on.1, on.2) refl)
+is_sent q p s (Send q' s' p') h = grind (arith, nat_tests, h)
 is_sent q p s (Receipt p' r' q' s') h = cc
 
 -- a message in flight was sent
@@ -99,15 +91,9 @@ sent-before n t obeys i to rsn from ssn here =
     let below = At-below (take i t) sent.0 (Send from ssn to) sent.1 in
     (sent.0, omega (arith, below, length-take i t), (rw take-append-drop at (At-front (take i t) (drop i t) sent.0 (Send from ssn to) sent.1)))
 
--- a send's number is at most how many sends there are
-pub sent-number : (n : ℕ) (t : List Mark) → WellFormed n t → (q s p : ℕ) → Has t (Send q s p) → s ≤ sends_of t q
-sent-number n t obeys q s p has =
-    let number = obeys has.0 (Send q s p) has.1 in
-    omega (arith, number.3, count_at (is_send_of q) t has.0 (Send q s p) has.1 (eqb-self q))
-
 is_taken : (q p s : ℕ) (e : Mark) → taken_on q p e ≡ Some s → (r : ℕ) × (e ≡ Receipt p r q s)
 is_taken q p s (Send q' s' p') h = cc
-is_taken q p s (Receipt p' r' q' s') h = (let on = on_channel q' p' q p s' s h in (r', rw (on.0, on.1, on.2) refl))
+is_taken q p s (Receipt p' r' q' s') h = (r', grind (arith, nat_tests, h))
 
 -- a message that was taken was sent
 pub taken-sent : (n : ℕ) (t : List Mark) → WellFormed n t → (q p s j : ℕ) → slice_get (filter_map (taken_on q p) t) j ≡ Some s → s ≤ sends_of t q

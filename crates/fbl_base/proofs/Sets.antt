@@ -67,17 +67,12 @@ has_bits b q within = ap (λ x. eqb x 1) (shr_and_one b q) ∙ sym (contains-set
 
 pub union_bits : (a b : ℕ) → a < 65536 → b < 65536 → set_of (bit_or a b) ≡ set.union (set_of a) (set_of b)
 union_bits a b wa wb = same-bits (bit_or a b) _ (or_lt 16 a b wa wb) (λ q.
-    let x = bit_at-lt a q in
-    let y = bit_at-lt b q in
-    rw (set.contains-union nat_cmp_total, contains-set_of a q wa, contains-set_of b q wb, bit_at_or a b q) (grind (arith, nat_tests, x, y)))
+    rw (set.contains-union nat_cmp_total, contains-set_of a q wa, contains-set_of b q wb, bit_at_or a b q) (grind (arith, nat_tests, bit_at-lt a q, bit_at-lt b q)))
 
 pub difference_bits : (a b : ℕ) → a < 65536 → b < 65536 → set_of (bit_and a (65535 - b)) ≡ set.difference (set_of a) (set_of b)
 difference_bits a b wa wb = same-bits (bit_and a (65535 - b)) _ (omega (arith, wa, and_le_l a (65535 - b))) (λ q.
-    let x = bit_at-lt a q in
-    let y = bit_at-lt b q in
-    let past = bit_at_above a 16 q wa in
-    let other = bit_at_not w16 b q wb in
-    rw (set.contains-difference nat_cmp_total, contains-set_of a q wa, contains-set_of b q wb, bit_at_and a (65535 - b) q) (grind (arith, nat_tests, x, y, past, other)))
+    rw (set.contains-difference nat_cmp_total, contains-set_of a q wa, contains-set_of b q wb, bit_at_and a (65535 - b) q)
+    (grind (arith, nat_tests, bit_at-lt a q, bit_at-lt b q, bit_at_above a 16 q wa, bit_at_not w16 b q wb)))
 
 pub insert_bits : (b m : ℕ) → b < 65536 → m < 16 → set_of (bit_or b (1 * 2 ^ m % 65536)) ≡ set.insert (set_of b) m
 insert_bits b m wb wm = same-bits (bit_or b (1 * 2 ^ m % 65536)) _ (or_lt 16 b (1 * 2 ^ m % 65536) wb (mod-lt (1 * 2 ^ m) (let z : 0 < 65536 = omega arith in z))) (λ q.
@@ -116,7 +111,4 @@ unfolding set_of
 count_bits b within = count-ones 16 b within
 
 pub below_sixteen : (b q : ℕ) → b < 65536 → set.contains (set_of b) q ≡ true → q < 16
-below_sixteen b q within has =
-    let past = bit_at_above b 16 q within in
-    let is = contains-set_of b q within in
-    grind (arith, nat_tests, past, is, has)
+below_sixteen b q within has = grind (arith, nat_tests, bit_at_above b 16 q within, contains-set_of b q within, has)

@@ -26,8 +26,8 @@ pub use Rattle.std.specs.Prelude.{slice_index_or, slice_set, sum_by}
 pub use Rattle.fbl_base.proofs.LawfulLaws.{after_notes-state, lawful_deliver, note_of-front, notes_of-sent, receipts-noted, sent-note}
 pub use Rattle.fbl_base.proofs.Gets.{Apart, At-seam, Apart-later, At-below, At-filter, At-filter_map, At-front, At-push, drop_next, filter_map-At, filter_map-agree, map-At}
 pub use Rattle.fbl_base.proofs.Gets.{split-at, take-more, length-filter_map, length-left}
-pub use Rattle.fbl_base.proofs.RulesLaws.{filter_all, in_flight-receipt, in_flight-send, sent-rises, MayFollow-last, WellFormed-front, WellFormed-keeps, WellFormed-none}
-pub use Rattle.fbl_base.proofs.RulesLaws.{WellFormed-push, WellFormed-take, count_at, eqb-self, in_flight-sent, is_sent, receipts-step, sends-step, sent-before}
+pub use Rattle.fbl_base.proofs.RulesLaws.{receipt-number, filter_all, in_flight-receipt, in_flight-send, sent-rises, MayFollow-last, WellFormed-front, WellFormed-keeps}
+pub use Rattle.fbl_base.proofs.RulesLaws.{WellFormed-none, WellFormed-push, WellFormed-take, eqb-self, in_flight-sent, is_sent, receipts-step, sends-step, sent-before}
 pub use Rattle.fbl_base.proofs.PrecedenceLaws.{one_place, one_send, Earlier-front, Has-append, Has-filter, Has-first, Has-last, Precedes-entered, Precedes-filter, Precedes-front}
 pub use Rattle.fbl_base.proofs.PrecedenceLaws.{Precedes-within}
 pub use Rattle.fbl_base.proofs.AuditLaws.{is_receipt, Decides-same_determinant}

@@ -4,7 +4,7 @@ use Rattle.fbl_law.proofs.Common.{WellFormed-front, MayFollow-last, suc, ◌+◌
 use Rattle.fbl_law.proofs.Common.{filter_map, fold, nat_tests, length-map, take-append-drop, sum_by-cons, slice_get-map, Determinant, Event, At, mark_of, determinant_of}
 use Rattle.fbl_law.proofs.Common.{receipt_of, is_receipt_of, receipts_of, taken_on, action_of, notes_of, note_of, filter_map-At, At-filter, At-filter_map, WellFormed-take}
 use Rattle.fbl_law.proofs.Common.{receipts-noted, received_notes, receipts_at, is_receipt, WellFormed-keeps, filter-append, filter_map-append, Send, Receipt, At-push, append-nil}
-use Rattle.fbl_law.proofs.Common.{Bool, count_by, sum_by-append, is_send_of, sends_of, eqb-self, Knowledge, IsBeforeCheckpoint, take-append-add, count_at, checkpoint, noted}
+use Rattle.fbl_law.proofs.Common.{Bool, count_by, sum_by-append, is_send_of, sends_of, Knowledge, IsBeforeCheckpoint, take-append-add, checkpoint, noted}
 use Rattle.fbl_base.specs.declared.trace.Event.TheVariants as event
 use Rattle.fbl_law.proofs.Lists.{At-behind, some-at, filter-At, filter-passes}
 
@@ -102,11 +102,6 @@ module _ {N : Type 0} where
 pub last-from : (q p z : ℕ) (t : List Mark) → fold (λ last ssn. ssn) z (filter_map (taken_on q p) t) ≡ fold (λ last (d : Determinant). cond (d.from == q) d.ssn last) z (receipts_at t p)
 last-from q p z [] = refl
 last-from q p z (e ∷ t) = grind (arith, last-from q p z t, λ (k : ℕ). last-from q p k t)
-
--- a receipt's number is at most the count of them
-pub receipt-number : (n : ℕ) (t : List Mark) (p r q s : ℕ) → WellFormed n t → Has t (Receipt p r q s) → r ≤ receipts_of t p
-receipt-number n t p r q s obeys has =
-    omega (arith, (obeys has.0 (Receipt p r q s) has.1).3, count_at (is_receipt_of p) t has.0 (Receipt p r q s) has.1 (eqb-self p))
 
 -- the events appended have numbers beyond those of the trace before
 module _ {S N : Type 0} (n : ℕ) (r : Knowledge S N) (added : List Mark) (obeys : WellFormed n (r.trace ++ added))
