@@ -31,8 +31,7 @@ module _ {N : Type 0} where
   -- a note that was sent stays so
   pub note_of-front : (t s : List (Event N)) (from ssn : ℕ) (note : N) → note_of t from ssn ≡ Some note → note_of (t ++ s) from ssn ≡ Some note
   note_of-front [] s from ssn note h = cc
-  note_of-front (Send q k to x ∷ t) s from ssn note h =
-      (let rest = note_of-front t s from ssn note in grind (arith, rest, h))
+  note_of-front (Send q k to x ∷ t) s from ssn note h = grind (arith, note_of-front t s from ssn note, h)
   note_of-front (Receipt to rsn q k ∷ t) s from ssn note h = note_of-front t s from ssn note h
 
   pub notes_of-append : (xs ys : List (Action N)) → notes_of (xs ++ ys) ≡ notes_of xs ++ notes_of ys

@@ -137,10 +137,7 @@ in_flight-send n t obeys q s p a b may =
 filter_twice : (ks : List ℕ) (s : ℕ) (xs : List ℕ)
     → filter (λ x. not (list_any (λ k. k == x) (ks ++ s ∷ []))) xs ≡ filter (λ x. not (s == x)) (filter (λ x. not (list_any (λ k. k == x) ks)) xs)
 filter_twice ks s [] = refl
-filter_twice ks s (x ∷ xs) =
-    let rest = filter_twice ks s xs in
-    let more = list_any-append (λ k. k == x) ks (s ∷ []) in
-    grind (arith, rest, more)
+filter_twice ks s (x ∷ xs) = grind (arith, filter_twice ks s xs, list_any-append (λ k. k == x) ks (s ∷ []))
 
 filter_first : (s : ℕ) (xs : List ℕ) → slice_get xs 0 ≡ Some s → ((i x : ℕ) → slice_get xs (suc i) ≡ Some x → s ≢ x) → filter (λ x. not (s == x)) xs ≡ drop 1 xs
 filter_first s [] first others = cc

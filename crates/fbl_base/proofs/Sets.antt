@@ -35,10 +35,7 @@ len-within (suc n) s t some within =
     let s1 = len-remove_one s k.0 k.1 in
     let t1 = len-remove_one t k.0 (within k.0 k.1) in
     let rest = len-within n (set.remove s k.0) (set.remove t k.0) (omega (arith, s1, some)) (λ q h.
-    let left = set.contains-remove nat_cmp_total s k.0 q in
-    let other = set.contains-remove nat_cmp_total t k.0 q in
-    let has = within q in
-    grind (arith, left, other, has, h)) in
+    grind (arith, set.contains-remove nat_cmp_total s k.0 q, set.contains-remove nat_cmp_total t k.0 q, within q, h)) in
     omega (arith, s1, t1, rest)
 
 -- a set with more members than another has one that the other lacks

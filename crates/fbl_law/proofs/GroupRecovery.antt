@@ -1,12 +1,12 @@
 -- What stays in a recovery, the events before their member's first lost receipt; what is left is lawful, the group stays sound, and which
 -- receipts are undone.
 use Rattle.fbl_law.proofs.Common.{receipt-number, ◌≡◌, ℕ, ◌<◌, ◌≤◌, inl, inr, List, length, map, Some, refl, ap, ◌∙◌, arith, true, sym, Determinant, Event, mark_of, receipt_of}
-use Rattle.fbl_law.proofs.Common.{Has, itself, Next, Lawful, note_of, Message, MemberRecord, IsInFlight, IsUp, Stays, IsEventCut, GroupRecord, member, member_checkpoint, marks}
-use Rattle.fbl_law.proofs.Common.{knowledge, receipts_at, IsFold, IsReplayed, IsSound, IsRecovery, length-left, Mark, ◌+◌, not, slice_get, filter, determinant_of, receipts}
-use Rattle.fbl_law.proofs.Common.{is_receipt, recovered_trace, nat_tests, sends_of, Progress, IsDown, stays_by, Send, Receipt, is_recorded, length-filter_both, same_from_decides}
-use Rattle.fbl_law.proofs.Common.{At, Bool, Entry, UpTo, before_lost, cases_eq, cond, count_by, eqb-self, fails_before_first, false, false≢true, get_or_from_slice_get, is_held}
-use Rattle.fbl_law.proofs.Common.{is_lost, is_receipt_of, is_send_of, member_of, nat_lt, passes_at_first, position_or_len, recovery_table, slice_get_within, stays_in, GainsHolders}
-use Rattle.fbl_law.proofs.Common.{GainsTheDown, LeavesRecorded, OfRecovery}
+use Rattle.fbl_law.proofs.Common.{Has, itself, Next, Lawful, MemberRecord, IsUp, Stays, IsEventCut, GroupRecord, member, member_checkpoint, marks, knowledge, receipts_at, IsFold}
+use Rattle.fbl_law.proofs.Common.{IsReplayed, IsSound, IsRecovery, length-left, Mark, ◌+◌, not, slice_get, filter, determinant_of, receipts, is_receipt, recovered_trace, nat_tests}
+use Rattle.fbl_law.proofs.Common.{sends_of, Progress, IsDown, stays_by, Send, Receipt, is_recorded, length-filter_both, same_from_decides, At, Bool, Entry, UpTo, before_lost}
+use Rattle.fbl_law.proofs.Common.{cases_eq, cond, count_by, eqb-self, fails_before_first, false, false≢true, get_or_from_slice_get, is_held, is_lost, is_receipt_of, is_send_of}
+use Rattle.fbl_law.proofs.Common.{member_of, nat_lt, passes_at_first, position_or_len, recovery_table, slice_get_within, stays_in, GainsHolders, GainsTheDown, LeavesRecorded}
+use Rattle.fbl_law.proofs.Common.{OfRecovery}
 use Rattle.std.specs.FinSet as set
 use Rattle.fbl_base.specs.declared.trace.Event.TheVariants as event
 use Rattle.fbl_law.proofs.ReplayedRecords.{log-length, all-taken, replayed-kept, fold-replayed, replayed-fold, mark-at, number-front}
@@ -210,16 +210,6 @@ module _ {S N : Type 0} {next : Next S N} {old : GroupRecord S N} (sound : IsSou
     ]
 
 module _ {S N : Type 0} (next : Next S N) (old new : GroupRecord S N) (step : IsRecovery next old new) (sound : IsSound next old) where
-  note-flies : (v : Message N) → IsInFlight (knowledge new) v → note_of new.trace v.from v.ssn ≡ Some v.note
-  note-flies v among =
-      elim (down_or_both_up old.down v.from v.to) [
-        | inl down ↦ (step.made_again v.from v.to down).notes v among
-        | inr up ↦
-            let was = sound.notes v (rw (step.rest.channels v.from v.to up.0 up.1) at among) in
-            rw step.trace.1 (note-stays old.config.members step.trace.0 old.trace sound.lawful.well_formed
-            (cut-causes sound step.trace) v.from v.ssn v.note (cut-keeps_up sound step.trace v.from up.0) was)
-      ]
-
   pub group_recovery_keeps : IsSound next new
   group_recovery_keeps = record {
     config = rw step.rest.config sound.config;
@@ -237,7 +227,13 @@ module _ {S N : Type 0} (next : Next S N) (old new : GroupRecord S N) (step : Is
       | inr up ↦ rw (step.rest.survivors m up) (sound.distinct m)
     ];
     shape = rw step.rest.config step.rest.shape;
-    notes = note-flies;
+    notes = λ v among. elim (down_or_both_up old.down v.from v.to) [
+      | inl down ↦ (step.made_again v.from v.to down).notes v among
+      | inr up ↦
+          let was = sound.notes v (rw (step.rest.channels v.from v.to up.0 up.1) at among) in
+          rw step.trace.1 (note-stays old.config.members step.trace.0 old.trace sound.lawful.well_formed
+          (cut-causes sound step.trace) v.from v.ssn v.note (cut-keeps_up sound step.trace v.from up.0) was)
+    ];
     counted = omega (arith, step.rest.undone_ever, sound.counted, step.rest.receipts_ever);
   }
 

@@ -3,9 +3,9 @@ use Rattle.fbl_law.proofs.Common.{Bool, ◌≡◌, ℕ, suc, ◌+◌, ◌<◌, �
 use Rattle.fbl_law.proofs.Common.{append_assoc, length-append, Contains, filter, filter_map, cons_option, length-map, map-append, take_all, get_or_past, filter_map-append, Start}
 use Rattle.fbl_law.proofs.Common.{Event, Mark, mark_of, determinant_of, receipt_of, in_flight, sent_on, taken_on, sends_of, WellFormed, MayFollow, Next, Lawful, sent, action_of}
 use Rattle.fbl_law.proofs.Common.{actions_of, notes_of, start_of, starts_of, filter_map-At, WellFormed-none, WellFormed-push, fresh, Message, MemberRecord, blank, send_mark, is_on}
-use Rattle.fbl_law.proofs.Common.{GroupRecord, channel, knowledge, receipts, IsSound, received_notes, if◌then◌else◌, Send, Settings, IsConfig, StartAllowed, notes_of-sent}
-use Rattle.fbl_law.proofs.Common.{IsGroupStart, start_events, message_of_send, At-filter_map, nat_tests, IsOnce-none, Entry, Has, Has-first, IsSoundKnowledge, IsThere, NamesCauses}
-use Rattle.fbl_law.proofs.Common.{Store, entries, in_checkpoint, in_message, in_table}
+use Rattle.fbl_law.proofs.Common.{GroupRecord, channel, knowledge, receipts, IsSound, if◌then◌else◌, Send, Settings, IsConfig, StartAllowed, notes_of-sent, IsGroupStart}
+use Rattle.fbl_law.proofs.Common.{start_events, message_of_send, At-filter_map, nat_tests, IsOnce-none, Entry, Has, Has-first, IsSoundKnowledge, IsThere, NamesCauses, Store}
+use Rattle.fbl_law.proofs.Common.{entries, in_checkpoint, in_message, in_table}
 use Rattle.fbl_base.specs.declared.trace.Event.TheVariants as event
 use Rattle.std.proofs.Common.{append-nil}
 use Rattle.fbl_law.proofs.Channels.{fifo}
@@ -83,16 +83,13 @@ module _ {S N : Type 0} (next : Next S N) (config : Settings N) (r : GroupRecord
   acted : (m : ℕ) → actions_of events m ≡ map sent (starts_of m config.starts)
   acted m = starts_given (action_of events m) (λ s. if s.from == m then Some (sent (s.to, s.note)) else None) (λ s k. refl) [] config.starts ∙ sends_of_one m config.starts
 
-  no_notes : (m : ℕ) → received_notes events m ≡ []
-  no_notes m = ap notes_of (acted m) ∙ notes_of-sent (starts_of m config.starts)
-
   is_lawful : Lawful next n config.starts events
   is_lawful = record {
     well_formed = obeys;
     starts_first =
         ap (filter_map start_of) (take_all (length config.starts) events (omega (arith, length-starts [] config.starts)))
         ∙ starts_given start_of (λ s. Some s) (λ s k. refl) [] config.starts ∙ filter_map-all config.starts;
-    responds = λ m. rw (no_notes m, append-nil) (acted m);
+    responds = λ m. rw (ap notes_of (acted m) ∙ notes_of-sent (starts_of m config.starts), append-nil) (acted m);
   }
 
   unreceived : receipts (map mark_of events) ≡ []

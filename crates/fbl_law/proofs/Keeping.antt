@@ -2,9 +2,9 @@
 use Rattle.fbl_law.proofs.Common.{◌≡◌, ℕ, List, inl, inr, arith, subst, refl, Contains, Determinant, Mark, member_of, receipt_of, Has, Precedes, Has-last, some_outside, Entry}
 use Rattle.fbl_law.proofs.Common.{piggybacked, Message, Includes, Knowledge, Store, in_table, in_message, in_checkpoint, owner, entries, table, checkpoint, IsThere, Owes, IsUp}
 use Rattle.fbl_law.proofs.Common.{Names, Holds, IsRecorded, IsHolder, IsStable, IsTrueEntry, NamesCauses, IsDownEmpty, IsCheckpointKept, IsSoundKnowledge, MatchesTrace, WellFormed}
-use Rattle.fbl_law.proofs.Common.{◌≤◌, Some, ap, ◌∙◌, AllBelow, Members, Next, note_of, MemberRecord, blank, IsInFlight, GroupRecord, knowledge, IsFold, IsSound, IsStrike}
-use Rattle.fbl_law.proofs.Common.{RecordedTest, contains-union, IsOnce-none, false, ◌≢◌, ◌<◌, sym, slice_set, cases_eq, length-set, get_or-set_same, get_or-set_other, itself}
-use Rattle.fbl_law.proofs.Common.{member, member_checkpoint, IsReplayed, IsCheckpoint, CheckpointIsRecorded, GroupCheckpointKeeps}
+use Rattle.fbl_law.proofs.Common.{◌≤◌, ap, ◌∙◌, AllBelow, Members, Next, MemberRecord, blank, GroupRecord, knowledge, IsFold, IsSound, IsStrike, RecordedTest, contains-union}
+use Rattle.fbl_law.proofs.Common.{IsOnce-none, false, ◌≢◌, ◌<◌, sym, slice_set, cases_eq, length-set, get_or-set_same, get_or-set_other, itself, member, member_checkpoint}
+use Rattle.fbl_law.proofs.Common.{IsReplayed, IsCheckpoint, CheckpointIsRecorded, GroupCheckpointKeeps}
 use Rattle.fbl_law.proofs.Safe.{down_or_up, up_at_ends, IsRecorded-before, recorded_holder, Contains-piggybacked, passed_or_known, never_both, Decides-recorded, up_if_none}
 use Rattle.fbl_law.proofs.Safe.{IsRecorded-reached, nobody_down_empty}
 use Rattle.std.specs.FinSet as sets
@@ -144,18 +144,6 @@ module _ {S N : Type 0} (next : Next S N) (old new : GroupRecord S N) (struck : 
     strike_keeps =
         sound_after keeps sound.causes (λ k there. sound_kept keeps sound.causes k there (same k there)) (λ m. checkpoint_kept keeps sound.causes m (rw (s.checkpoints, s.outside) refl))
 
-  notes_kept : IsSound next old → (v : Message N) → IsInFlight (knowledge new) v → note_of new.trace v.from v.ssn ≡ Some v.note
-  notes_kept sound v flying =
-      let ends = up_at_ends (knowledge new) s.emptied v.from v.to v flying in
-      rw s.trace (sound.notes v (rw (s.channels v.from v.to ends.0 ends.1) at flying))
-
-  fold_kept : (m : ℕ) → IsUp (knowledge new) m → IsFold next old m → IsFold next new m
-  fold_kept m up f = record {
-    progress = rw (s.survivors m up, s.config, s.trace) f.progress;
-    places = rw (s.survivors m up) f.places;
-    last = λ q below. rw (s.survivors m up, s.trace) (f.last q below);
-  }
-
   pub group_strike_keeps : AllBelow struck old.config.members → sets.len new.down ≤ old.config.f → IsSound next old → IsSound next new
   group_strike_keeps within few sound = record {
     config = rw s.config sound.config;
@@ -166,11 +154,19 @@ module _ {S N : Type 0} (next : Next S N) (old new : GroupRecord S N) (struck : 
     lawful = rw (s.config, s.trace) sound.lawful;
     room = rw (s.config, s.trace) sound.room;
     causes = rw s.config (strike_keeps few sound);
-    folds = λ m below now. fold_kept m now (sound.folds m (rw s.config at below) (up m now));
+    folds = λ m below now.
+        let fold = sound.folds m (rw s.config at below) (up m now) in
+        record {
+          progress = rw (s.survivors m now, s.config, s.trace) fold.progress;
+          places = rw (s.survivors m now) fold.places;
+          last = λ q within. rw (s.survivors m now, s.trace) (fold.last q within);
+        };
     blanks = λ m below down. rw s.config (s.blanks m down);
     distinct = λ m. elim (down_or_up new.down m) [ inl down ↦ rw (s.blanks m down) IsOnce-none | inr now ↦ rw (s.survivors m now) (sound.distinct m) ];
     shape = rw s.config s.shape;
-    notes = notes_kept sound;
+    notes = λ v flying.
+        let ends = up_at_ends (knowledge new) s.emptied v.from v.to v flying in
+        rw s.trace (sound.notes v (rw (s.channels v.from v.to ends.0 ends.1) at flying));
     counted = rw (s.trace, s.undone_ever, s.receipts_ever) sound.counted;
   }
 

@@ -1,21 +1,16 @@
 -- A member's receipts in a trace, in order, and the numbers of its events; that events that are appended are new.
-use Rattle.fbl_law.proofs.Common.{append_assoc, ◌≡◌, ℕ, List, [], ◌∷◌, ◌++◌, arith, ◌∙◌, Some, Mark, Has, Earlier, MayFollow, WellFormed, At-front, At-below, one_place}
-use Rattle.fbl_law.proofs.Common.{WellFormed-front, MayFollow-last, suc, ◌+◌, ◌≤◌, ◌==◌, true, cond, length, map, Option, slice_get, refl, ap, take, drop, ◌<◌, length-take}
-use Rattle.fbl_law.proofs.Common.{filter_map, fold, nat_tests, length-map, take-append-drop, sum_by-cons, slice_get-map, Determinant, Event, At, mark_of, determinant_of}
-use Rattle.fbl_law.proofs.Common.{receipt_of, is_receipt_of, receipts_of, taken_on, action_of, notes_of, note_of, filter_map-At, At-filter, At-filter_map, WellFormed-take}
-use Rattle.fbl_law.proofs.Common.{receipts-noted, received_notes, receipts_at, is_receipt, WellFormed-keeps, filter-append, filter_map-append, Send, Receipt, At-push, append-nil}
-use Rattle.fbl_law.proofs.Common.{Bool, count_by, sum_by-append, is_send_of, sends_of, Knowledge, IsBeforeCheckpoint, take-append-add, checkpoint, noted}
+use Rattle.fbl_law.proofs.Common.{append_assoc, ◌≡◌, ℕ, List, [], ◌∷◌, ◌++◌, arith, ◌∙◌, Some, Mark, Has, MayFollow, WellFormed, At-front, At-below, one_place, WellFormed-front}
+use Rattle.fbl_law.proofs.Common.{MayFollow-last, suc, ◌+◌, ◌≤◌, ◌==◌, true, cond, length, map, Option, slice_get, refl, ap, take, drop, ◌<◌, length-take, filter_map, fold}
+use Rattle.fbl_law.proofs.Common.{nat_tests, length-map, take-append-drop, sum_by-cons, slice_get-map, Determinant, Event, At, mark_of, determinant_of, receipt_of, is_receipt_of}
+use Rattle.fbl_law.proofs.Common.{receipts_of, taken_on, action_of, notes_of, note_of, filter_map-At, At-filter, At-filter_map, WellFormed-take, receipts-noted, received_notes}
+use Rattle.fbl_law.proofs.Common.{receipts_at, is_receipt, WellFormed-keeps, filter-append, filter_map-append, Send, Receipt, At-push, append-nil, Bool, count_by, sum_by-append}
+use Rattle.fbl_law.proofs.Common.{is_send_of, sends_of, Knowledge, IsBeforeCheckpoint, take-append-add, checkpoint, noted}
 use Rattle.fbl_base.specs.declared.trace.Event.TheVariants as event
 use Rattle.fbl_law.proofs.Lists.{At-behind, some-at, filter-At, filter-passes}
 
 -- each event of a trace that obeys the rules may follow those before it
 pub MayFollow-seam : (n : ℕ) (t : List Mark) (e : Mark) (rest : List Mark) → WellFormed n (t ++ e ∷ rest) → MayFollow n t e
 MayFollow-seam n t e rest obeys = MayFollow-last n t e (WellFormed-front n (t ++ e ∷ []) rest (rw append_assoc obeys))
-
-pub Earlier-joined : (n : ℕ) (t : List Mark) (a b c : Mark) → WellFormed n t → Earlier t a b → Earlier t b c → Earlier t a c
-Earlier-joined n t a b c obeys first second =
-    let same = one_place n t obeys b second.0 first.1 second.3 first.4 in
-    (first.0, second.1, omega (arith, first.2, second.2, same), first.3, second.4)
 
 -- the events that are appended to a trace are new
 pub disjoint : (n : ℕ) (t added : List Mark) → WellFormed n (t ++ added) → (e : Mark) → Has added e → ¬ (Has t e)

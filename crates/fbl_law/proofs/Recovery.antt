@@ -1,12 +1,11 @@
 -- A recovery keeps knowledge sound.
-use Rattle.fbl_law.proofs.Common.{List, ◌≡◌, ℕ, ◌↔◌, Bool, true, inl, inr, refl, sym, ap, ◌∙◌, Some, filter, Determinant, Mark, member_of, send_of, receipt_of, Has, Earlier}
-use Rattle.fbl_law.proofs.Common.{Precedes, itself, step, WellFormed, sent_on, taken_on, Has-first, Knowledge, Store, in_table, in_message, in_checkpoint, IsThere, table, IsDown}
-use Rattle.fbl_law.proofs.Common.{IsUp, Names, Holds, IsRecorded, IsHolder, IsClosed, MatchesTrace, IsSoundKnowledge, NamesCauses, Stays, Send, Receipt, Has-filter}
-use Rattle.fbl_law.proofs.Common.{Precedes-filter, nat_tests, arith, Event, GainsHolders, GroupRecord, IsEventCut, IsRecovery, IsSound, MemberRecord, Next, StaysIsRecorded}
-use Rattle.fbl_law.proofs.Common.{knowledge, map, mark_of, marks, recovery_table}
+use Rattle.fbl_law.proofs.Common.{one_place, List, ◌≡◌, ℕ, ◌↔◌, Bool, true, inl, inr, refl, sym, ap, ◌∙◌, Some, filter, Determinant, Mark, member_of, send_of, receipt_of, Has}
+use Rattle.fbl_law.proofs.Common.{Earlier, Precedes, itself, step, WellFormed, sent_on, taken_on, Has-first, Knowledge, Store, in_table, in_message, in_checkpoint, IsThere, table}
+use Rattle.fbl_law.proofs.Common.{IsDown, IsUp, Names, Holds, IsRecorded, IsHolder, IsClosed, IsSoundKnowledge, NamesCauses, Stays, Send, Receipt, Has-filter, Precedes-filter}
+use Rattle.fbl_law.proofs.Common.{nat_tests, arith, Event, GainsHolders, GroupRecord, IsEventCut, IsRecovery, IsSound, MemberRecord, Next, StaysIsRecorded, knowledge, map, mark_of}
+use Rattle.fbl_law.proofs.Common.{marks, recovery_table}
 use Rattle.fbl_law.proofs.CutLawful.{KeepsCauses, Has-before, WellFormed-kept, map-kept, marks-filter}
 use Rattle.fbl_law.proofs.Lists.{filter-passes, filter-At}
-use Rattle.fbl_law.proofs.Receipts.{Earlier-joined}
 use Rattle.fbl_law.proofs.Safe.{entries_gathered, gathered_recorded, recorded_gathered, down_or_up, down_or_both_up, never_both, nobody_down_empty, up_if_none, IsRecorded-depended}
 use Rattle.fbl_law.proofs.Safe.{IsRecorded-before, Has-recorded}
 use Rattle.fbl_law.proofs.Keeping.{KeepsKnowledge, IsSoundAt, sound_kept, sound_passed, checkpoint_kept, sound_after}
@@ -26,7 +25,9 @@ module _ {S N : Type 0} (n f : ℕ) (old : Knowledge S N) (obeys : WellFormed n 
   Stays-earlier : (a b : Mark) → Stays old b → Earlier old.trace a b → member_of a ≡ member_of b → Stays old a
   Stays-earlier a b stays earlier same down c at_a up_to = stays (rw (← same) down) c (at_a ∙ same) (elim up_to [
     | inl is ↦ inr (rw is earlier)
-    | inr before ↦ inr (Earlier-joined n old.trace (receipt_of c) a b obeys before earlier)
+    | inr before ↦
+        let here = one_place n old.trace obeys a before.1 earlier.0 before.4 earlier.3 in
+        inr (before.0, earlier.1, omega (arith, before.2, earlier.2, here), before.3, earlier.4)
   ])
 
   -- what precedes an event of a member that is up is recorded
@@ -127,21 +128,18 @@ module _ {S N : Type 0} (next : Next S N) (old new : GroupRecord S N) (recovery 
     Holds-recovered d m,
   )
 
-  -- the events of up members stay, so what is in flight between them stays
-  MatchesTrace-recovered : (q p : ℕ) → MatchesTrace (knowledge new) q p
-  MatchesTrace-recovered q p = elim (down_or_both_up old.down q p) [
-    | inl down ↦ (recovery.made_again q p down).sends
-    | inr up ↦
-        let same_sent = map-kept cut.0 (sent_on q p) (marks old) (λ e y there is. cut-keeps_up sound cut q up.0 e there (grind (arith, nat_tests))) in
-        let same_taken = map-kept cut.0 (taken_on q p) (marks old) (λ e y there is. cut-keeps_up sound cut p up.1 e there (grind (arith, nat_tests))) in
-        rw (recovery.rest.channels q p up.0 up.1, cut-marks sound cut, same_sent, same_taken) (sound.causes.channels q p up.0 up.1)
-  ]
-
   keeps : KeepsKnowledge old.config.members old.config.f (knowledge old) (knowledge new)
   keeps = record {
     rules = cut-obeys sound cut;
     down = nobody_down_empty old.config.f (knowledge new) recovery.rest.nobody_down;
-    channels = λ q p up_q up_p. MatchesTrace-recovered q p;
+    -- the events of up members stay, so what is in flight between them stays
+    channels = λ q p up_q up_p. elim (down_or_both_up old.down q p) [
+      | inl down ↦ (recovery.made_again q p down).sends
+      | inr up ↦
+          let same_sent = map-kept cut.0 (sent_on q p) (marks old) (λ e y there is. cut-keeps_up sound cut q up.0 e there (grind (arith, nat_tests))) in
+          let same_taken = map-kept cut.0 (taken_on q p) (marks old) (λ e y there is. cut-keeps_up sound cut p up.1 e there (grind (arith, nat_tests))) in
+          rw (recovery.rest.channels q p up.0 up.1, cut-marks sound cut, same_sent, same_taken) (sound.causes.channels q p up.0 up.1)
+    ];
     held = λ d m up. Holds-recovered d m;
     left = left_if sound cut;
     paths = λ there path. Precedes-filter cut.0 (marks old) (rw (cut-marks sound cut) at path);
