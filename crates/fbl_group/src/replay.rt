@@ -9,7 +9,7 @@ ghost use Rattle.fbl_law.specs.Groups.{member_checkpoint, knowledge};
 ghost use Rattle.fbl_law.specs.Steps.{gathered_all, saved_tables, recovery_table};
 ghost use Rattle.fbl_law.specs.Sound.{IsSound};
 ghost use Rattle.fbl_law.specs.Replaying.{working, replayed_in, IsReplaying, IsWaiting};
-ghost use Rattle.fbl_group.specs.Rebuilding.{AreByNumber, AreReplaying, Tries, Rounds, IsReady};
+ghost use Rattle.fbl_group.specs.Strikes.{AreByNumber, AreReplaying, Tries, Rounds, IsReady};
 
 use crate::group::Group;
 use crate::rebuilt::Rebuilt;

@@ -1,5 +1,5 @@
 use Rattle.fbl_group.proofs.Common.{arith, rows, ap, ◌∙◌, GroupRecord}
-use Rattle.fbl_group.proofs.BringingBack.{size, short-again, fewer, undone-few, undone-fits, is_sound, recovers}
+use Rattle.fbl_group.proofs.Recovering.{size, short-again, fewer, undone-few, undone-fits, is_sound, recovers}
 use Rattle.fbl_group.proofs.group.Group.bring_back.Goals as goal
 
 pub messages-resent-requires-clause-shape : goal.messages-resent-requires-clause-shape

@@ -1,7 +1,7 @@
 use Rattle.fbl_group.proofs.Common.{◌≡◌, length, arith, rules, refl, ap, ◌∙◌, room_in}
 use Rattle.std.proofs.Common.{Option, Some, None, IfNone, IsSome}
 use Rattle.fbl_group.proofs.Queues.{length-messages, made-fits}
-use Rattle.fbl_group.proofs.Planning as planning
+use Rattle.fbl_group.proofs.Delivering as planning
 use Rattle.fbl_group.proofs.group.Group.settle.Goals as goal
 
 pub reserve_from-requires-clause-receivers : goal.reserve_from-requires-clause-receivers
