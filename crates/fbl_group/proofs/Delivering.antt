@@ -4,7 +4,7 @@ use Rattle.fbl_group.proofs.Common.{length-append, Fits, w32, slice_get, slice_s
 use Rattle.fbl_group.proofs.Common.{taken_off, between, GroupRecord, HasChannels, member, channel, channel_in, knowledge, IsSound, step_of, up_if_none, receipts_fit, flight_at, IsOnce}
 use Rattle.fbl_group.proofs.Common.{front_message, send_of_message, taken_and_sent, IsPlanned, set-get_or, Receipt, SendsAllowed, is_held, last_from, received_by, table_after}
 use Rattle.fbl_group.proofs.Common.{next_determinant, IsInFlight, delivery_events, IsDelivery, SendsWell, sends_fit, receipt_is_new, new_not_held, new_not_carried, front_is_later}
-use Rattle.fbl_group.proofs.Common.{carried_fits, length-step_events, group_delivery_keeps, Delivered, cond, is_full, front, deliver_refusal, of_commit, IsDeliverRefusal, Delivers}
+use Rattle.fbl_group.proofs.Common.{carried_fits, length-step_events, Delivered, cond, is_full, front, deliver_refusal, of_commit, IsDeliverRefusal, Delivers}
 use Rattle.fbl_group.proofs.Common.{Receipted, Ticket, CommitRefusal, take_refusal, IsTicket, IsCurrent, IsFresh, MayCommit, RefusesCommit, sends_at, flight_ends}
 use Rattle.fbl_law.specs.GroupSteps.{made as made_by}
 use Rattle.fbl_group.proofs.Queues.{first-is, messages-all, sends-messages, settled-in}
@@ -144,9 +144,6 @@ module _ {S N : Type 0} {next : Next S N} {r now : GroupRecord S N} {q p : ℕ} 
           is_delivery : IsDelivery next r new v
           is_delivery =
               grind (arith, plan, of_sender, to_receiver, room, longer, trace_is, at_place, receives, settled)
-
-          pub is_sound : IsSound next new
-          is_sound = group_delivery_keeps next r new v well is_delivery sound
 
           -- what the delivery answers
           pub is_delivered : {carried : List Entry} → carried ≡ w.carried

@@ -5,7 +5,7 @@ use Rattle.fbl_group.proofs.Common.{blank, IsDown, recovery_table, GroupRecord, 
 use Rattle.fbl_group.proofs.Common.{replay_begins, replaying-next, replay_is_right, replayed_in-step, replaying-tables, AreByNumber, Tries, Rounds, Made, cond, common_steps, Members}
 use Rattle.fbl_group.proofs.Common.{AreRecordsReplaced, ◌||◌, ◌⊎◌, ◌-◌, map, Fits, filter, get_or_past, Event, mark_of, Message, IsUp, channel_in, channel, member, marks, receipts}
 use Rattle.fbl_group.proofs.Common.{sent_again, sum_below-agree, Recovers, AreReplaced, IsReady, w32, w64, ◌^◌, messages_in, is_replayed, stays_by, recovered_trace, resent_to, IsRebuilt}
-use Rattle.fbl_group.proofs.Common.{group_recovery_keeps, cut-undone, recovered_trace-cut, sent_again-short, with-table, working-log, replayed_in-all, recovered_trace-rebuilt}
+use Rattle.fbl_group.proofs.Common.{cut-undone, recovered_trace-cut, sent_again-short, with-table, working-log, replayed_in-all, recovered_trace-rebuilt}
 use Rattle.fbl_group.proofs.Common.{rebuilt_is_recovered, messages_at, IsRecovery}
 use Rattle.std.specs.FinSet as set
 use mir.Val.{bool_byte}
@@ -228,9 +228,6 @@ module _ {S N : Type 0} {next : Next S N} {old now : GroupRecord S N} {rebuilt :
 
         is_recovery : IsRecovery next old new
         is_recovery = rebuilt_is_recovered next old sound rebuilt replaying ready.waiting new is_rebuilt
-
-        pub is_sound : IsSound next new
-        is_sound = group_recovery_keeps next old new is_recovery sound
 
         -- what is answered, from the number of messages that are sent again
         pub recovers : {messages : ℕ} → messages ≡ messages_in n again → Recovers next now new (record { replayed = replays; resent = messages; undone = undone })

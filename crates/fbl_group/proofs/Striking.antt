@@ -4,7 +4,7 @@ use Rattle.fbl_group.proofs.Common.{nat_tests, get_or_default, get_or_past, sum_
 use Rattle.fbl_group.proofs.Common.{marks, knowledge, IsSound, IsStrike, AreReplaced, lost_receipts, filter, not, receipts, is_lost_receipt_of, Message, no_orphan, nat_cmp, eq_by_cmp}
 use Rattle.fbl_group.proofs.Common.{unsigned_tied, nat_cmp_total, false≢true, true_from_ne_false, ◌↔◌, Any-from_list_any, list_any-from_Any, AllPass-from_list_all, list_all-from_AllPass}
 use Rattle.fbl_group.proofs.Common.{receipt_of, Has, itself, AllBelow, eqb-self, is_recorded, group_strike_keeps, recorded_test, is_within, strike_refusal, AreRecordsReplaced, get_or}
-use Rattle.fbl_group.proofs.Common.{slice_set, IsCheckpoint, group_checkpoint_keeps, sound_holds_each_receipt, recovery_leaves_recorded}
+use Rattle.fbl_group.proofs.Common.{slice_set, IsCheckpoint, sound_holds_each_receipt, recovery_leaves_recorded}
 use Rattle.std.specs.FinSet as set
 use Rattle.fbl_base.specs.declared.trace.Event.TheVariants as event
 use Rattle.std.specs.Prelude.{Bool}
@@ -65,9 +65,6 @@ module _ {S N : Type 0} {next : Next S N} {old : GroupRecord S N} {struck down :
   is_strike =
       grind (arith, struck_blank, blanked.size, blanked.others, emptied, emptied_where, both_down, sound.blanks, sound.down, sound.causes.down.channels)
 
-  pub is_sound : IsSound next new
-  is_sound = group_strike_keeps next old new struck is_strike (within-below struck old.config.members (grind (arith, nat_tests))) (rw joined (grind (arith, nat_tests))) sound
-
 module _ {S N : Type 0} where
   -- in a sound group each receipt of a member that is up is recorded
   up-recorded : (next : Next S N) (r : GroupRecord S N) (d : Determinant) → IsSound next r → Has (marks r) (receipt_of d) → IsUp (knowledge r) d.to → is_recorded r d ≡ true
@@ -101,24 +98,18 @@ module _ {S N : Type 0} {next : Next S N} {old now : GroupRecord S N} (sound : I
   within : p < old.config.members
   within = rw view below
 
-  kept : IsCheckpoint old saved p
-  kept = record {
+  pub is_checkpoint : IsCheckpoint now saved p
+  is_checkpoint = rw (← view) (record {
     nobody_down = set.empty_of_len old.down (rw view none_down);
     below = within;
     saved = rw (is_place, same, read_at old.outside old.members is_place (omega (arith, within, sound.members)) is) refl;
-  }
-
-  pub is_checkpoint : IsCheckpoint now saved p
-  is_checkpoint = rw (← view) kept
-
-  pub saved_is_sound : IsSound next saved
-  saved_is_sound = group_checkpoint_keeps _ _ next old saved p kept sound
+  })
 
 -- ---- the theorem: strikes keep a group sound, and of a sound group each part holds
 
 module _ {S N : Type 0} (next : Next S N) where
   -- a strike that is allowed keeps a group sound
-  strike_keeps : (old new : GroupRecord S N) (struck : Members) → strike_refusal old struck ≡ None → IsStrike next old new struck → IsSound next old → IsSound next new
+  pub strike_keeps : (old new : GroupRecord S N) (struck : Members) → strike_refusal old struck ≡ None → IsStrike next old new struck → IsSound next old → IsSound next new
   strike_keeps old new struck allowed strike sound =
       let few : set.len (set.union old.down struck) ≤ old.config.f = grind (arith, nat_tests) in
       group_strike_keeps next old new struck strike (within-below struck old.config.members (grind (arith, nat_tests))) (rw strike.down few) sound
