@@ -197,9 +197,9 @@ added-apart first [] apart once = sym (append-nil first)
 added-apart first (e ∷ rest) apart once =
     ap (λ (t : List Entry). fold added t rest) (added_new first e (apart e.det (or_left _ _ ((Decides-same_determinant e.det e.det).1 refl))))
     ∙ added-apart (first ++ e ∷ []) rest (λ d has.
-        let other : same_determinant d e.det ≡ false = false_from_ne_true _ (λ same. false≢true (sym (missing rest e.det once.0)
-        ∙ (rw ((Decides-same_determinant d e.det).0 same) at has))) in
-        grind (arith, list_any-append (λ (y : Entry). same_determinant d y.det) first (e ∷ []), apart d (or_right (same_determinant d e.det) _ has), other)) once.1
+    let other : same_determinant d e.det ≡ false = false_from_ne_true _ (λ same. false≢true (sym (missing rest e.det once.0)
+    ∙ (rw ((Decides-same_determinant d e.det).0 same) at has))) in
+    grind (arith, list_any-append (λ (y : Entry). same_determinant d y.det) first (e ∷ []), apart d (or_right (same_determinant d e.det) _ has), other)) once.1
     ∙ append_assoc first (e ∷ []) rest
 
 pub gathered_first : (none table : List Entry) → length none ≡ 0 → IsOnce table → gathered none table ≡ table
