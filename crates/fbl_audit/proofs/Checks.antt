@@ -1,11 +1,11 @@
--- Which receipts are unsafe, and that the run is safe where none is.
-use Rattle.fbl_audit.proofs.Common.{ℕ, true, false, ◌≡◌, ◌<◌, ◌≤◌, ◌↔◌, inl, inr, List, [], ◌∷◌, length, Some, refl, sym, ap, ◌∙◌, arith}
-use Rattle.fbl_audit.proofs.Common.{get_or, max, zero, suc, slice_get, nat_cmp_total, slice_get_read, false≢true, Members, Determinant, Mark, Send, Receipt, Parts, IsDump, IsDumpOrphan}
-use Rattle.fbl_audit.proofs.Common.{IsLost, At, determinant_of, receipt_of, Depends, depends-from_places, places-from_depends, Has-first, len-remove_one}
-use Rattle.fbl_audit.proofs.Common.{some_member, IsSafe, SaysUnsafe, receipts, DependsOnPlace, WellFormed, holders_of, holds, is_receipt}
-use Rattle.fbl_audit.proofs.Common.{contains-union, len-within}
-use Rattle.fbl_audit.proofs.Common.{filter_map-At, UnsafeReceipt, IsLeftOrphan, IsSaidOf, IsUnsafe, LosesReceipt, MayBeLost, struck_by}
+-- Which receipts are unsafe, that the run is safe where none is, and that with nobody struck it is so exactly by the always-no-orphans condition.
+use Rattle.fbl_audit.proofs.Common.{ℕ, true, false, ◌≡◌, ◌<◌, ◌≤◌, ◌↔◌, inl, inr, List, [], ◌∷◌, length, Some, refl, sym, ap, ◌∙◌, arith, get_or, max, zero, suc, slice_get}
+use Rattle.fbl_audit.proofs.Common.{nat_cmp_total, slice_get_read, false≢true, Members, Determinant, Mark, Send, Receipt, Parts, IsDump, IsDumpOrphan, IsLost, At, determinant_of}
+use Rattle.fbl_audit.proofs.Common.{receipt_of, Depends, depends-from_places, places-from_depends, Has-first, len-remove_one, some_member, IsSafe, SaysUnsafe, receipts, DependsOnPlace}
+use Rattle.fbl_audit.proofs.Common.{WellFormed, holders_of, holds, is_receipt, contains-union, len-within, filter_map-At, UnsafeReceipt, IsLeftOrphan, IsSaidOf, IsUnsafe, LosesReceipt}
+use Rattle.fbl_audit.proofs.Common.{MayBeLost, struck_by, cases_lt, Has, HasAlwaysNoOrphans, SafeLaw}
 use Rattle.std.specs.FinSet as set
+use Rattle.std.proofs.Common.{nat_cmp}
 
 -- ---- one receipt
 
@@ -125,3 +125,41 @@ dependents_of_receipt n t dependents i e d obeys are within is of_e q =
       λ h. depends-from_places t q i (receipt_of d) at (here.0 h),
       λ d'. here.1 (places-from_depends n t obeys q i (receipt_of d) at d'),
     )
+
+-- ---- runs with nobody struck
+
+module _ (dump : Parts) (rules : IsDump dump) (nobody : dump.strike ≡ set.empty) where
+  none_struck : (q : ℕ) → set.contains dump.strike q ≡ false
+  none_struck q = ap (λ s. set.contains s q) nobody ∙ set.contains-empty nat_cmp q
+
+  no_length : set.len dump.strike ≡ 0
+  no_length = ap set.len nobody ∙ set.len-empty nat_cmp
+
+  -- the least members that lose a receipt are its holders
+  in_least : (d : Determinant) (q : ℕ) → set.contains (least_of dump d) q ≡ true → set.contains (holders_of dump d) q ≡ true
+  in_least d q has = grind (arith, contains-union dump.strike (holders_of dump d) q, none_struck q, has)
+
+  -- who depends on a receipt of which few enough know, in a safe run, holds it
+  dependents_hold : IsSafe dump → (d : Determinant) → Has dump.events (receipt_of d) → set.len (holders_of dump d) ≤ dump.f
+      → (q : ℕ) → Depends dump.events q (receipt_of d) → set.contains (holders_of dump d) q ≡ true
+  dependents_hold safe d has few q depends =
+      let within = len-within (set.len (least_of dump d)) (least_of dump d) (holders_of dump d) refl (in_least d) in
+      let may = least_may dump d rules (omega (arith, within, few)) in
+      let left = λ (is : set.contains (least_of dump d) q ≡ false). safe (least_of dump d) may q (is, (receipt_of d, least_loses dump d, depends)) in
+      let held = in_least d q in
+      grind (arith, left, held)
+
+  by_condition : IsSafe dump → HasAlwaysNoOrphans dump
+  by_condition safe d has = elim (cases_lt dump.f (set.len (holders_of dump d))) [ inl many ↦ inl many | inr few ↦ inr (dependents_hold safe d has few) ]
+
+  of_condition : HasAlwaysNoOrphans dump → IsSafe dump
+  of_condition holds members may q orphan =
+      let left = left_of_receipt dump members q orphan in
+      let all = loses_all dump members left.0 left.1 in
+      elim (holds left.0 (Has-first left.2.1.1)) [
+        | inl many ↦ (let fewer = len-within (set.len (holders_of dump left.0)) (holders_of dump left.0) members refl all in omega (arith, many, fewer, may.few, no_length))
+        | inr held ↦ false≢true (sym left.2.0 ∙ all q (held q left.2.1))
+      ]
+
+pub safe_by_condition : SafeLaw
+safe_by_condition dump rules nobody = (by_condition dump rules nobody, of_condition dump rules nobody)

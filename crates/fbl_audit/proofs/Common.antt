@@ -24,7 +24,6 @@ pub use Rattle.fbl_base.specs.Rules.{WellFormed}
 pub use Rattle.fbl_base.specs.declared.trace.Determinant.{Determinant}
 pub use Rattle.fbl_base.specs.declared.trace.Mark.{Mark}
 pub use Rattle.fbl_base.specs.declared.trace.Mark.TheVariants.{Receipt, Send}
-pub use Rattle.fbl_audit.specs.Checking.{IsLeftOrphan, IsSafe, IsSaidOf, IsUnsafe, LosesReceipt, MayBeLost, SaysUnsafe, struck_by}
-pub use Rattle.fbl_audit.specs.Laws.{HasAlwaysNoOrphans, SafeLaw}
+pub use Rattle.fbl_audit.specs.Checking.{IsLeftOrphan, IsSafe, IsSaidOf, IsUnsafe, LosesReceipt, MayBeLost, SaysUnsafe, struck_by, HasAlwaysNoOrphans, SafeLaw}
 pub use Rattle.fbl_audit.specs.Paths.{AreEnds, IsBefore, IsEndBy, IsEndFound, IsFirstDependent, IsPath, Origin, Reaches, path_end, path_step}
 pub use Rattle.fbl_audit.specs.declared.checking.UnsafeReceipt.{UnsafeReceipt}

@@ -1,4 +1,3 @@
 pub mod Common
 pub mod Checks
 pub mod Searching
-pub mod SafeRuns

@@ -1,12 +1,6 @@
 pub mod Common
 pub mod Queues
-pub mod Planning
-pub mod Deciding
+pub mod Delivering
 pub mod Striking
-pub mod Promising
-pub mod Checkpointing
 pub mod Reading
-pub mod Starting
 pub mod Recovering
-pub mod PuttingBack
-pub mod BringingBack

@@ -1,10 +1,12 @@
--- Channels as queues: the loops over them, and what is left of them by a send, a delivery, a strike and a recovery.
-use Rattle.fbl_group.proofs.Common.{◌≡◌, ℕ, zero, suc, ◌+◌, ◌<◌, ◌≤◌, ◌⊎◌, Bool, true, false, cond, ◌-◌, List, [], ◌∷◌, ◌++◌, length, map, drop, replicate}
-use Rattle.fbl_group.proofs.Common.{refl, sym, ap, ◌∙◌, arith, ◌||◌, Some, slice_get, get_or, append_assoc, deque_items, All, length-map, length-set, map-append, get_or-set_same}
-use Rattle.fbl_group.proofs.Common.{get_or-set_other, set-get_or, get_or_past, nat_tests, filter-append, Members, Entry, Message, messages_from, between, is_on, taken_off}
-use Rattle.fbl_group.proofs.Common.{HasChannels, channel_in, rows, rooms, room_in, each, with_sent, taken_and_sent, send_of_message, Vec, set, append-nil, deque_len, deque_capacity, VecDeque}
-use Rattle.fbl_group.proofs.Common.{get_or-replicate, length-replicate, map-set, get_or-map, Channels, with_item, step_events, first_message, with_at, Made, made-more}
+-- Channels as queues: the loops over them, and what is left of them by a start, a send, a delivery, a strike and a recovery.
+use Rattle.fbl_group.proofs.Common.{◌≡◌, ℕ, zero, suc, ◌+◌, ◌<◌, ◌≤◌, ◌⊎◌, Bool, true, false, cond, ◌-◌, List, [], ◌∷◌, ◌++◌, length, map, drop, replicate, refl, sym, ap, ◌∙◌, arith}
+use Rattle.fbl_group.proofs.Common.{◌||◌, Some, slice_get, get_or, append_assoc, deque_items, All, length-map, length-set, map-append, get_or-set_same, get_or-set_other, set-get_or}
+use Rattle.fbl_group.proofs.Common.{get_or_past, nat_tests, filter-append, Members, Entry, Message, messages_from, between, is_on, taken_off, HasChannels, channel_in, rows, rooms}
+use Rattle.fbl_group.proofs.Common.{room_in, each, with_sent, taken_and_sent, send_of_message, Vec, set, append-nil, deque_len, deque_capacity, VecDeque, get_or-replicate}
+use Rattle.fbl_group.proofs.Common.{length-replicate, map-set, get_or-map, Channels, with_item, step_events, first_message, with_at, Made, made-more, filter_map-append, Event}
+use Rattle.fbl_group.proofs.Common.{message_of_send, filter_map, Start, Settings, IsConfig, StartAllowed, slice_get-get_or}
 use Rattle.std.specs.FinSet as set
+use Rattle.fbl_base.specs.declared.trace.Event.TheVariants.{Send}
 
 module _ {N : Type 0} where
   -- the first of a list that has one
@@ -188,3 +190,24 @@ module _ {N : Type 0} {n : ℕ} {s : Members} {by : ℕ → ℕ → List (Messag
 
   pub replacing-kept : {b : Bool} → b ≡ (set.contains s i || set.contains s j) → b ≡ false → Replacing n s by old now i (j + 1)
   replacing-kept tested neither = grind arith
+
+-- ---- what a group is made of at its start
+
+-- a start has a channel, and its message is at the end of it
+module _ {N : Type 0} {c : Settings N} {starts : List (Start N)} {i : ℕ} {s : Start N} {cs : List (List (List (Message N)))} {fits : N → Bool} (is : IsConfig fits c) (all : starts ≡ c.starts) (below : i < length starts)
+    (read : s ≡ get_or starts i s) (shape : HasChannels c.members cs) where
+  allowed : StartAllowed fits c.members s
+  allowed = is.starts i s (rw (← all, slice_get-get_or starts i s below, ← read) refl)
+
+  pub start-places : (s.from < length cs) × (s.to < length (get_or cs s.from []))
+  start-places = in-channels shape allowed.0 allowed.1
+
+  module _ (ssn : ℕ) {after : List (List (List (Message N)))} (put : after ≡ with_sent cs s.from (record { from = s.from; to = s.to; ssn = ssn; note = s.note; carried = [] } ∷ [])) where
+    pub start-shape : HasChannels c.members after
+    start-shape = rw put (written-shape _ shape allowed.0 allowed.1)
+
+    pub start-sent : (q p : ℕ) (events : List (Event N)) → channel_in cs q p ≡ between q p (filter_map message_of_send events)
+        → channel_in after q p ≡ between q p (filter_map message_of_send (events ++ Send s.from ssn s.to s.note ∷ []))
+    start-sent q p events was =
+        rw (put, filter_map-append message_of_send events (Send s.from ssn s.to s.note ∷ []), filter-append (is_on q p) (filter_map message_of_send events), ← was)
+        (put-in _ q p refl shape allowed.0 allowed.1)

@@ -1,10 +1,16 @@
--- The steps of a recovery before it changes the group: gathering, and replay in rounds.
-use Rattle.fbl_group.proofs.Common.{get_or-set_same, get_or-set_other, count_in-same, sum_below-none, replayed_in, AreReplaying, nat_lt, ◌≡◌, ℕ, ◌+◌, ◌<◌, ◌≤◌, Bool, true, false, List, [], length, Option, Some, get_or, refl, sym, ap, ◌∙◌, arith, slice_index_or}
-use Rattle.fbl_group.proofs.Common.{slice_set, nat_tests, get_or_default, Determinant, Next, MemberRecord, blank, IsDown, recovery_table, GroupRecord, member_checkpoint, knowledge, IsSound}
-use Rattle.fbl_group.proofs.Common.{working, IsReplaying, found, receipt_at, logged_note, replayed_by, replay_begins, replaying-next, replay_is_right, replayed_in-step}
-use Rattle.fbl_group.proofs.Common.{replaying-tables, AreByNumber, Tries, Rounds, Made}
+-- The steps of a recovery: gathering, replay in rounds, putting records in place, and what it leaves.
+use Rattle.fbl_group.proofs.Common.{get_or-set_same, get_or-set_other, count_in-same, sum_below-none, replayed_in, AreReplaying, nat_lt, ◌≡◌, ℕ, ◌+◌, ◌<◌, ◌≤◌, Bool, true, false, List}
+use Rattle.fbl_group.proofs.Common.{[], length, Option, Some, get_or, refl, sym, ap, ◌∙◌, arith, slice_index_or, slice_set, nat_tests, get_or_default, Determinant, Next, MemberRecord}
+use Rattle.fbl_group.proofs.Common.{blank, IsDown, recovery_table, GroupRecord, member_checkpoint, knowledge, IsSound, working, IsReplaying, found, receipt_at, logged_note, replayed_by}
+use Rattle.fbl_group.proofs.Common.{replay_begins, replaying-next, replay_is_right, replayed_in-step, replaying-tables, AreByNumber, Tries, Rounds, Made, cond, common_steps, Members}
+use Rattle.fbl_group.proofs.Common.{AreRecordsReplaced, ◌||◌, ◌⊎◌, ◌-◌, map, Fits, filter, get_or_past, Event, mark_of, Message, IsUp, channel_in, channel, member, marks, receipts}
+use Rattle.fbl_group.proofs.Common.{sent_again, sum_below-agree, Recovers, AreReplaced, IsReady, w32, w64, ◌^◌, messages_in, is_replayed, stays_by, recovered_trace, resent_to, IsRebuilt}
+use Rattle.fbl_group.proofs.Common.{cut-undone, recovered_trace-cut, sent_again-short, with-table, working-log, replayed_in-all, recovered_trace-rebuilt}
+use Rattle.fbl_group.proofs.Common.{rebuilt_is_recovered, messages_at, IsRecovery}
 use Rattle.std.specs.FinSet as set
 use mir.Val.{bool_byte}
+use Rattle.fbl_group.proofs.Queues.{Turned}
+use Rattle.fbl_group.proofs.Reading.{received-twice}
 
 module _ {S N : Type 0} where
   -- a record that is read at a place of the list, whatever stands past its end
@@ -73,3 +79,162 @@ module _ {S N : Type 0} {next : Next S N} {r : GroupRecord S N} (sound : IsSound
         },
         replayed_in-step next r sound rebuilt replaying p (sound.down p down) down d note,
       )
+
+-- ---- the loops that put records in place
+
+module _ {S N : Type 0} where
+  -- a member of the set has this record, another what it had
+  abbrev pub IsPut : S → Members → (ℕ → MemberRecord S N) → List (MemberRecord S N) → ℕ → MemberRecord S N → Type 0
+  IsPut outside s by old m x = x ≡ cond (set.contains s m) (by m) (slice_index_or old m (blank outside))
+
+  -- the members of the set below i are put back, and what was rebuilt from i on is not taken yet
+  pub record Putting (outside : S) (down : Members) (given old : List (MemberRecord S N)) (i : ℕ) (members rebuilt : List (MemberRecord S N)) : Type 0 where
+    pub turned : Turned (blank outside) (IsPut outside down (λ m. slice_index_or given m (blank outside)) old) i old members
+    pub left : Turned (blank outside) (λ m x. Unit {0}) i given rebuilt
+
+module _ {S N : Type 0} {outside : S} {down : Members} {given old : List (MemberRecord S N)} {i : ℕ} {members rebuilt : List (MemberRecord S N)} (so_far : Putting outside down given old i members rebuilt) where
+  pub put-down : {place : ℕ} {x : MemberRecord S N} (y : MemberRecord S N) → place ≡ i → i < length old → i < length given → set.contains down i ≡ true
+      → x ≡ get_or rebuilt place x
+      → Putting outside down given old (i + 1) (slice_set members place x) (slice_set rebuilt place y)
+  put-down y is_place below within is read = grind (arith, common_steps, get_or_default)
+
+  pub put-up : set.contains down i ≡ false → Putting outside down given old (i + 1) members rebuilt
+  put-up up = grind arith
+
+module _ {S N : Type 0} where
+  -- where a loop over all members puts records, exactly those of the set are replaced
+  pub replaced-end : {outside : S} {s : Members} {by : ℕ → MemberRecord S N} {i : ℕ} {old new : List (MemberRecord S N)} → Turned (blank outside) (IsPut outside s by old) i old new → length old ≤ i
+      → AreRecordsReplaced outside s by old new
+  replaced-end turned all = record {
+    size = turned.size;
+    replaced = λ m below is. grind (arith, turned.done m);
+    others = λ m up. grind (arith, turned.done m, turned.rest m);
+  }
+
+-- ---- what a recovery leaves, once the records that were rebuilt are in place
+
+module _ {S N : Type 0} where
+  -- the channels are made of what is sent again while these records stand for the members that are down
+  abbrev AreSentAgain : GroupRecord S N → List (MemberRecord S N) → List (List (List (Message N))) → Type 0
+  AreSentAgain r rebuilt again = (q p : ℕ) → q < r.config.members → p < r.config.members → channel_in again q p ≡ sent_again r.config.f r.down (working r rebuilt) q p
+
+-- a recovery of a sound group, of the group as its contract has it, once the records are rebuilt
+module _ {S N : Type 0} {next : Next S N} {old now : GroupRecord S N} {rebuilt : List (MemberRecord S N)} {replays : ℕ} (sound : IsSound next old) (view : old ≡ now) (is_ready : IsReady next now rebuilt replays) where
+  ready : IsReady next old rebuilt replays
+  ready = rw view is_ready
+
+  abbrev replaying : IsReplaying next old rebuilt
+  replaying = ready.all.replaying
+
+  pub size : length rebuilt ≡ old.config.members
+  size = replaying.size
+
+  abbrev left : List (Event N)
+  left = filter (λ e. stays_by old.down (λ p. slice_index_or rebuilt p (blank old.outside)) (mark_of e)) old.trace
+
+  left-is : left ≡ recovered_trace old
+  left-is = recovered_trace-rebuilt next old sound rebuilt replaying ready.waiting
+
+  -- no more receipts are left than there were
+  fewer-receipts : length (receipts (map mark_of left)) ≤ length (receipts (map mark_of old.trace))
+  fewer-receipts = rw left-is (let undone = cut-undone sound (recovered_trace-cut next old sound) in omega (arith, undone))
+
+  -- the channels of n members that are made again
+  module _ {n : ℕ} {records : List (MemberRecord S N)} (again : List (List (List (Message N)))) (all : n ≡ old.config.members) (same : records ≡ rebuilt) (each : AreSentAgain now records again) where
+    made : AreSentAgain old rebuilt again
+    made = rw view (rw same at each)
+
+    -- what is sent again on a channel is at most what the trace may have
+    pub short-again : (q p : ℕ) → q < n → p < n → length (channel_in again q p) ≤ 8192
+    short-again q p below_q below_p =
+        rw (made q p (omega (arith, all, below_q)) (omega (arith, all, below_p)))
+        (sent_again-short old.config.f old.down (working old rebuilt) q p 8192 (working-log next old sound rebuilt replaying q (omega (arith, all, below_q))))
+
+  -- the trace that is cut
+  module _ {s : Members} {rest : List (Event N)} (is_down : s ≡ now.down) (is_cut : rest ≡ filter (λ e. stays_by s (λ p. slice_index_or rebuilt p (blank old.outside)) (mark_of e)) old.trace) where
+    same-down : s ≡ old.down
+    same-down = rw view is_down
+
+    cut-left : rest ≡ left
+    cut-left = (rw same-down at is_cut)
+
+    -- its receipts, counted before and after
+    module _ {before after : ℕ} {last : List (Event N)} (counts_first : before ≡ length (receipts (marks now)))
+        (counts_last : after ≡ length (receipts (map mark_of last))) (is_last : last ≡ rest) where
+      abbrev undone : ℕ
+      undone = before - after
+
+      first-counted : before ≡ length (receipts (marks old))
+      first-counted = rw view counts_first
+
+      last-counted : after ≡ length (receipts (map mark_of left))
+      last-counted = (rw (is_last, cut-left) at counts_last)
+
+      pub fewer : after ≤ before
+      fewer = omega (arith, first-counted, last-counted, fewer-receipts)
+
+      undone-left : undone + length (receipts (map mark_of left)) ≡ length (receipts (map mark_of old.trace))
+      undone-left = omega (arith, fewer, first-counted, last-counted)
+
+      -- they are few, and the counter of undone receipts stays within that of all receipts
+      pub undone-few : Fits w32 undone
+      undone-few = omega (arith, undone-left, sound.counted, received-twice next old sound, sound.room, sound.config.limit.1)
+
+      pub undone-fits : old.receipts_ever < 2 ^ 64 → Fits w64 (old.undone_ever + undone)
+      undone-fits fits = omega (arith, fits, undone-left, sound.counted)
+
+      -- the group that is left
+      module _ {members : List (MemberRecord S N)} {channels : List (List (List (Message N)))} {down : Members} {n : ℕ} {records : List (MemberRecord S N)} (again : List (List (List (Message N))))
+          (all : n ≡ old.config.members) (same : records ≡ rebuilt) (each : AreSentAgain now records again) (put : AreRecordsReplaced old.outside s (λ m. slice_index_or rebuilt m (blank old.outside)) old.members members)
+          (replaced : AreReplaced n old.down (channel_in again) old.channels channels) (nobody_down : down ≡ set.empty) where
+        abbrev new : GroupRecord S N
+        new = record old { members = members; channels = channels; trace = rest; down = down; undone_ever = old.undone_ever + undone }
+
+        again-is : AreSentAgain old rebuilt again
+        again-is = made again all same each
+
+        placed : AreRecordsReplaced old.outside old.down (λ m. slice_index_or rebuilt m (blank old.outside)) old.members members
+        placed = (rw same-down at put)
+
+        remade : AreReplaced old.config.members old.down (channel_in again) old.channels channels
+        remade = (rw all at replaced)
+
+        works : (q : ℕ) → q < old.config.members → member new q ≡ working old rebuilt q
+        works q below = grind (arith, placed.replaced q, placed.others q, sound.members)
+
+        -- a channel with an end that was down has what its sender sends again
+        resent_on : (q p : ℕ) → IsDown (knowledge old) q ⊎ IsDown (knowledge old) p → q < old.config.members → p < old.config.members
+            → channel new q p ≡ resent_to old.config.f q p (member new q) (member new p)
+        resent_on q p down below_q below_p = grind (arith, remade.each q p, again-is q p, works q, works p)
+
+        -- the others stay
+        survive : (q p : ℕ) → IsUp (knowledge old) q → IsUp (knowledge old) p → channel new q p ≡ channel old q p
+        survive q p up_q up_p = grind (arith, get_or_past, remade.each q p, remade.shape, sound.shape)
+
+        -- how many messages are sent again
+        counted : messages_in old.config.members again ≡ messages_at old.down new
+        counted = sum_below-agree old.config.members _ _ (λ q below_q. sum_below-agree old.config.members _ _ (λ p below_p. one q p below_q below_p)) where
+          one : (q p : ℕ) → q < old.config.members → p < old.config.members
+              → length (channel_in again q p) ≡ cond (set.contains old.down q || set.contains old.down p) (length (channel new q p)) 0
+          one q p below_q below_p = grind (arith, remade.each q p, again-is q p)
+
+        marks_left : length (receipts (marks new)) ≡ length (receipts (map mark_of left))
+        marks_left = ap (λ (es : List (Event N)). length (receipts (map mark_of es))) cut-left
+
+        is_rebuilt : IsRebuilt old new rebuilt
+        is_rebuilt =
+            let table = λ (m : ℕ). with-table (slice_index_or rebuilt m (blank old.outside)) (recovery_table (knowledge old)) in
+            grind (arith, nobody_down, placed, remade.shape, survive, cut-left, left-is, undone-left, marks_left, ready.all.tables, table, sound.members, resent_on)
+
+        is_recovery : IsRecovery next old new
+        is_recovery = rebuilt_is_recovered next old sound rebuilt replaying ready.waiting new is_rebuilt
+
+        -- what is answered, from the number of messages that are sent again
+        pub recovers : {messages : ℕ} → messages ≡ messages_in n again → Recovers next now new (record { replayed = replays; resent = messages; undone = undone })
+        recovers resent = rw (← view) (record {
+          recovery = is_recovery;
+          replayed = ready.counted ∙ replayed_in-all next old sound rebuilt replaying ready.waiting
+              ∙ ap (λ (es : List (Event N)). length (filter (is_replayed old) (receipts (map mark_of es)))) (sym (cut-left ∙ left-is));
+          resent = (rw all at resent) ∙ counted;
+          undone = omega (arith, undone-left, marks_left);
+        })

@@ -1,27 +1,33 @@
--- When a strike is refused, and what it leaves.
-use Rattle.fbl_group.proofs.Common.{◌≡◌, ◌≢◌, ℕ, suc, ◌<◌, ◌≤◌, ◌==◌, ◌||◌, true, false, cond, List, [], ◌∷◌, length, map, None, refl, sym, ◌∙◌, arith}
-use Rattle.fbl_group.proofs.Common.{nat_lt, count_by, slice_index_or, nat_tests, get_or_default, get_or_past, sum_by-cons, Determinant, Event, mark_of, Members, Next, MemberRecord, blank, IsUp}
-use Rattle.fbl_group.proofs.Common.{GroupRecord, channel, marks, knowledge, IsSound, IsStrike, AreReplaced, lost_receipts, filter, not, receipts, is_lost_receipt_of, Message, no_orphan, nat_cmp}
-use Rattle.fbl_group.proofs.Common.{eq_by_cmp, unsigned_tied, nat_cmp_total, false≢true, true_from_ne_false, ◌↔◌, Any-from_list_any, list_any-from_Any, AllPass-from_list_all}
-use Rattle.fbl_group.proofs.Common.{list_all-from_AllPass, receipt_of, Has, itself, AllBelow, eqb-self, is_recorded, group_strike_keeps, recorded_test, is_within, strike_refusal, AreRecordsReplaced}
-use Rattle.std.specs.FinSet as sets
+-- Strikes and checkpoints: when a strike is refused, what they leave, and the theorem.
+use Rattle.fbl_group.proofs.Common.{◌≡◌, ◌≢◌, ℕ, suc, ◌<◌, ◌≤◌, ◌==◌, ◌||◌, true, false, cond, List, [], ◌∷◌, length, map, None, refl, sym, ◌∙◌, arith, nat_lt, count_by, slice_index_or}
+use Rattle.fbl_group.proofs.Common.{nat_tests, get_or_default, get_or_past, sum_by-cons, Determinant, Event, mark_of, Members, Next, MemberRecord, blank, IsUp, GroupRecord, channel}
+use Rattle.fbl_group.proofs.Common.{marks, knowledge, IsSound, IsStrike, AreReplaced, lost_receipts, filter, not, receipts, is_lost_receipt_of, Message, no_orphan, nat_cmp, eq_by_cmp}
+use Rattle.fbl_group.proofs.Common.{unsigned_tied, nat_cmp_total, false≢true, true_from_ne_false, ◌↔◌, Any-from_list_any, list_any-from_Any, AllPass-from_list_all, list_all-from_AllPass}
+use Rattle.fbl_group.proofs.Common.{receipt_of, Has, itself, AllBelow, eqb-self, is_recorded, group_strike_keeps, recorded_test, is_within, strike_refusal, AreRecordsReplaced, get_or}
+use Rattle.fbl_group.proofs.Common.{slice_set, IsCheckpoint, sound_holds_each_receipt, recovery_leaves_recorded}
+use Rattle.std.specs.FinSet as set
 use Rattle.fbl_base.specs.declared.trace.Event.TheVariants as event
 use Rattle.std.specs.Prelude.{Bool}
+use Rattle.fbl_group.proofs.Recovering.{read_at}
+use Rattle.fbl_group.specs.declared.answers.Recovered.{Recovered}
+use Rattle.fbl_group.specs.Strikes.{Recovers}
+use Rattle.fbl_group.specs.Theorem.{AreStruck, HasNoOrphan, IsRecoverable, Restores}
+use Rattle.fbl_group.specs.Theorem.AreStruck.{nobody, and_these}
 
 -- the test of who is below n
 pub within-below : (s : Members) (n : ℕ) → is_within s n ≡ true → AllBelow s n
 within-below s n within q among =
-    let one = Any-from_list_any (eq_by_cmp nat_cmp q) (sets.items s) (sym (sets.contains-items s q) ∙ among) in
-    let below : nat_lt one.1 n ≡ true = rw one.3 at (AllPass-from_list_all (λ m. nat_lt m n) (sets.items s) within one.0 one.1 one.2) in
+    let one = Any-from_list_any (eq_by_cmp nat_cmp q) (set.items s) (sym (set.contains-items s q) ∙ among) in
+    let below : nat_lt one.1 n ≡ true = rw one.3 at (AllPass-from_list_all (λ m. nat_lt m n) (set.items s) within one.0 one.1 one.2) in
     let same : (q == one.1) ≡ true = sym (unsigned_tied q one.1) ∙ one.4 in
     grind (arith, nat_tests)
 
 below-within : (s : Members) (n : ℕ) → AllBelow s n → is_within s n ≡ true
-below-within s n below = list_all-from_AllPass (λ m. nat_lt m n) (sets.items s) (λ k d less.
-    let m : ℕ = slice_index_or (sets.items s) k d in
+below-within s n below = list_all-from_AllPass (λ m. nat_lt m n) (set.items s) (λ k d less.
+    let m : ℕ = slice_index_or (set.items s) k d in
     let itself : eq_by_cmp nat_cmp m m ≡ true = unsigned_tied m m ∙ eqb-self m in
-    let among = list_any-from_Any (eq_by_cmp nat_cmp m) (sets.items s) (k, m, less, get_or_default (sets.items s) k m d less, itself) in
-    let within : m < n = below m (sets.contains-items s m ∙ among) in
+    let among = list_any-from_Any (eq_by_cmp nat_cmp m) (set.items s) (k, m, less, get_or_default (set.items s) k m d less, itself) in
+    let within : m < n = below m (set.contains-items s m ∙ among) in
     grind (arith, nat_tests))
 
 pub within-tested : (s : Members) (n : ℕ) (b : Bool) → (b ≡ true) ↔ AllBelow s n → b ≡ is_within s n
@@ -30,8 +36,8 @@ within-tested s n false is = grind (arith, within-below s n)
 
 module _ {S N : Type 0} where
   -- a strike of some members of the group is allowed where with those that are down they are few
-  pub is_allowed : (struck : Members) {r now : GroupRecord S N} → r ≡ now → {n : ℕ} → n ≡ r.config.members → AllBelow struck n → sets.len struck ≢ 0
-      → {both : Members} → both ≡ sets.union r.down struck → sets.len both ≤ r.config.f → strike_refusal now struck ≡ None
+  pub is_allowed : (struck : Members) {r now : GroupRecord S N} → r ≡ now → {n : ℕ} → n ≡ r.config.members → AllBelow struck n → set.len struck ≢ 0
+      → {both : Members} → both ≡ set.union r.down struck → set.len both ≤ r.config.f → strike_refusal now struck ≡ None
   is_allowed struck {r = r} view {n = n} all below some joined few =
       let inside : is_within struck r.config.members ≡ true = rw (← all) (below-within struck n below) in
       rw (← view) grind (arith, nat_tests)
@@ -39,28 +45,25 @@ module _ {S N : Type 0} where
 -- what a strike that is allowed leaves
 module _ {S N : Type 0} {next : Next S N} {old : GroupRecord S N} {struck down : Members} {members : List (MemberRecord S N)} {channels : List (List (List (Message N)))} (sound : IsSound next old)
     (allowed : strike_refusal old struck ≡ None) (blanked : AreRecordsReplaced old.outside struck (λ m. blank (next.initial m old.config.members)) old.members members)
-    (emptied : AreReplaced old.config.members struck (λ q p. []) old.channels channels) (joined : down ≡ sets.union old.down struck) where
+    (emptied : AreReplaced old.config.members struck (λ q p. []) old.channels channels) (joined : down ≡ set.union old.down struck) where
   abbrev new : GroupRecord S N
   new = record old { members = members; channels = channels; down = down }
 
   -- who is down was down before or is struck
-  both_down : (m : ℕ) → sets.contains down m ≡ (sets.contains old.down m || sets.contains struck m)
-  both_down m = rw joined (sets.contains-union {R = nat_cmp} nat_cmp_total old.down struck m)
+  both_down : (m : ℕ) → set.contains down m ≡ (set.contains old.down m || set.contains struck m)
+  both_down m = rw joined (set.contains-union {R = nat_cmp} nat_cmp_total old.down struck m)
 
   -- a channel is emptied where one of its ends is struck, and no other is
-  emptied_where : (q p : ℕ) → channel new q p ≡ cond (sets.contains struck q || sets.contains struck p) [] (channel old q p)
+  emptied_where : (q p : ℕ) → channel new q p ≡ cond (set.contains struck q || set.contains struck p) [] (channel old q p)
   emptied_where q p = grind (arith, get_or_past, emptied.each q p)
 
   -- those that are struck are of the group, and have blank records
-  struck_blank : (m : ℕ) → sets.contains struck m ≡ true → slice_index_or members m (blank old.outside) ≡ blank (next.initial m old.config.members)
+  struck_blank : (m : ℕ) → set.contains struck m ≡ true → slice_index_or members m (blank old.outside) ≡ blank (next.initial m old.config.members)
   struck_blank m is = blanked.replaced m (omega (arith, sound.members, within-below struck old.config.members (grind (arith, nat_tests)) m is)) is
 
   pub is_strike : IsStrike next old new struck
   is_strike =
       grind (arith, struck_blank, blanked.size, blanked.others, emptied, emptied_where, both_down, sound.blanks, sound.down, sound.causes.down.channels)
-
-  pub is_sound : IsSound next new
-  is_sound = group_strike_keeps next old new struck is_strike (within-below struck old.config.members (grind (arith, nat_tests))) (rw joined (grind (arith, nat_tests))) sound
 
 module _ {S N : Type 0} where
   -- in a sound group each receipt of a member that is up is recorded
@@ -83,3 +86,54 @@ module _ {S N : Type 0} where
 
   pub count-lost : (next : Next S N) (r : GroupRecord S N) → IsSound next r → count_by (is_lost_receipt_of r.down r.members r.checkpoints) r.trace ≡ length (lost_receipts r)
   count-lost next r sound = lost-counted r r.trace (λ d. up-recorded next r d sound)
+
+-- ---- checkpoints
+
+-- a record that is read at the member's place is copied there, in a group as its contract has it
+module _ {S N : Type 0} {next : Next S N} {old now : GroupRecord S N} (sound : IsSound next old) (view : old ≡ now) {p place : ℕ} (is_place : place ≡ p) (below : p < now.config.members)
+    (none_down : set.len now.down ≡ 0) {copy read : MemberRecord S N} (same : copy ≡ read) (is : read ≡ get_or old.members place read) where
+  abbrev saved : GroupRecord S N
+  saved = record old { checkpoints = slice_set old.checkpoints place copy }
+
+  within : p < old.config.members
+  within = rw view below
+
+  pub is_checkpoint : IsCheckpoint now saved p
+  is_checkpoint = rw (← view) (record {
+    nobody_down = set.empty_of_len old.down (rw view none_down);
+    below = within;
+    saved = rw (is_place, same, read_at old.outside old.members is_place (omega (arith, within, sound.members)) is) refl;
+  })
+
+-- ---- the theorem: strikes keep a group sound, and of a sound group each part holds
+
+module _ {S N : Type 0} (next : Next S N) where
+  -- a strike that is allowed keeps a group sound
+  pub strike_keeps : (old new : GroupRecord S N) (struck : Members) → strike_refusal old struck ≡ None → IsStrike next old new struck → IsSound next old → IsSound next new
+  strike_keeps old new struck allowed strike sound =
+      let few : set.len (set.union old.down struck) ≤ old.config.f = grind (arith, nat_tests) in
+      group_strike_keeps next old new struck strike (within-below struck old.config.members (grind (arith, nat_tests))) (rw strike.down few) sound
+
+  struck_is_sound : (first : GroupRecord S N) → IsSound next first → (last : GroupRecord S N) → AreStruck next first last → IsSound next last
+  struck_is_sound first sound last nobody = sound
+  struck_is_sound first sound last (and_these {old} {new} {struck} {answer} before allowed strikes) =
+      strike_keeps old last struck allowed strikes.0 (struck_is_sound first sound old before)
+
+  has_no_orphan : (r : GroupRecord S N) → IsSound next r → HasNoOrphan r
+  has_no_orphan r sound m = no_orphan r.config.f (knowledge r) sound.causes.closed m
+
+  -- a recovery of a sound group restores it
+  pub restores : (old new : GroupRecord S N) (answer : Recovered) → IsSound next old → Recovers next old new answer → Restores next old new
+  restores old new answer sound recovers = record {
+    nobody_down = recovers.recovery.rest.nobody_down;
+    survivors = recovers.recovery.rest.survivors;
+    folds = recovers.recovery.folds;
+    left = recovery_leaves_recorded S N next old new recovers.recovery sound;
+  }
+
+  pub sound_is_recoverable : (r : GroupRecord S N) → IsSound next r → IsRecoverable next r
+  sound_is_recoverable r sound = record {
+    held = sound_holds_each_receipt S N next r sound;
+    no_orphan = λ struck among. has_no_orphan struck (struck_is_sound r sound struck among);
+    recovery = λ struck new answer among. restores struck new answer (struck_is_sound r sound struck among);
+  }

@@ -1,5 +1,5 @@
 -- When a checkpoint is refused.
-use Rattle.std.specs.Prelude.{◌≡◌, ℕ, ◌==◌, not, nat_lt, Option, Some, None, if◌then◌else◌}
+use Rattle.std.specs.Prelude.{◌≡◌, ℕ, List, codes, ◌==◌, not, nat_lt, Option, Some, None, if◌then◌else◌}
 use Rattle.std.specs.FinSet as set
 use Rattle.fbl_law.specs.Groups.{GroupRecord}
 use Rattle.fbl_group.specs.declared.refusals.CheckpointRefusal.{CheckpointRefusal}
@@ -15,3 +15,9 @@ checkpoint_refusal r p =
 abbrev pub IsCheckpointRefusal : Option CheckpointRefusal → CheckpointRefusal → Type 0
 IsCheckpointRefusal first Memory = first ≡ None
 IsCheckpointRefusal first refusal = first ≡ Some refusal
+
+-- the word of a refusal, as it is printed
+abbrev pub checkpoint_name : CheckpointRefusal → List ℕ
+checkpoint_name BadMember = codes "BadMember"
+checkpoint_name Down = codes "Down"
+checkpoint_name Memory = codes "Memory"

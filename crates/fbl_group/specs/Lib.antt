@@ -1,11 +1,6 @@
 pub mod Channels
 pub mod Deliveries
 pub mod Strikes
-pub mod Recoveries
-pub mod Tickets
-pub mod Crashes
 pub mod Readers
-pub mod Rebuilding
 pub mod Checkpoints
-pub mod Names
 pub mod Theorem

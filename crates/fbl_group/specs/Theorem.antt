@@ -9,8 +9,7 @@ use Rattle.fbl_law.specs.Groups.{GroupRecord, knowledge, member, IsFold}
 use Rattle.fbl_law.specs.Promises.{HoldsEachReceipt, LeavesRecorded}
 use Rattle.fbl_group.specs.declared.answers.Recovered.{Recovered}
 use Rattle.fbl_group.specs.declared.answers.Struck.{Struck}
-use Rattle.fbl_group.specs.Recoveries.{Recovers}
-use Rattle.fbl_group.specs.Strikes.{Strikes, strike_refusal}
+use Rattle.fbl_group.specs.Strikes.{Recovers, Strikes, strike_refusal}
 
 -- strikes lead from one group to the other: none, or several, each of which was allowed
 pub data AreStruck {S N : Type 0} (next : Next S N) (first : GroupRecord S N) : GroupRecord S N → Type 0 where

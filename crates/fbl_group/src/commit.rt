@@ -3,8 +3,7 @@
 ghost use Rattle.std.specs.Prelude.{◌≡◌, ◌↔◌, ◌+◌, ◌<◌, ◌≤◌, IsTrue, IfOk, IfErr, IfSome, IfNone, OnOk, OnErr, None, Some};
 ghost use Rattle.fbl_member.specs.Members.{Message};
 ghost use Rattle.fbl_group.specs.Channels.{front as front_of};
-ghost use Rattle.fbl_group.specs.Deliveries.{Delivers, IsPlanned};
-ghost use Rattle.fbl_group.specs.Tickets.{has_no_room, take_refusal, IsTicket, IsCurrent, MayCommit, RefusesCommit};
+ghost use Rattle.fbl_group.specs.Deliveries.{Delivers, IsPlanned, has_no_room, take_refusal, IsTicket, IsCurrent, MayCommit, RefusesCommit};
 
 use crate::answers::Receipted;
 use crate::group::Group;

@@ -3,8 +3,7 @@
 ghost use Rattle.std.specs.Prelude.{◌≡◌, IfOk, IfErr, OnOk, None};
 ghost use Rattle.fbl_law.specs.Groups.{knowledge};
 ghost use Rattle.fbl_law.specs.Promises.{KeepsHolders};
-ghost use Rattle.fbl_group.specs.Strikes.{strike_refusal};
-ghost use Rattle.fbl_group.specs.Crashes.{Crashes, CrashLeaves};
+ghost use Rattle.fbl_group.specs.Strikes.{strike_refusal, Crashes, CrashLeaves};
 
 use crate::answers::{Recovered, Struck};
 use crate::group::Group;

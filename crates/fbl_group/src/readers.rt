@@ -79,10 +79,14 @@ impl<B: Behaviour, A: Allocator + Copy> Group<B, A> {
         self.channels.between(from, to).len() as u32
     }
 
-    /// What happened, in order: the starts' sends, and then the receipts and sends that no recovery has undone.
+    /// What happened, in order: the starts' sends, and then the receipts and sends that no recovery has undone. The group is
+    /// sound, and the theorem holds of it, as `recoverable` says.
     pub fn trace(&self) -> &[Event<B::Note>]
-        ensures { result.now ≡ self.now.trace }
+        ensures trace { result.now ≡ self.now.trace }
+        ensures sound { IsSound B.next self.now }
+        ensures theorem { IsRecoverable B.next self.now }
     {
+        self.recoverable();
         self.trace.as_slice()
     }
 

@@ -6,8 +6,7 @@ ghost use Rattle.fbl_base.specs.Events.{mark_of};
 ghost use Rattle.fbl_law.specs.Groups.{HasChannels, channel_in, knowledge, receipts};
 ghost use Rattle.fbl_law.specs.Promises.{GainsHolders, RecordsFirst};
 ghost use Rattle.fbl_group.specs.Channels.{rows, AreReplaced};
-ghost use Rattle.fbl_group.specs.Recoveries.{Recovers, IsRecoverRefusal};
-ghost use Rattle.fbl_group.specs.Strikes.{lost_receipts};
+ghost use Rattle.fbl_group.specs.Strikes.{Recovers, IsRecoverRefusal, lost_receipts};
 ghost use Rattle.fbl_group.specs.Theorem.{Restores};
 
 use crate::answers::Recovered;

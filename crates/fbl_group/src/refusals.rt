@@ -21,7 +21,7 @@ pub enum DeliverRefusal {
 }
 
 impl DeliverRefusal {
-    ghost use Rattle.fbl_group.specs.Names.{deliver_name};
+    ghost use Rattle.fbl_group.specs.Deliveries.{deliver_name};
 
     /// The refusal's word, as it is printed.
     pub fn name(self) -> &'static str
@@ -97,7 +97,7 @@ pub enum StrikeRefusal {
 }
 
 impl StrikeRefusal {
-    ghost use Rattle.fbl_group.specs.Names.{strike_name};
+    ghost use Rattle.fbl_group.specs.Strikes.{strike_name};
 
     /// The refusal's word, as it is printed.
     pub fn name(self) -> &'static str
@@ -124,7 +124,7 @@ pub enum CheckpointRefusal {
 }
 
 impl CheckpointRefusal {
-    ghost use Rattle.fbl_group.specs.Names.{checkpoint_name};
+    ghost use Rattle.fbl_group.specs.Checkpoints.{checkpoint_name};
 
     /// The refusal's word, as it is printed.
     pub fn name(self) -> &'static str
@@ -149,7 +149,7 @@ pub enum RecoverRefusal {
 }
 
 impl RecoverRefusal {
-    ghost use Rattle.fbl_group.specs.Names.{recover_name};
+    ghost use Rattle.fbl_group.specs.Strikes.{recover_name};
 
     /// The refusal's word, as it is printed.
     pub fn name(self) -> &'static str
@@ -181,7 +181,7 @@ pub enum CrashRefusal {
 
 /// The refusal of a strike as one of a crash.
 impl From<StrikeRefusal> for CrashRefusal {
-    ghost use Rattle.fbl_group.specs.Crashes.{of_strike};
+    ghost use Rattle.fbl_group.specs.Strikes.{of_strike};
 
     ghost from_gives = { λ refusal e. e ≡ of_strike refusal };
 
@@ -205,7 +205,7 @@ pub enum DumpGroupRefusal {
 }
 
 impl DumpGroupRefusal {
-    ghost use Rattle.fbl_group.specs.Names.{dump_group_name};
+    ghost use Rattle.fbl_group.specs.Readers.{dump_group_name};
 
     /// The refusal's word, as it is printed.
     pub fn name(self) -> &'static str

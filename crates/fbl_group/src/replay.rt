@@ -7,7 +7,7 @@ ghost use Rattle.fbl_table.specs.Tables.{found};
 ghost use Rattle.fbl_member.specs.Members.{blank, logged_note};
 ghost use Rattle.fbl_law.specs.Groups.{member_checkpoint, knowledge, IsSound};
 ghost use Rattle.fbl_law.specs.GroupSteps.{gathered_all, saved_tables, recovery_table, working, replayed_in, IsReplaying, IsWaiting};
-ghost use Rattle.fbl_group.specs.Rebuilding.{AreByNumber, AreReplaying, Tries, Rounds, IsReady};
+ghost use Rattle.fbl_group.specs.Strikes.{AreByNumber, AreReplaying, Tries, Rounds, IsReady};
 
 use crate::group::Group;
 use crate::rebuilt::Rebuilt;

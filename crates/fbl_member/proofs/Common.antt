@@ -18,6 +18,6 @@ pub use Rattle.fbl_base.specs.declared.trace.Start.{Start}
 pub use Rattle.fbl_table.specs.Tables.{is_open, piggybacked}
 pub use Rattle.fbl_table.specs.declared.entry.Entry.{Entry}
 pub use Rattle.fbl_member.specs.Carried.{IsOnce}
-pub use Rattle.fbl_member.specs.Kept.{IsKept, without_number}
+pub use Rattle.fbl_member.specs.Laws.{IsKept, without_number}
 pub use Rattle.fbl_member.specs.Members.{MemberRecord, Message, blank, fresh, logged_beyond, logged_note, messages_from}
-pub use Rattle.fbl_member.specs.Rooms.{HasRoom}
+pub use Rattle.fbl_member.specs.Stored.{HasRoom}

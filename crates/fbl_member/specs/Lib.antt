@@ -1,6 +1,4 @@
 pub mod Members
-pub mod Kept
-pub mod Rooms
-pub mod Carried
-pub mod Stored
 pub mod Laws
+pub mod Stored
+pub mod Carried

@@ -4,7 +4,7 @@ ghost use Rattle.std.specs.Prelude.{◌≡◌, ◌+◌, ◌≤◌, length, IfOk,
 ghost use Rattle.std.specs.List.{All};
 ghost use Rattle.fbl_table.specs.Tables.{piggybacked};
 ghost use Rattle.fbl_member.specs.Members.{messages_from};
-ghost use Rattle.fbl_member.specs.Rooms.{HasRoom, HasRooms};
+ghost use Rattle.fbl_member.specs.Stored.{HasRoom, HasRooms};
 
 use crate::carried::Carried;
 use crate::wire::Wire;

@@ -2,7 +2,7 @@
 
 ghost use Rattle.std.specs.Prelude.{◌≡◌, ◌+◌, ◌<◌, ◌≤◌, ◌==◌, ◌&&◌, nat_lt, false, length, OnOk, OnErr, IfOk};
 ghost use Rattle.fbl_table.specs.Tables.{is_held, piggybacked};
-ghost use Rattle.fbl_member.specs.Kept.{IsKept};
+ghost use Rattle.fbl_member.specs.Laws.{IsKept};
 ghost use Rattle.fbl_member.specs.Members.{fresh, blank, last_from, next_determinant, received_by, replayed_by, messages_from, logged_note, logged_beyond};
 
 use crate::buffers::Buffers;
@@ -140,24 +140,32 @@ impl<S: Copy, N: Content, A: Allocator + Copy> MemberRec<S, N, A> {
         ensures unchanged { OnErr result (self.new ≡ self.old) }
     {
         let before = self.sent();
+        let determinant = self.next_determinant(me, wire);
         let sends = outcome.sends.as_slice();
         let carried = wire.carried();
         let most = self.table.room_to_piggyback(f, carried);
         let buffers = Buffers::for_messages(*self.log.allocator(), sends.len(), most)?;
         self.log.reserve(sends.len())?;
 
-        let determinant = Determinant {
-            from: wire.from(),
-            ssn: wire.ssn(),
-            to: me,
-            rsn: self.received + 1,
-        };
         self.table.learn_and_note(me, carried, determinant)?;
         self.state = outcome.state;
         self.received += 1;
         self.last[wire.from().number() as usize] = wire.ssn();
         self.log.extend_from_slice(sends).unwrap();
         Ok(buffers.into_wires(me, before, sends, &self.table, f))
+    }
+
+    /// The determinant of the member's next receipt, if it is of this message.
+    fn next_determinant(&self, me: Member, wire: &Wire<N, A>) -> Determinant
+        requires { self.now.received < 8192 }
+        ensures { result ≡ next_determinant me self.now wire.now.from wire.now.ssn }
+    {
+        Determinant {
+            from: wire.from(),
+            ssn: wire.ssn(),
+            to: me,
+            rsn: self.received + 1,
+        }
     }
 
     /// Takes the message of a receipt in again, by the receipt's determinant and the message's content: the step's

@@ -11,9 +11,7 @@ use Rattle.fbl_base.specs.Breaches.{BreaksEvent, IsDumpBreach}
 use Rattle.fbl_base.specs.Configs.{FAllowed, IsFirstBreach, MembersAllowed}
 use Rattle.fbl_base.specs.Events.{At, destination_of, member_of, send_of, source_of}
 use Rattle.fbl_base.specs.Precedence.{Has}
-use Rattle.fbl_order.specs.Laws.{with_events}
-use Rattle.fbl_order.specs.Logs.{log_of}
-use Rattle.fbl_order.specs.Orders.{CanCome, HasNoOrder, IsFurthest, IsOrder}
+use Rattle.fbl_order.specs.Orders.{with_events, log_of, CanCome, HasNoOrder, IsFurthest, IsOrder}
 use Rattle.fbl_order.specs.declared.fault.Obstacle.{Obstacle}
 use Rattle.fbl_order.specs.declared.fault.Obstacle.TheVariants.{Rule, NeverSent, Received, Waits}
 use Rattle.fbl_order.specs.declared.fault.OrderFault.{OrderFault}

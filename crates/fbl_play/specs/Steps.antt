@@ -13,11 +13,10 @@ use Rattle.fbl_group.specs.declared.refusals.DeliverRefusal.{DeliverRefusal}
 use Rattle.fbl_group.specs.declared.refusals.DumpGroupRefusal.TheVariants.{BadStrike}
 use Rattle.fbl_group.specs.declared.refusals.RecoverRefusal.TheVariants as recover
 use Rattle.fbl_group.specs.declared.refusals.StrikeRefusal.{StrikeRefusal}
-use Rattle.fbl_group.specs.Checkpoints.{checkpoint_refusal}
-use Rattle.fbl_group.specs.Deliveries.{deliver_refusal, Delivers}
-use Rattle.fbl_group.specs.Names.{checkpoint_name, deliver_name, dump_group_name, recover_name, strike_name}
-use Rattle.fbl_group.specs.Recoveries.{Recovers}
-use Rattle.fbl_group.specs.Strikes.{lost_receipts, strike_refusal, Strikes}
+use Rattle.fbl_group.specs.Checkpoints.{checkpoint_name, checkpoint_refusal}
+use Rattle.fbl_group.specs.Deliveries.{deliver_name, deliver_refusal, Delivers}
+use Rattle.fbl_group.specs.Readers.{dump_group_name}
+use Rattle.fbl_group.specs.Strikes.{Recovers, lost_receipts, recover_name, strike_name, strike_refusal, Strikes}
 use Rattle.fbl_law.specs.Promises.{dump_of}
 use Rattle.fbl_law.specs.Groups.{GroupRecord, is_recorded, member_checkpoint}
 use Rattle.fbl_law.specs.GroupSteps.{IsCheckpoint}

@@ -185,29 +185,23 @@ pub not_held_learned : (me : ℕ) (table carried : List Entry) (d : Determinant)
 not_held_learned me table carried d none others =
     held-gathered table (map (held_by me) carried) d ∙ or_from _ _ none (held-carried me carried d ∙ others)
 
--- none of the rest is held by the first entries
-abbrev Apart : List Entry → List Entry → Type 0
-Apart first rest = AllByRecursion (λ (e : Entry). is_held first e.det ≡ false) rest
+-- a determinant that differs from those of the entries is not held by them
+missing : (rest : List Entry) (d : Determinant) → AllByRecursion (λ x. same_determinant d x ≡ false) (map (λ (e : Entry). e.det) rest) → is_held rest d ≡ false
+missing [] d none = refl
+missing (e ∷ rest) d none = or_from _ _ none.0 (missing rest d none.1)
 
-apart-more : (first rest : List Entry) (e : Entry) → Apart first rest
-    → AllByRecursion (λ d. same_determinant e.det d ≡ false) (map (λ (x : Entry). x.det) rest) → Apart (first ++ e ∷ []) rest
-apart-more first [] e apart once = tt
-apart-more first (x ∷ rest) e apart once =
-    let one : is_held (first ++ e ∷ []) x.det ≡ false =
-    grind (arith, list_any-append (λ (y : Entry). same_determinant x.det y.det) first (e ∷ []), apart.0, apart-turned e.det x.det once.0) in
-    (one, apart-more first rest e apart.1 once.1)
-
-added-apart : (first rest : List Entry) → Apart first rest → IsOnce rest → fold added first rest ≡ first ++ rest
+-- entries of which the first hold none go behind them
+added-apart : (first rest : List Entry) → ((d : Determinant) → is_held rest d ≡ true → is_held first d ≡ false) → IsOnce rest → fold added first rest ≡ first ++ rest
 unfolding IsDistinct
 added-apart first [] apart once = sym (append-nil first)
 added-apart first (e ∷ rest) apart once =
-    ap (λ (t : List Entry). fold added t rest) (added_new first e apart.0) ∙ added-apart (first ++ e ∷ []) rest (apart-more first rest e apart.1 once.0) once.1
+    ap (λ (t : List Entry). fold added t rest) (added_new first e (apart e.det (or_left _ _ ((Decides-same_determinant e.det e.det).1 refl))))
+    ∙ added-apart (first ++ e ∷ []) rest (λ d has.
+    let other : same_determinant d e.det ≡ false = false_from_ne_true _ (λ same. false≢true (sym (missing rest e.det once.0)
+    ∙ (rw ((Decides-same_determinant d e.det).0 same) at has))) in
+    grind (arith, list_any-append (λ (y : Entry). same_determinant d y.det) first (e ∷ []), apart d (or_right (same_determinant d e.det) _ has), other)) once.1
     ∙ append_assoc first (e ∷ []) rest
 
-none-held : (rest : List Entry) → Apart [] rest
-none-held [] = tt
-none-held (e ∷ rest) = (refl, none-held rest)
-
 pub gathered_first : (none table : List Entry) → length none ≡ 0 → IsOnce table → gathered none table ≡ table
-gathered_first [] table empty once = added-apart [] table (none-held table) once
+gathered_first [] table empty once = added-apart [] table (λ d has. refl) once
 gathered_first (e ∷ none) table empty once = absurd (omega arith)

@@ -27,8 +27,7 @@ pub use Rattle.fbl_base.specs.declared.trace.Determinant.{Determinant}
 pub use Rattle.indexmap.proofs.MapLemmas.{absent_from_lookup, insert_entry-absent, or_len-absent}
 pub use Rattle.indexmap.specs.IndexMap.{insert_entry}
 pub use Rattle.indexmap.specs.Layout.{length-set_value_at, set_value_at}
-pub use Rattle.fbl_table.specs.Index.{IsIndex, open_at}
-pub use Rattle.fbl_table.specs.Indexed.{IsIndexed, KeepsIndex, listed, room}
+pub use Rattle.fbl_table.specs.Indexed.{IsIndex, open_at, IsIndexed, KeepsIndex, listed, room}
 pub use Rattle.fbl_table.specs.Receipts.{receipt_at}
 pub use Rattle.fbl_table.specs.Tables.{HasInPlace, IsOnce, added, entry_of, found, gathered, greatest_rsn, has_at, held_by, is_held, is_open, lacks, learned, marked, noted, piggybacked, rsn_of}
 pub use Rattle.fbl_table.specs.declared.entry.Entry.{Entry}

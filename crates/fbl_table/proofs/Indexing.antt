@@ -5,7 +5,7 @@ use Rattle.fbl_table.proofs.Common.{entry_of, open_at, IsIndex, nat_le, All-get_
 use Rattle.fbl_table.proofs.Common.{IndexedEntries, drop, drop_next, ◌≤◌, count_by, length-map, filter-append, sum_by-cons, Determinant, length-left, gathered, learned, held_by}
 use Rattle.fbl_table.proofs.Common.{length-append, length-filter, length-filter_map, noted}
 use Rattle.std.specs.FinSet as set
-use Rattle.fbl_table.specs.Index.{places_of_open}
+use Rattle.fbl_table.specs.Indexed.{places_of_open}
 use Rattle.fbl_table.proofs.Adding.{Pairs}
 use Rattle.fbl_table.specs.Tables.{added}
 

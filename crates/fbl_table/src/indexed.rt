@@ -4,8 +4,7 @@ ghost use Rattle.std.specs.Prelude.{◌≡◌, ℕ, ◌+◌, ◌-◌, ◌^◌, �
 ghost use Rattle.std.specs.FinSet as set;
 ghost use Rattle.std.specs.Map.{values_of};
 ghost use Rattle.indexmap.specs.Layout.{set_value_at};
-ghost use Rattle.fbl_table.specs.Index.{open_at};
-ghost use Rattle.fbl_table.specs.Indexed.{listed, IsIndexed, room, KeepsIndex};
+ghost use Rattle.fbl_table.specs.Indexed.{open_at, listed, IsIndexed, room, KeepsIndex};
 ghost use Rattle.fbl_table.specs.Tables.{HasInPlace, IsOnce, is_held, is_open, lacks, has_at, learned, noted, piggybacked, gathered, marked, added, entry_of};
 
 use crate::entry::Entry;

@@ -25,10 +25,8 @@ pub use Rattle.fbl_base.specs.declared.strike.Strike.{Strike}
 pub use Rattle.fbl_base.specs.declared.trace.Event.{Event}
 pub use Rattle.fbl_base.specs.declared.trace.Mark.{Mark}
 pub use Rattle.fbl_group.proofs.Striking.{is_allowed}
-pub use Rattle.fbl_group.specs.Crashes.{CrashLeaves, Crashes}
-pub use Rattle.fbl_group.specs.Recoveries.{Recovers}
-pub use Rattle.fbl_group.specs.Strikes.{strike_refusal}
-pub use Rattle.fbl_group.specs.Tickets.{MayCommit, RefusesCommit}
+pub use Rattle.fbl_group.specs.Strikes.{CrashLeaves, Crashes, Recovers, strike_refusal}
+pub use Rattle.fbl_group.specs.Deliveries.{MayCommit, RefusesCommit}
 pub use Rattle.fbl_group.specs.declared.answers.Recovered.{Recovered}
 pub use Rattle.fbl_group.specs.declared.answers.Struck.{Struck}
 pub use Rattle.fbl_group.specs.declared.refusals.CommitRefusal.{CommitRefusal}

@@ -1,4 +1,4 @@
-use Rattle.fbl_audit.proofs.SafeRuns.{safe_by_condition}
+use Rattle.fbl_audit.proofs.Checks.{safe_by_condition}
 use Rattle.fbl_audit.proofs.laws.safe_law.Goals as goal
 
 pub returns : goal.returns

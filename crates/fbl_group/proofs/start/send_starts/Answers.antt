@@ -1,6 +1,5 @@
 use Rattle.fbl_group.proofs.Common.{arith, at_drop_more, refl, sym, ◌∙◌, start_events}
-use Rattle.fbl_group.proofs.Queues.{none-shape, none-in}
-use Rattle.fbl_group.proofs.Starting.{start-places, start-shape, start-sent}
+use Rattle.fbl_group.proofs.Queues.{none-shape, none-in, start-places, start-shape, start-sent}
 use Rattle.fbl_group.proofs.start.send_starts.Goals as goal
 
 pub loop-start-init : goal.loop-start-init

@@ -11,7 +11,7 @@ returns g c =
     let tie : vec_len c.in_ok-lost.lost ≡ length c.in_ok-lost.lost.items = search rules in
     record {
       flight = c.messages_in_flight.ensures;
-      trace = ap length c.trace.ensures;
+      trace = ap length c.trace.ensures.trace;
       lost = c.len.ensures ∙ tie ∙ ap length (rw is at c.in_ok-lost.ensures);
       orphans = rw is at c.orphans.ensures;
     }

@@ -1,5 +1,5 @@
-use Rattle.fbl_group.proofs.Common.{arith, rows, ap, ◌∙◌, GroupRecord}
-use Rattle.fbl_group.proofs.BringingBack.{size, short-again, fewer, undone-few, undone-fits, is_sound, recovers}
+use Rattle.fbl_group.proofs.Common.{arith, rows, ap, subst, ◌∙◌, GroupRecord, IsSound, group_recovery_keeps}
+use Rattle.fbl_group.proofs.Recovering.{size, short-again, fewer, undone-few, undone-fits, recovers}
 use Rattle.fbl_group.proofs.group.Group.bring_back.Goals as goal
 
 pub messages-resent-requires-clause-shape : goal.messages-resent-requires-clause-shape
@@ -35,15 +35,13 @@ overflow_cast-result g c =
     undone-few c.self.invariant c.self.view_is c.in_ok-rebuilt.ensures.ready c.in_ok-rebuilt.ensures.down c.cut.ensures
     c.receipt_count-before.ensures c.count_receipts.ensures c.as_slice-2.ensures.value
 
-pub invariant_of-self : goal.invariant_of-self
-invariant_of-self g c =
-    is_sound c.self.invariant c.self.view_is c.in_ok-rebuilt.ensures.ready c.in_ok-rebuilt.ensures.down c.cut.ensures
-    c.receipt_count-before.ensures c.count_receipts.ensures c.as_slice-2.ensures.value (rows c.in_ok-again.again) c.members-n.ensures.value
-    c.as_slice.ensures.value c.in_ok-again.ensures.each c.put_back.ensures c.replace.ensures c.empty-self-inside.ensures
-
 pub returns-clause-recovered : goal.returns-clause-recovered
 returns-clause-recovered g c =
     recovers c.self.invariant c.self.view_is c.in_ok-rebuilt.ensures.ready c.in_ok-rebuilt.ensures.down c.cut.ensures
     c.receipt_count-before.ensures c.count_receipts.ensures c.as_slice-2.ensures.value (rows c.in_ok-again.again) c.members-n.ensures.value
     c.as_slice.ensures.value c.in_ok-again.ensures.each c.put_back.ensures c.replace.ensures c.empty-self-inside.ensures
     c.messages-resent.ensures.messages
+
+pub invariant_of-self : goal.invariant_of-self
+invariant_of-self g c =
+    group_recovery_keeps g.B.Behaviour.next _ _ (returns-clause-recovered g c).recovery (subst (IsSound g.B.Behaviour.next) c.self.view_is c.self.invariant)

@@ -1,5 +1,5 @@
 use Rattle.fbl_group.proofs.Common.{arith}
-use Rattle.fbl_group.proofs.Deciding as deciding
+use Rattle.fbl_group.proofs.Delivering as deciding
 use Rattle.fbl_group.proofs.group.Group.deliver.Goals as goal
 
 pub returns-in-Ok-clause-delivered : goal.returns-in-Ok-clause-delivered

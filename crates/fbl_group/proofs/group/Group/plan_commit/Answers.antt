@@ -1,5 +1,5 @@
 use Rattle.fbl_group.proofs.Common.{◌≡◌, length, arith, sym, ◌∙◌, false≢true, is_full}
-use Rattle.fbl_group.proofs.Deciding.{is_current, is_fresh, is_planned}
+use Rattle.fbl_group.proofs.Delivering.{is_current, is_fresh, is_planned}
 use Rattle.fbl_group.proofs.group.Group.plan_commit.Goals as goal
 
 pub returns-then-not-is_current-clause-refused : goal.returns-then-not-is_current-clause-refused

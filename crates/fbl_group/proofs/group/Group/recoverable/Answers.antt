@@ -1,4 +1,4 @@
-use Rattle.fbl_group.proofs.Promising.{sound_is_recoverable}
+use Rattle.fbl_group.proofs.Striking.{sound_is_recoverable}
 use Rattle.fbl_group.proofs.group.Group.recoverable.Goals as goal
 
 pub returns-clause-theorem : goal.returns-clause-theorem

@@ -1,7 +1,7 @@
-use Rattle.fbl_group.proofs.Common.{◌≡◌, length, arith, rules, refl, ap, ◌∙◌, room_in}
+use Rattle.fbl_group.proofs.Common.{◌≡◌, length, arith, rules, refl, ap, subst, ◌∙◌, room_in, IsSound, group_delivery_keeps}
 use Rattle.std.proofs.Common.{Option, Some, None, IfNone, IsSome}
 use Rattle.fbl_group.proofs.Queues.{length-messages, made-fits}
-use Rattle.fbl_group.proofs.Planning as planning
+use Rattle.fbl_group.proofs.Delivering as planning
 use Rattle.fbl_group.proofs.group.Group.settle.Goals as goal
 
 pub reserve_from-requires-clause-receivers : goal.reserve_from-requires-clause-receivers
@@ -61,19 +61,17 @@ overflow_add-self g c =
     let ranges = c.self.ranges in
     omega (arith, room.1, ranges.1.1.1.1.1.1.0.1)
 
-pub invariant_of-self-2 : goal.invariant_of-self-2
-invariant_of-self-2 g c =
-    planning.is_sound g.met.B.Behaviour.laws.sends c.self.invariant c.self.view_is c.requires c.reserve_from.ensures.same
-    (rw c.unwrap-wire.ensures at c.front.ensures.some) (c.from.ensures ∙ c.number.ensures.value) c.index_mut-member.ensures.value
-    c.in_ok-made.ensures.received c.in_ok-made.ensures.sent c.f-f.ensures c.ssn-ssn.ensures c.received-rsn.ensures.value c.reserve.ensures.items
-    c.push_reserved.ensures.items c.take_and_send.ensures.trace c.take_and_send.ensures.channels
-
 pub returns-clause-delivered : goal.returns-clause-delivered
 returns-clause-delivered g c =
     planning.is_delivered g.met.B.Behaviour.laws.sends c.self.invariant c.self.view_is c.requires c.reserve_from.ensures.same
     (rw c.unwrap-wire.ensures at c.front.ensures.some) (c.from.ensures ∙ c.number.ensures.value) c.index_mut-member.ensures.value
     c.in_ok-made.ensures.received c.in_ok-made.ensures.sent c.f-f.ensures c.ssn-ssn.ensures c.received-rsn.ensures.value c.reserve.ensures.items
     c.push_reserved.ensures.items c.take_and_send.ensures.trace c.take_and_send.ensures.channels c.carried.ensures.value
+
+pub invariant_of-self-2 : goal.invariant_of-self-2
+invariant_of-self-2 g c =
+    group_delivery_keeps g.B.Behaviour.next _ _ _ g.met.B.Behaviour.laws.sends (returns-clause-delivered g c).delivery
+    (subst (IsSound g.B.Behaviour.next) c.self.view_is c.self.invariant)
 
 pub take_and_send-requires-clause-from : goal.take_and_send-requires-clause-from
 take_and_send-requires-clause-from g c =

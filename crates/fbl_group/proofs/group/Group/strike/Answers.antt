@@ -1,11 +1,13 @@
 use Rattle.fbl_group.proofs.Common.{◌∙◌}
-use Rattle.fbl_group.proofs.Striking.{is_strike, is_sound, count-lost}
+use Rattle.fbl_group.proofs.Striking.{is_strike, strike_keeps, count-lost}
 use Rattle.fbl_group.proofs.group.Group.strike.Goals as goal
 
 pub invariant_of-self : goal.invariant_of-self
 invariant_of-self g c =
-    is_sound c.self.invariant (rw (← c.self.view_is) at c.in_ok-allow_strike.ensures.allowed) (rw c.members-n.ensures.value at c.blank_members.ensures)
-    (rw c.members-n.ensures.value at c.drop_at.ensures) c.union-self-inside.ensures
+    let allowed = rw (← c.self.view_is) at c.in_ok-allow_strike.ensures.allowed in
+    strike_keeps g.B.Behaviour.next _ _ _ allowed
+    (is_strike c.self.invariant allowed (rw c.members-n.ensures.value at c.blank_members.ensures) (rw c.members-n.ensures.value at c.drop_at.ensures) c.union-self-inside.ensures)
+    c.self.invariant
 
 pub returns-clause-struck : goal.returns-clause-struck
 returns-clause-struck g c =

@@ -1,4 +1,4 @@
-use Rattle.fbl_member.proofs.Common.{◌≡◌, ◌+◌, ◌≤◌, ◌++◌, ap, arith, length, refl, Determinant, piggybacked, HasRoom, All-weaker}
+use Rattle.fbl_member.proofs.Common.{◌≡◌, ◌≤◌, ◌++◌, ap, arith, length, refl, piggybacked, HasRoom, All-weaker}
 use Rattle.fbl_member.proofs.Logs.{bounded, numbered-more}
 use Rattle.fbl_member.proofs.member_rec.MemberRec.receive.Goals as goal
 use Rattle.fbl_member.proofs.member_rec.MemberRec.receive.Goals.{After-unwrap}
@@ -16,10 +16,9 @@ into_wires-requires-clause-numbers g c =
 
 pub into_wires-requires-clause-rooms : goal.into_wires-requires-clause-rooms
 into_wires-requires-clause-rooms g c =
-    let own : Determinant = record { from = c.from.result; ssn = c.ssn.result; to = c.args.me; rsn = c.self.inside.received + 1 } in
     let after = c.learn_and_note.new.self in
     let most = c.room_to_piggyback-most.result in
-    let enough : length (piggybacked c.args.f after) ≤ most = rw c.in_ok-learn_and_note.ensures.ok (c.room_to_piggyback-most.ensures.enough c.args.me own) in
+    let enough : length (piggybacked c.args.f after) ≤ most = rw c.in_ok-learn_and_note.ensures.ok (c.room_to_piggyback-most.ensures.enough c.args.me c.next_determinant-determinant.result) in
     let rooms = c.in_ok-buffers.ensures in
     record {
       wires = rooms.wires;
@@ -29,10 +28,10 @@ into_wires-requires-clause-rooms g c =
 
 pub invariant_of-self-2 : goal.invariant_of-self-2
 invariant_of-self-2 g c =
-    bounded c.self.inside.received c.number.result c.ssn-2.result c.self.inside.last c.self.inside.log.items _ _ c.self.invariant.0
+    bounded c.self.inside.received c.number.result c.ssn.result c.self.inside.last c.self.inside.log.items _ _ c.self.invariant.0
     (rw (← c.self.view_is) at c.requires.receipts) (grown g (goal.at.invariant_of-self-2 g c).After-unwrap) (rw (← c.self.view_is) at c.requires.sends)
 
 pub returns-clause-received : goal.returns-clause-received
 returns-clause-received g c =
-    rw (← c.self.view_is, grown g (goal.at.returns-clause-received g c).After-unwrap, numbered-more, c.number.ensures.value, c.from-2.ensures, c.ssn-2.ensures)
-    (rw (c.in_ok-learn_and_note.ensures.ok, c.carried-carried.ensures.value, c.from.ensures, c.ssn.ensures) refl)
+    rw (← c.self.view_is, grown g (goal.at.returns-clause-received g c).After-unwrap, numbered-more, c.number.ensures.value, c.from.ensures, c.ssn.ensures)
+    (rw (c.in_ok-learn_and_note.ensures.ok, c.carried-carried.ensures.value, rw (← c.self.view_is) at c.next_determinant-determinant.ensures) refl)

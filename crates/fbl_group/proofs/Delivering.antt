@@ -1,13 +1,17 @@
--- What is known of a delivery that is planned.
-use Rattle.fbl_group.proofs.Common.{Some, None, ◌≡◌, ◌≢◌, ℕ, ◌+◌, ◌<◌, ◌≤◌, false, List, [], ◌∷◌, ◌++◌, length, map, refl, sym, subst, ap, ◌∙◌}
-use Rattle.fbl_group.proofs.Common.{append_assoc, arith, get_or, length-append, Fits, w32, slice_get, slice_set, All, nat_tests, Event, Outcome, Next, Entry, piggybacked, Message, MemberRecord}
-use Rattle.fbl_group.proofs.Common.{messages_from, IsUp, taken_off, between, GroupRecord, HasChannels, member, channel, channel_in, knowledge, IsSound, step_of, up_if_none, receipts_fit, flight_at}
-use Rattle.fbl_group.proofs.Common.{IsOnce, front_message, send_of_message, taken_and_sent, IsPlanned, set-get_or, Receipt, SendsAllowed, is_held, last_from, received_by, table_after}
-use Rattle.fbl_group.proofs.Common.{next_determinant, IsInFlight, delivery_events, IsDelivery, SendsWell, sends_fit, receipt_is_new, new_not_held, new_not_carried, front_is_later, carried_fits}
-use Rattle.fbl_group.proofs.Common.{length-step_events, group_delivery_keeps, Delivered}
+-- Deliveries: what is known of one that is planned, and which refusal of a delivery, a ticket or a commit holds.
+use Rattle.fbl_group.proofs.Common.{Some, None, ◌≡◌, ◌≢◌, ℕ, ◌+◌, ◌<◌, ◌≤◌, false, List, [], ◌∷◌, ◌++◌, length, map, refl, sym, subst, ap, ◌∙◌, append_assoc, arith, get_or}
+use Rattle.fbl_group.proofs.Common.{length-append, Fits, w32, slice_get, slice_set, All, nat_tests, Event, Outcome, Next, Entry, piggybacked, Message, MemberRecord, messages_from, IsUp}
+use Rattle.fbl_group.proofs.Common.{taken_off, between, GroupRecord, HasChannels, member, channel, channel_in, knowledge, IsSound, step_of, up_if_none, receipts_fit, flight_at, IsOnce}
+use Rattle.fbl_group.proofs.Common.{front_message, send_of_message, taken_and_sent, IsPlanned, set-get_or, Receipt, SendsAllowed, is_held, last_from, received_by, table_after}
+use Rattle.fbl_group.proofs.Common.{next_determinant, IsInFlight, delivery_events, IsDelivery, SendsWell, sends_fit, receipt_is_new, new_not_held, new_not_carried, front_is_later}
+use Rattle.fbl_group.proofs.Common.{carried_fits, length-step_events, Delivered, cond, is_full, front, deliver_refusal, of_commit, IsDeliverRefusal, Delivers}
+use Rattle.fbl_group.proofs.Common.{Receipted, Ticket, CommitRefusal, take_refusal, IsTicket, IsCurrent, IsFresh, MayCommit, RefusesCommit, sends_at, flight_ends}
 use Rattle.fbl_law.specs.GroupSteps.{made as made_by}
 use Rattle.fbl_group.proofs.Queues.{first-is, messages-all, sends-messages, settled-in}
 use Rattle.fbl_group.proofs.Recovering.{read_at}
+use Rattle.std.specs.FinSet as set
+use Rattle.fbl_group.specs.declared.refusals.CommitRefusal.TheVariants as commit
+use Rattle.fbl_group.specs.declared.refusals.DeliverRefusal.TheVariants.{Full}
 
 module _ {S N : Type 0} where
   -- what the receiver's step asks of the message that is read at the front, and of the record at the receiver's place
@@ -141,10 +145,80 @@ module _ {S N : Type 0} {next : Next S N} {r now : GroupRecord S N} {q p : ℕ} 
           is_delivery =
               grind (arith, plan, of_sender, to_receiver, room, longer, trace_is, at_place, receives, settled)
 
-          pub is_sound : IsSound next new
-          is_sound = group_delivery_keeps next r new v well is_delivery sound
-
           -- what the delivery answers
           pub is_delivered : {carried : List Entry} → carried ≡ w.carried
               → Delivered next now new (front_message note now q p) (record { rsn = rsn; carried = length carried; state = outcome.state })
           is_delivered {carried = carried} is = rw (← view) grind (arith, is_delivery, to_receiver, rsn_next, is_v, plan.step)
+
+-- ---- which refusal holds
+
+module _ {S N : Type 0} (next : Next S N) (r : GroupRecord S N) (t : Ticket S N) {w : Message N} {x : MemberRecord S N} (size : r.config.members ≡ t.n)
+    (at : front r t.from t.to ≡ Some w) (read : x ≡ member r t.to) where
+  -- a ticket whose channel has this front, and whose receiver this record, is fresh where they are the ticket's
+  pub is_fresh : IsCurrent x w t → IsFresh r t
+  is_fresh current = (size, (w, at, rw (← read) current))
+
+  pub is_current : IsFresh r t → IsCurrent x w t
+  is_current fresh =
+      let same : fresh.1.0 ≡ w = grind (arith, fresh.1.1, at) in
+      rw read (rw same at fresh.1.2)
+
+  -- a step that is fresh, and that there is room for, is planned
+  module _ {outcome : Outcome S N} (nobody : set.len r.down ≡ 0) (step : outcome ≡ next.step t.to t.n t.state t.note) where
+    pub is_planned : IsSound next r → IsCurrent x w t → is_full r (length outcome.sends.items) ≡ false → IsPlanned next t.note r t.from t.to outcome
+    is_planned sound current room =
+        let first : front_message t.note r t.from t.to ≡ w = first-is t.note (channel r t.from t.to) w at in
+        let flight = flight_at sound.causes t.from t.to 0 w at in
+        let ends = flight_ends sound.causes w flight.0 in
+        let steps : outcome ≡ next.step t.to r.config.members (member r t.to).state w.note = rw (size, ← read, current.state, current.note) step in
+        grind (arith, set.empty_of_len r.down nobody, t.ends, flight, ends, sound.shape)
+
+-- a step whose ticket was just taken is refused only for want of room or of memory, so that its commit answers for the delivery
+module _ {S N : Type 0} (next : Next S N) (r : GroupRecord S N) (p q : ℕ) (t : Ticket S N)
+    (taken : (take_refusal r p q ≡ None) × ((v : Message N) × (front r q p ≡ Some v) × IsTicket r v t))
+    (ends : (t.to ≡ p) × (t.from ≡ q)) (made : Ticket S N) (same : made ≡ t) where
+  abbrev message : Message N
+  message = taken.1.0
+
+  is : IsTicket r message t
+  is = taken.1.2
+
+  nobody : set.len r.down ≡ 0
+  nobody = grind (arith, nat_tests, taken.0)
+
+  here : front r t.from t.to ≡ Some message
+  here = simp (ends.0, ends.1) taken.1.1
+
+  fresh : IsFresh r t
+  fresh = (
+    sym is.n,
+    (
+      message,
+      here,
+      record {
+        state = sym (is.state ∙ ap (λ k. (member r k).state) (sym is.to));
+        rsn = sym (is.rsn ∙ ap (λ k. (member r k).received + 1) (sym is.to));
+        ssn = sym is.ssn;
+        note = sym is.note;
+      },
+    ),
+  )
+
+  same_step : next.step t.to t.n t.state t.note ≡ step_of next r message
+  same_step = cc (is.to, is.n, is.state, is.note)
+
+  deliver_is : deliver_refusal next r p q ≡ cond (is_full r (sends_at next t)) (Some Full) None
+  deliver_is = rw (taken.0, taken.1.1, same_step) refl
+
+  answered : (refusal : CommitRefusal) → RefusesCommit next r t refusal → IsDeliverRefusal (deliver_refusal next r p q) (of_commit refusal)
+  answered commit.Down refused = absurd (refused nobody)
+  answered commit.Stale refused = absurd (refused.1 fresh)
+  answered commit.Full refused = deliver_is ∙ rw refused.2 refl
+  answered commit.Memory refused = deliver_is ∙ rw refused.room refl
+
+  pub commit_refused : (refusal : CommitRefusal) → RefusesCommit next r made refusal → IsDeliverRefusal (deliver_refusal next r p q) (of_commit refusal)
+  commit_refused refusal refused = answered refusal (rw same at refused)
+
+  pub delivers : (new : GroupRecord S N) (answer : Receipted S) → MayCommit next r made × Delivers next r new made.to made.from answer
+      → (deliver_refusal next r p q ≡ None) × Delivers next r new p q answer
+  delivers new answer done = (deliver_is ∙ rw (rw same at done.0).room refl, (rw (same, ends.0, ends.1) at done.1))
