@@ -51,9 +51,7 @@ fn kind_in(value: &Value<'_>) -> Option<InputKind>
 
 /// What stands at the place of the fault, where it names one.
 fn found_at<'v, 'a>(value: &'v Value<'a>, misfit: &Misfit) -> Option<&'v Value<'a>>
-    requires { HasNumbers (value_view value.now) }
-    ensures part { option_map (λ found. value_view found.now) result ≡ part_at misfit.now (value_view value.now) }
-    ensures numbers { IfSome result (λ found. HasNumbers (value_view found.now)) }
+    ensures { option_map (λ found. value_view found.now) result ≡ part_at misfit.now (value_view value.now) }
 {
     match misfit {
         Misfit::NotObject => Some(value),

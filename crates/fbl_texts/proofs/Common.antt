@@ -22,21 +22,13 @@ pub use Rattle.fbl_base.specs.MemberSets.{AllBelow, member_list, Members}
 pub use Rattle.fbl_base.specs.declared.trace.Determinant.{Determinant}
 pub use Rattle.fbl_base.specs.declared.trace.Mark.{Mark}
 pub use Rattle.fbl_base.specs.declared.trace.Mark.TheVariants.{Receipt, Send}
-pub use Rattle.fbl_input.proofs.Faults.{refused}
-pub use Rattle.fbl_input.proofs.Inputs.{over_input}
+pub use Rattle.fbl_input.proofs.Inputs.{over_input, refused}
 pub use Rattle.fbl_input.proofs.Lists.{elements_of, json_read}
 pub use Rattle.fbl_input.proofs.Outputs.{puts_front, puts_text}
 pub use Rattle.fbl_input.specs.Faults.{IsFirstFault, PutsOut}
 pub use Rattle.fbl_input.specs.Misfits.{IsOfParts, IsOfSettings, run_fault}
 pub use Rattle.fbl_input.specs.Shapes.{all_shaped, count_shape, field, json_of, list_of, longest, member_shape, name_of, number_within, or_fault, set_shape, value_of_input, ◌>>=◌}
 pub use Rattle.fbl_input.specs.declared.fault.RunFault.{RunFault}
-pub use Rattle.json.specs.Ascii.{false_text, null_text, true_text}
-pub use Rattle.json.specs.Json.{if_last, value}
-pub use Rattle.json.specs.Lex.{Class, Lexeme, Mode, between, class, fresh, in_escape, in_string, in_word, lex_byte, other, punctuate, quote, string_token}
-pub use Rattle.json.specs.Lex.{token}
-pub use Rattle.json.specs.Text.{Within, after_backslash, after_high, after_u, is_high_surrogate, is_low_surrogate, plain, prepend, surrogate_pair}
-pub use Rattle.json.specs.Token.{Token, bad, boolean, null}
-pub use Rattle.json.specs.Word.{after_digits, after_exponent, after_fraction, after_minus, after_sign, after_whole, ends_word, head, literal, number_before}
 pub use Rattle.serde_json.proofs.Views.{view-Array}
 pub use Rattle.serde_json.specs.Data.{Data, array, depth, items_depth}
 pub use Rattle.serde_json.specs.Read.{max_depth, of_json, read}

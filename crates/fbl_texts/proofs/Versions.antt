@@ -1,5 +1,5 @@
 -- What an input of another version than 2 asks for: what it did when version 1 was the only one.
-use Rattle.fbl_texts.proofs.Common.{◌≡◌, ℕ, List, zero, suc, arith, refl, ◌&&◌, cond, Option, Some, None, option_and_then, Result, Ok, Err, Data, RunFault, ◌>>=◌, or_fault, count_shape, field, name_of, number_within, value_of_input}
+use Rattle.fbl_texts.proofs.Common.{◌≡◌, ℕ, List, arith, refl, ◌&&◌, cond, Option, Some, None, option_and_then, Result, Ok, Err, Data, RunFault, ◌>>=◌, or_fault, count_shape, field, name_of, number_within, value_of_input}
 use Rattle.std.proofs.lemmas.Bool.Decides.{nat_tests}
 use Rattle.std.specs.Prelude.{nat_le}
 use Rattle.serde_json.specs.Find.{get, as_number, as_object, as_u64}
