@@ -19,15 +19,10 @@ pub use Rattle.fbl_base.specs.declared.trace.MessageName.{MessageName}
 pub use Rattle.fbl_history.specs.Columns.{made_after, receipts_made, ReceiptsFollowSends}
 pub use Rattle.fbl_history.specs.declared.column.Column.{Column}
 pub use Rattle.fbl_input.proofs.Outputs.{puts_text}
-pub use Rattle.fbl_pictures.specs.DumpEvents.{event_arrow, event_marks}
-pub use Rattle.fbl_pictures.specs.DumpMembers.{dump_member_shapes, members_drawn, shapes_of_member}
-pub use Rattle.fbl_pictures.specs.DumpPaths.{ArePathsDrawn, AreStepsTo, path_shapes}
-pub use Rattle.fbl_pictures.specs.DumpPictures.{IsPicture, title}
-pub use Rattle.fbl_pictures.specs.DumpReceipts.{receipt_place, taken_by, takes}
+pub use Rattle.fbl_pictures.specs.DumpPictures.{ArePathsDrawn, AreStepsTo, IsPicture, dump_member_shapes, event_arrow, event_marks, members_drawn, path_shapes, receipt_place, shapes_of_member, taken_by, takes, title}
 pub use Rattle.fbl_pictures.specs.HistoryMarks.{column_marks, marks_after, recovery_mark, strike_mark}
 pub use Rattle.fbl_pictures.specs.HistoryMembers.{brings_back, history_member_shapes, is_back, is_down_after, line_parts, members_shapes, strikes}
-pub use Rattle.fbl_pictures.specs.HistoryMessages.{arrow_from, back_before, has_standing_receipt, last_sent, receipt_arrow, sent_before, stub, stub_where, taken_by_column, arrow_between, arrow_kind, is_comeback, sends}
-pub use Rattle.fbl_pictures.specs.HistoryPlaces.{last_before, later}
+pub use Rattle.fbl_pictures.specs.HistoryMessages.{arrow_from, back_before, has_standing_receipt, last_before, last_sent, later, receipt_arrow, sent_before, stub, stub_where, taken_by_column, arrow_between, arrow_kind, is_comeback, sends}
 pub use Rattle.fbl_pictures.specs.Pictures.{picture}
 pub use Rattle.fbl_pictures.specs.Places.{drawn}
 pub use Rattle.fbl_pictures.specs.Words.{line_kind_of}

@@ -17,8 +17,7 @@ module _ (place : ℕ) where
   mark-here made (columns.Receipt to rsn from ssn state undone) = rw (eqb-self place) refl
   mark-here made (columns.Strike struck) = filter_map_none (is_mark_in place) (strike_mark place) (member_list struck) (λ q. refl)
   mark-here made (columns.Recovery replays) = filter_map_none (is_mark_in place) (recovery_mark place) replays.items (λ q. refl)
-  mark-here made (columns.Checkpoint member) = refl
-  mark-here made (columns.ReceiptsMade total) = refl
+  mark-here made _ = refl
 
 pub marks_each_event : (members : ℕ) (history : List Column) → MarksEachEvent members history
 unfolding history_shapes

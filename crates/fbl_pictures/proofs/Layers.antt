@@ -6,7 +6,7 @@ use Rattle.fbl_pictures.specs.declared.shape.ArrowKind.{ArrowKind}
 use Rattle.fbl_pictures.specs.declared.shape.LineKind.{LineKind}
 use Rattle.fbl_pictures.specs.declared.shape.Shape.TheVariants as shapes
 use Rattle.fbl_pictures.specs.declared.shape.Status.{Status}
-use Rattle.fbl_pictures.proofs.Common.{ℕ, ◌+◌, ◌*◌, ◌/◌, ◌≡◌, ◌||◌, Bool, true, false, cond, not, List, [], ◌∷◌, Option, Some, None, beq, filter, length, take, option_to_list, range_with_len, refl, Column, Shape, MessageName}
+use Rattle.fbl_pictures.proofs.Common.{arith, ℕ, ◌+◌, ◌*◌, ◌/◌, ◌≡◌, ◌||◌, Bool, true, false, cond, not, List, [], ◌∷◌, Option, Some, None, beq, filter, length, take, option_to_list, range_with_len, refl, Column, Shape, MessageName}
 use Rattle.fbl_pictures.proofs.Common.{arrow_between, arrow_from, back_before, column_marks, drawn, has_standing_receipt, history_member_shapes, is_down_after, label_and_names, last_sent, line_kind_of, line_parts}
 use Rattle.fbl_pictures.proofs.Common.{marks_after, members_shapes, nat_lt, arrow_kind, receipt_arrow, receipts_made, recovery_mark, sent_before, strike_mark, stub, stub_where}
 use Rattle.fbl_pictures.proofs.Filtering.{drawn_none, filter_map_none, filter_nothing, flat_none}
@@ -58,14 +58,9 @@ module _ (p : Shape → Bool) where
       → (start : Option ℕ) (down : Bool) (i : ℕ) (xs : List Column) → filter p (line_parts member start down i xs) ≡ []
   parts_none member line start down i [] = rw (line start i (line_kind_of down)) refl
   parts_none member line start down i (x ∷ xs) =
-      at (not (beq (is_down_after member down x) down)) (parts_none member line (Some i) (is_down_after member down x) (i + 1) xs)
-      (parts_none member line start down (i + 1) xs) where
-        at : (b : Bool) → filter p (line_parts member (Some i) (is_down_after member down x) (i + 1) xs) ≡ []
-            → filter p (line_parts member start down (i + 1) xs) ≡ []
-            → filter p (cond b (shapes.Line member start i (line_kind_of down) ∷ line_parts member (Some i) (is_down_after member down x) (i + 1) xs)
-            (line_parts member start down (i + 1) xs)) ≡ []
-        at true turned same = rw (line start i (line_kind_of down)) turned
-        at false turned same = same
+      let turned = parts_none member line (Some i) (is_down_after member down x) (i + 1) xs in
+      let same = parts_none member line start down (i + 1) xs in
+      grind (arith, line start i (line_kind_of down), turned, same)
 
   module _ (history : List Column) where
     pub arrows_none : ((from sent to received : ℕ) (kind : ArrowKind) → p (shapes.Arrow from sent to received kind) ≡ false)

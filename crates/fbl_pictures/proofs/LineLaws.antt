@@ -22,35 +22,29 @@ module _ (member place : ℕ) where
       → filter (leads_to member place) (line_parts member (Some start) down i xs) ≡ []
   late start i down [] from below = rw (eqb-self member, le-ltb start place from) refl
   late start i down (x ∷ xs) from below =
-      at (not (beq (is_down_after member down x) down)) (late i (i + 1) (is_down_after member down x) xs (omega (arith, from, below)) (omega arith))
-      (late start (i + 1) down xs from (omega (arith, below))) where
-        at : (b : Bool) → filter (leads_to member place) (line_parts member (Some i) (is_down_after member down x) (i + 1) xs) ≡ []
-            → filter (leads_to member place) (line_parts member (Some start) down (i + 1) xs) ≡ []
-            → filter (leads_to member place)
-            (cond b (shapes.Line member (Some start) i (line_kind_of down) ∷ line_parts member (Some i) (is_down_after member down x) (i + 1) xs)
-            (line_parts member (Some start) down (i + 1) xs)) ≡ []
-        at true turned same = rw (eqb-self member, le-ltb start place from) turned
-        at false turned same = same
+      let turned = late i (i + 1) (is_down_after member down x) xs (omega (arith, from, below)) (omega arith) in
+      let same = late start (i + 1) down xs from (omega (arith, below)) in
+      grind (arith, eqb-self member, le-ltb start place from, turned, same)
 
   -- one of the parts leads to the column, dashed where the member is down before it
   abbrev Leads : List Shape → Bool → Type 0
   Leads parts down = (part : Shape) × (filter (leads_to member place) parts ≡ part ∷ []) × (is_dashed part ≡ down)
 
+  by_turn : (b : Bool) (turned same : List Shape) (down : Bool) → (b ≡ true → Leads turned down) → (b ≡ false → Leads same down) → Leads (cond b turned same) down
+  by_turn true turned same down f g = f refl
+  by_turn false turned same down f g = g refl
+
   -- the next part, which does not end before it
   here : (start : Option ℕ) (down : Bool) (i : ℕ) (xs : List Column) → is_before place start ≡ true → place ≤ i → Leads (line_parts member start down i xs) down
   here start down i [] before past =
       (shapes.Line member start i (line_kind_of down), rw (eqb-self member, before, le-ltb i place past) refl, dashed-is start i down)
-  here start down i (x ∷ xs) before past = at (not (beq (is_down_after member down x) down)) (here start down (i + 1) xs before (omega (arith, past))) where
-    at : (b : Bool) → Leads (line_parts member start down (i + 1) xs) down
-        → Leads (cond b (shapes.Line member start i (line_kind_of down) ∷ line_parts member (Some i) (is_down_after member down x) (i + 1) xs)
-        (line_parts member start down (i + 1) xs)) down
-    at true later = (
-      shapes.Line member start i (line_kind_of down),
-      rw (eqb-self member, before, le-ltb i place past)
-          (ap (λ s. shapes.Line member start i (line_kind_of down) ∷ s) (late i (i + 1) (is_down_after member down x) xs past (omega arith))),
-      dashed-is start i down,
-    )
-    at false later = later
+  here start down i (x ∷ xs) before past =
+      let after = is_down_after member down x in
+      by_turn (not (beq after down)) _ _ down (λ _. (
+        shapes.Line member start i (line_kind_of down),
+        rw (eqb-self member, before, le-ltb i place past) (ap (λ s. shapes.Line member start i (line_kind_of down) ∷ s) (late i (i + 1) after xs past (omega arith))),
+        dashed-is start i down,
+      )) (λ _. here start down (i + 1) xs before (omega (arith, past)))
 
   -- a later one
   leads : (n : ℕ) (start : Option ℕ) (down : Bool) (i : ℕ) (xs : List Column) → is_before place start ≡ true → place ≡ i + n → n ≤ length xs
@@ -58,18 +52,11 @@ module _ (member place : ℕ) where
   leads zero start down i xs before is within = here start down i xs before (omega (arith, is))
   leads (suc n) start down i [] before is within = absurd (omega (arith, within))
   leads (suc n) start down i (x ∷ xs) before is within =
-      at (not (beq (is_down_after member down x) down)) refl
-      (leads n (Some i) (is_down_after member down x) (i + 1) xs (lt-ltb i place (omega (arith, is))) (omega (arith, is)) (omega (arith, within)))
-      (leads n start down (i + 1) xs before (omega (arith, is)) (omega (arith, within))) where
-        at : (b : Bool) → not (beq (is_down_after member down x) down) ≡ b
-            → Leads (line_parts member (Some i) (is_down_after member down x) (i + 1) xs)
-            (fold (is_down_after member) (is_down_after member down x) (take n xs))
-            → Leads (line_parts member start down (i + 1) xs) (fold (is_down_after member) down (take n xs))
-            → Leads (cond b (shapes.Line member start i (line_kind_of down) ∷ line_parts member (Some i) (is_down_after member down x) (i + 1) xs)
-            (line_parts member start down (i + 1) xs))
-            (fold (is_down_after member) (is_down_after member down x) (take n xs))
-        at true turns turned same = (turned.0, rw (eqb-self member, before, lt-ltb i place (omega (arith, is))) turned.1, turned.2)
-        at false stays turned same = rw (agree (is_down_after member down x) down stays) same
+      let after = is_down_after member down x in
+      by_turn (not (beq after down)) _ _ _ (λ _. let next = leads n (Some i) after (i + 1) xs (lt-ltb i place (omega (arith, is))) (omega (arith, is)) (omega (arith, within)) in
+      (next.0, rw (eqb-self member, before, lt-ltb i place (omega (arith, is))) next.1, next.2))
+      (λ stays. subst (λ d. Leads (line_parts member start down (i + 1) xs) (fold (is_down_after member) d (take n xs))) (sym (agree after down stays))
+      (leads n start down (i + 1) xs before (omega (arith, is)) (omega (arith, within))))
 
 -- ---- when a member is down
 
