@@ -1,7 +1,7 @@
 -- The names that proofs of this crate take from outside: of the standard library, of the crates below, and of the definitions here.
 pub use Rattle.std.proofs.Common.{Bool, List, None, Option, Some, [], ap, append-nil, arith, cond, drop, false, get_or, length, map, not, suc, sym, take, true, ℕ, ◌++◌, ◌+◌, ◌-◌, ◌<◌, ◌==◌, ◌||◌, ◌∙◌, ◌∷◌, ◌≡◌, Decides, inl, inr, refl, rules, slice_get, vec_len, zero, ◌≤◌, ◌⊎◌, ◌≢◌, subst, ◌&&◌, ◌↔◌, max}
 pub use Rattle.std.proofs.lemmas.Bool.{not-false, cases_eq, cases_lt, le-ltb, lt-ltb, ne_eqb, or_left, or_right}
-pub use Rattle.std.proofs.lemmas.Bool.Decides.{Decides-and, Decides-eqb}
+pub use Rattle.std.proofs.lemmas.Bool.Decides.{Decides-and, Decides-eqb, Decides-not, Decides-or}
 pub use Rattle.std.proofs.lemmas.List.{append_assoc, at_drop_more, take_more}
 pub use Rattle.std.proofs.lemmas.List.Sums.{fold_push}
 pub use Rattle.std.proofs.lemmas.Option.{get_or_from_slice_get, slice_get-get_or}

@@ -2,7 +2,7 @@
 
 ghost use Rattle.std.specs.Prelude.{◌≡◌, ◌<◌, ◌^◌, ◌++◌, OnOk, map};
 ghost use Rattle.fbl_base.specs.MemberSets.{member_list};
-ghost use Rattle.fbl_pictures.specs.HistoryMarks.{column_marks, lone_mark, marks_after, strike_mark, recovery_mark};
+ghost use Rattle.fbl_pictures.specs.HistoryMarks.{column_marks, event_mark as event_mark_of, marks_after, strike_mark, recovery_mark};
 ghost use Rattle.fbl_pictures.specs.Places.{drawn};
 
 use crate::names::push_any;
@@ -44,9 +44,9 @@ fn push_recoveries(
     Ok(())
 }
 
-/// The mark of a column at this place that has one alone, before which so many receipts were made.
-fn mark(made: u128, place: usize, column: &Column) -> Option<Shape>
-    ensures { result ≡ lone_mark made place column.now }
+/// The mark of a column at this place, if it is an event.
+fn event_mark(place: usize, column: &Column) -> Option<Shape>
+    ensures { result ≡ event_mark_of place column.now }
 {
     match column {
         Column::Send {
@@ -77,15 +77,7 @@ fn mark(made: u128, place: usize, column: &Column) -> Option<Shape>
                 undone: *undone,
             })
         }
-        Column::Checkpoint(member) => Some(Shape::Checkpoint {
-            column: place,
-            member: *member,
-        }),
-        Column::ReceiptsMade(total) => Some(Shape::MadeAndUndone {
-            column: place,
-            receipts: u128::from(*total).saturating_sub(made),
-        }),
-        Column::Strike(_) | Column::Recovery(_) => None,
+        _ => None,
     }
 }
 
@@ -100,10 +92,19 @@ fn push_mark(
     ensures { OnOk result (shapes.new.items ≡ shapes.old.items ++ marks_after made place column.now) }
 {
     match column {
-        Column::Strike(struck) => push_strikes(shapes, alloc, place, *struck),
-        Column::Recovery(replays) => push_recoveries(shapes, place, replays.as_slice()),
-        _ => push_any(shapes, mark(made, place, column)),
+        Column::Strike(struck) => push_strikes(shapes, alloc, place, *struck)?,
+        Column::Recovery(replays) => push_recoveries(shapes, place, replays.as_slice())?,
+        Column::Checkpoint(member) => shapes.push(Shape::Checkpoint {
+            column: place,
+            member: *member,
+        })?,
+        Column::ReceiptsMade(total) => shapes.push(Shape::MadeAndUndone {
+            column: place,
+            receipts: u128::from(*total).saturating_sub(made),
+        })?,
+        _ => push_any(shapes, event_mark(place, column))?,
     }
+    Ok(())
 }
 
 /// Draws the marks of all columns.
