@@ -1,5 +1,5 @@
 -- What a fault says of the value that an input is.
-use Rattle.std.specs.Prelude.{◌≡◌, ℕ, ◌<◌, ◌==◌, List, [], ◌∷◌, length, Bool, true, false, Option, Some, None, is_some, option_and_then, option_map, Result, Ok, Err, slice_get, string_bytes, codes, if◌then◌else◌}
+use Rattle.std.specs.Prelude.{◌≡◌, ℕ, ◌<◌, ◌==◌, ◌⊎◌, List, [], ◌∷◌, length, Bool, true, false, Option, Some, None, is_some, option_and_then, option_map, Result, Ok, Err, slice_get, string_bytes, codes, if◌then◌else◌}
 use Rattle.std.specs.List.{AllPass}
 use Rattle.serde_json.specs.Data.{Data}
 use Rattle.serde_json.specs.Find.{get}
@@ -61,6 +61,11 @@ abbrev pub IsMissing : InputKind → Key → Data → Misfit → Type 0
 IsMissing kind key d (misfits.MissingKey named unknown) = (named ≡ key) × (option_map string_bytes unknown ≡ unknown_key kind d)
 IsMissing kind key d misfits.Memory = Unit {0}
 IsMissing kind key d fault = ⊥
+
+-- what is read at the key has this fault: nothing stands there, or what stands there has not the shape
+abbrev pub IsOfField : InputKind → Key → Data → Misfit → Type 0
+IsOfField kind key d fault =
+    ((get (name_of key) d ≡ None) × IsMissing kind key d fault) ⊎ ((is_some (get (name_of key) d) ≡ true) × (fault ≡ misfits.BadValue key))
 
 -- the form of the command that a list's first item names, where there is one; a checkpoint is of version 2 alone
 abbrev pub form_of : Bool → Data → CommandForm

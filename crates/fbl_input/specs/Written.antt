@@ -1,11 +1,14 @@
 -- What stands at the place of a fault, as it is written in the input.
-use Rattle.std.specs.Prelude.{◌≡◌, ℕ, List, Option, Some, None, option_and_then, string_bytes}
+use Rattle.std.specs.Prelude.{◌≡◌, ◌≢◌, ℕ, List, Bool, true, false, Option, Some, None, is_some, option_and_then, string_bytes}
+use Rattle.std.specs.Str.{IsUtf8}
 use Rattle.json.specs.Find.{at, get}
 use Rattle.json.specs.Json.{Json, document}
 use Rattle.json.specs.Print.{print}
 use Rattle.json.specs.Tree.{json_tokens}
 use Rattle.fbl_input.specs.Shapes.{name_of}
 use Rattle.fbl_input.specs.declared.fault.Key.TheVariants as keys
+use Rattle.fbl_input.specs.declared.misfit.InputKind.{InputKind}
+use Rattle.fbl_input.specs.declared.misfit.InputKind.TheVariants as kinds
 use Rattle.fbl_input.specs.declared.misfit.Misfit.{Misfit}
 use Rattle.fbl_input.specs.declared.misfit.Misfit.TheVariants as misfits
 use Rattle.fbl_input.specs.declared.explanation.Detail.{Detail}
@@ -19,12 +22,29 @@ part_at (misfits.BadItem key place) d = option_and_then (at place) (get (name_of
 part_at (misfits.BadCommand place wanted) d = option_and_then (at place) (get (name_of keys.Commands) d)
 part_at fault d = None
 
--- what is said to be written there is the text of that part, without spaces
-abbrev pub IsWrittenOf : Misfit → Json → Detail → Type 0
-IsWrittenOf fault d (details.Written text) = (part : Json) × (part_at fault d ≡ Some part) × (string_bytes text ≡ print (json_tokens part))
-IsWrittenOf fault d detail = Unit {0}
+-- the kind of an input that has the list of one kind, commands or events, and not that of the other
+abbrev pub kind_of : Json → Option InputKind
+kind_of d = by_lists (is_some (get (name_of keys.Commands) d)) (is_some (get (name_of keys.Events) d))
+  where
+    by_lists : Bool → Bool → Option InputKind
+    by_lists true false = Some kinds.Script
+    by_lists false true = Some kinds.Dump
+    by_lists commands events = None
 
--- the same of the value that the input spells
-abbrev pub IsWrittenIn : Misfit → List ℕ → Detail → Type 0
-IsWrittenIn fault input (details.Written text) = (d : Json) × (document input ≡ Some d) × IsWrittenOf fault d (details.Written text)
-IsWrittenIn fault input detail = Unit {0}
+-- what is told of the value is so: the text of that part, without spaces, or nothing where there is no such part; or its kind,
+-- where it is another than the one that is wanted
+abbrev pub IsWrittenOf : InputKind → Misfit → Json → Detail → Type 0
+IsWrittenOf kind fault d (details.Written text) = (part : Json) × (part_at fault d ≡ Some part) × (string_bytes text ≡ print (json_tokens part))
+IsWrittenOf kind fault d details.Nothing = part_at fault d ≡ None
+IsWrittenOf kind fault d (details.OtherKind other) = (kind_of d ≡ Some other) × (other ≢ kind)
+IsWrittenOf kind fault d (details.NotJson stop) = ⊥
+
+abbrev pub IsNotJson : Misfit → Type 0
+IsNotJson (misfits.NotJson error) = Unit {0}
+IsNotJson fault = ⊥
+
+-- the same of the value that the input spells; where the input stops to be JSON is told of one that is no JSON alone
+abbrev pub IsWrittenIn : InputKind → Misfit → List ℕ → Detail → Type 0
+IsWrittenIn kind fault input details.Nothing = (d : Json) → IsUtf8 input → document input ≡ Some d → part_at fault d ≡ None
+IsWrittenIn kind fault input (details.NotJson stop) = IsNotJson fault
+IsWrittenIn kind fault input detail = (d : Json) × (document input ≡ Some d) × IsWrittenOf kind fault d detail

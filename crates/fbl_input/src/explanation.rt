@@ -6,7 +6,7 @@ ghost use Rattle.json.specs.Tree.{HasNumbers, json_tokens};
 ghost use Rattle.json.specs.Value.{value_view};
 ghost use Rattle.fbl_input.specs.Faults.{IsUnexplained};
 ghost use Rattle.fbl_input.specs.Misfits.{run_fault};
-ghost use Rattle.fbl_input.specs.Written.{IsWrittenIn, IsWrittenOf, part_at};
+ghost use Rattle.fbl_input.specs.Written.{IsWrittenIn, IsWrittenOf, kind_of, part_at};
 
 use crate::fault::{Key, RunFault};
 use crate::input_fault::InputFault;
@@ -37,7 +37,9 @@ pub struct Explanation<'a> {
 }
 
 /// The kind of an input that has the list of a script, commands, or that of a dump, events, and not both.
-fn kind_in(value: &Value<'_>) -> Option<InputKind> {
+fn kind_in(value: &Value<'_>) -> Option<InputKind>
+    ensures { result ≡ kind_of (value_view value.now) }
+{
     let has_commands = value.get(Key::Commands.name()).is_some();
     let has_events = value.get(Key::Events.name()).is_some();
     match (has_commands, has_events) {
@@ -49,9 +51,7 @@ fn kind_in(value: &Value<'_>) -> Option<InputKind> {
 
 /// What stands at the place of the fault, where it names one.
 fn found_at<'v, 'a>(value: &'v Value<'a>, misfit: &Misfit) -> Option<&'v Value<'a>>
-    requires { HasNumbers (value_view value.now) }
-    ensures part { option_map (λ found. value_view found.now) result ≡ part_at misfit.now (value_view value.now) }
-    ensures numbers { IfSome result (λ found. HasNumbers (value_view found.now)) }
+    ensures { option_map (λ found. value_view found.now) result ≡ part_at misfit.now (value_view value.now) }
 {
     match misfit {
         Misfit::NotObject => Some(value),
@@ -82,10 +82,11 @@ fn detail_in(
     misfit: &Misfit,
 ) -> Result<Detail, AllocError>
     requires { HasNumbers (value_view value.now) }
-    ensures { IfOk result (IsWrittenOf misfit.now (value_view value.now)) }
+    ensures { IfOk result (IsWrittenOf kind misfit.now (value_view value.now)) }
 {
-    if let Some(other) = kind_in(value).filter(|found| *found != kind) {
-        return Ok(Detail::OtherKind(other));
+    match kind_in(value) {
+        Some(other) if other != kind => return Ok(Detail::OtherKind(other)),
+        _ => (),
     }
     match found_at(value, misfit) {
         Some(found) => Ok(Detail::Written(text_of(alloc, found)?)),
@@ -95,7 +96,7 @@ fn detail_in(
 
 /// What is told of the input of the fault.
 fn detail_of(alloc: Global, fault: &InputFault) -> Result<Detail, AllocError>
-    ensures { IfOk result (IsWrittenIn fault.now.misfit fault.now.input.items) }
+    ensures { IfOk result (IsWrittenIn fault.now.kind fault.now.misfit fault.now.input.items) }
 {
     let input = fault.input.as_slice();
     match &fault.misfit {
@@ -108,8 +109,8 @@ fn detail_of(alloc: Global, fault: &InputFault) -> Result<Detail, AllocError>
     let mut scratch = Scratch::new(alloc);
     match Value::from_slice(alloc, input, &mut scratch) {
         Ok(value) => detail_in(alloc, fault.kind, &value, &fault.misfit),
-        Err(json::Error::OutOfMemory) => Err(AllocError),
-        Err(_) => Ok(Detail::Nothing),
+        Err(json::Error::Invalid) => Ok(Detail::Nothing),
+        Err(_) => Err(AllocError),
     }
 }
 
@@ -118,7 +119,7 @@ impl InputFault {
     /// and want of memory have no more to tell. `Err` comes only where there is no memory for the words.
     pub fn explanation(&self, alloc: Global) -> Result<Option<Explanation<'_>>, AllocError>
         ensures own { IfOk result (λ found. IfSome found (λ explanation. explanation.fault.now ≡ self.now)) }
-        ensures written { IfOk result (λ found. IfSome found (λ explanation. IsWrittenIn self.now.misfit self.now.input.items explanation.detail)) }
+        ensures written { IfOk result (λ found. IfSome found (λ explanation. IsWrittenIn self.now.kind self.now.misfit self.now.input.items explanation.detail)) }
         ensures none { IfOk result (λ found. IfNone found (IsUnexplained (run_fault self.now.misfit))) }
     {
         match self.misfit.fault() {

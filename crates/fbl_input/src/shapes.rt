@@ -8,7 +8,7 @@ ghost use Rattle.serde_json.specs.Data.{Data};
 ghost use Rattle.serde_json.specs.Find.{as_object, get};
 ghost use Rattle.serde_json.specs.View.{view, members_view};
 ghost use Rattle.fbl_input.specs.Items.{is_item, items_at, unknown_key};
-ghost use Rattle.fbl_input.specs.Misfits.{Gives, IsFirstOther, IsMisfit, IsMissing, IsOfShape};
+ghost use Rattle.fbl_input.specs.Misfits.{Gives, IsFirstOther, IsMisfit, IsMissing, IsOfField, IsOfShape};
 ghost use Rattle.fbl_input.specs.Shapes.{all_shaped, as_list, count_shape, field, is_key_of, is_text, json_of, list_of, member_shape, name_of, number_within, or_fault, set_shape, value_of_input};
 ghost use Rattle.fbl_input.specs.declared.fault.Key.TheVariants.{Strike};
 ghost use Rattle.fbl_input.specs.declared.misfit.InputKind.{InputKind};
@@ -203,6 +203,7 @@ pub fn value_field<T: Copy, S: JsonShape<T>>(
 ) -> Result<T, Misfit>
     ensures exact { Gives (λ x. x) result (field key S.shape (view value.now)) }
     ensures faults { IfErr result IsOfShape }
+    ensures field { IfErr result (IsOfField kind key (view value.now)) }
     ensures misfit { ((d : Data) → is_item key d ≡ true) → IfErr result (IsMisfit kind (view value.now)) }
 {
     let found = value_at(alloc, kind, value, key)?;

@@ -1,7 +1,7 @@
 -- The names that proofs of this crate take from outside: of the standard library, of the crates below, and of the definitions here.
 pub use Rattle.std.proofs.Common.{Bool, List, None, Option, Some, [], ap, append-nil, arith, cond, drop, false, get_or, length, map, not, suc, sym, take, true, ℕ, ◌++◌, ◌+◌, ◌-◌, ◌<◌, ◌==◌, ◌||◌, ◌∙◌, ◌∷◌, ◌≡◌, Decides, inl, inr, refl, rules, slice_get, vec_len, zero, ◌≤◌, ◌⊎◌, ◌≢◌, subst, ◌&&◌, ◌↔◌, max}
 pub use Rattle.std.proofs.lemmas.Bool.{not-false, cases_eq, cases_lt, le-ltb, lt-ltb, ne_eqb, or_left, or_right}
-pub use Rattle.std.proofs.lemmas.Bool.Decides.{Decides-and, Decides-eqb}
+pub use Rattle.std.proofs.lemmas.Bool.Decides.{Decides-and, Decides-eqb, Decides-not, Decides-or}
 pub use Rattle.std.proofs.lemmas.List.{append_assoc, at_drop_more, take_more}
 pub use Rattle.std.proofs.lemmas.List.Sums.{fold_push}
 pub use Rattle.std.proofs.lemmas.Option.{get_or_from_slice_get, slice_get-get_or}
@@ -19,15 +19,10 @@ pub use Rattle.fbl_base.specs.declared.trace.MessageName.{MessageName}
 pub use Rattle.fbl_history.specs.Columns.{made_after, receipts_made, ReceiptsFollowSends}
 pub use Rattle.fbl_history.specs.declared.column.Column.{Column}
 pub use Rattle.fbl_input.proofs.Outputs.{puts_text}
-pub use Rattle.fbl_pictures.specs.DumpEvents.{event_arrow, event_marks}
-pub use Rattle.fbl_pictures.specs.DumpMembers.{dump_member_shapes, members_drawn, shapes_of_member}
-pub use Rattle.fbl_pictures.specs.DumpPaths.{ArePathsDrawn, AreStepsTo, path_shapes}
-pub use Rattle.fbl_pictures.specs.DumpPictures.{IsPicture, title}
-pub use Rattle.fbl_pictures.specs.DumpReceipts.{receipt_place, taken_by, takes}
+pub use Rattle.fbl_pictures.specs.DumpPictures.{ArePathsDrawn, AreStepsTo, IsPicture, dump_member_shapes, event_arrow, event_marks, members_drawn, path_shapes, receipt_place, shapes_of_member, taken_by, takes, title}
 pub use Rattle.fbl_pictures.specs.HistoryMarks.{column_marks, marks_after, recovery_mark, strike_mark}
 pub use Rattle.fbl_pictures.specs.HistoryMembers.{brings_back, history_member_shapes, is_back, is_down_after, line_parts, members_shapes, strikes}
-pub use Rattle.fbl_pictures.specs.HistoryMessages.{arrow_from, back_before, has_standing_receipt, last_sent, receipt_arrow, sent_before, stub, stub_where, taken_by_column, arrow_between, arrow_kind, is_comeback, sends}
-pub use Rattle.fbl_pictures.specs.HistoryPlaces.{last_before, later}
+pub use Rattle.fbl_pictures.specs.HistoryMessages.{arrow_from, back_before, has_standing_receipt, last_before, last_sent, later, receipt_arrow, sent_before, stub, stub_where, taken_by_column, arrow_between, arrow_kind, is_comeback, sends}
 pub use Rattle.fbl_pictures.specs.Pictures.{picture}
 pub use Rattle.fbl_pictures.specs.Places.{drawn}
 pub use Rattle.fbl_pictures.specs.Words.{line_kind_of}

@@ -1,9 +1,6 @@
 pub mod Common
 pub mod Steps
 pub mod Indexing
-pub mod Filtering
 pub mod Lasts
 pub mod Layers
-pub mod EventLaws
-pub mod ArrowLaws
-pub mod LineLaws
+pub mod HistoryLaws

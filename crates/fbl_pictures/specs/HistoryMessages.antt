@@ -1,6 +1,6 @@
 -- The arrows of messages, from where they are sent to where they are received. What is in flight from or to a member is lost when
 -- it is struck: the recovery that brings the member back sends it again.
-use Rattle.std.specs.Prelude.{ℕ, ◌||◌, Bool, true, false, List, length, Option, Some, None, max, nat_lt, slice_get, if◌then◌else◌}
+use Rattle.std.specs.Prelude.{ℕ, zero, suc, ◌||◌, Bool, true, false, List, length, Option, Some, None, max, nat_lt, slice_get, if◌then◌else◌}
 use Rattle.std.specs.List.{list_any}
 use Rattle.std.specs.Option.{option_to_list}
 use Rattle.fbl_base.specs.Events.{is_message}
@@ -12,7 +12,17 @@ use Rattle.fbl_pictures.specs.declared.shape.Shape.{Shape}
 use Rattle.fbl_pictures.specs.declared.shape.Shape.TheVariants as shapes
 use Rattle.fbl_base.specs.declared.trace.MessageName.{MessageName}
 use Rattle.fbl_pictures.specs.HistoryMembers.{brings_back}
-use Rattle.fbl_pictures.specs.HistoryPlaces.{last_before, later}
+
+-- the last place before this one that passes the test
+abbrev pub last_before : (ℕ → Bool) → ℕ → Option ℕ
+last_before test zero = None
+last_before test (suc place) = if test place then Some place else last_before test place
+
+-- the later one of two places, of which there may be none
+abbrev pub later : Option ℕ → Option ℕ → Option ℕ
+later None second = second
+later (Some first) None = Some first
+later (Some first) (Some second) = Some (max first second)
 
 -- the message that a column sends, undone or not
 abbrev pub sent_by_column : Column → Option MessageName

@@ -1,17 +1,11 @@
 pub mod Places
 pub mod Words
 pub mod Names
-pub mod Lines
 pub mod Marks
 pub mod Pictures
-pub mod HistoryPlaces
 pub mod HistoryMembers
 pub mod HistoryMessages
 pub mod HistoryMarks
 pub mod HistoryPictures
 pub mod HistoryLaws
-pub mod DumpReceipts
-pub mod DumpEvents
-pub mod DumpMembers
-pub mod DumpPaths
 pub mod DumpPictures

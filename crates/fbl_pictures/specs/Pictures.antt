@@ -6,9 +6,20 @@ use Rattle.fbl_pictures.specs.declared.shape.Legend.{Legend}
 use Rattle.fbl_pictures.specs.declared.shape.Legend.TheVariants as legend
 use Rattle.fbl_pictures.specs.declared.shape.Shape.{Shape}
 use Rattle.fbl_pictures.specs.declared.shape.Shape.TheVariants.{Label, Name, Line, Arrow, InFlight, Send, Receipt, Held, Strike, Recovery, Checkpoint, MadeAndUndone}
-use Rattle.fbl_pictures.specs.Lines.{drawn_arrow, drawn_in_flight, drawn_label, drawn_line, drawn_name}
+use Rattle.fbl_pictures.specs.Words.{drawn_arrow, drawn_in_flight, drawn_label, drawn_line, drawn_name}
 use Rattle.fbl_pictures.specs.Marks.{drawn_checkpoint, drawn_held_receipt, drawn_made_and_undone, drawn_receipt, drawn_recovery, drawn_send, drawn_strike, joined}
 use Rattle.fbl_pictures.specs.Places.{height, width, y}
+
+-- the text of a mark; what is no mark has none
+abbrev pub text_of_mark : Shape → List ℕ
+text_of_mark (Send column from ssn to undone) = drawn_send column from ssn to undone
+text_of_mark (Receipt column determinant state undone) = drawn_receipt column determinant state undone
+text_of_mark (Held column determinant kind holders) = drawn_held_receipt column determinant kind holders
+text_of_mark (Strike column member) = drawn_strike column member
+text_of_mark (Recovery column member receipts) = drawn_recovery column member receipts
+text_of_mark (Checkpoint column member) = drawn_checkpoint column member
+text_of_mark (MadeAndUndone column receipts) = drawn_made_and_undone column receipts
+text_of_mark shape = []
 
 -- the text of a shape
 abbrev pub text_of : Shape → List ℕ
@@ -17,13 +28,7 @@ text_of (Name column member) = drawn_name column member
 text_of (Line member start end kind) = drawn_line member start end kind
 text_of (Arrow from sent to received kind) = drawn_arrow from sent to received kind
 text_of (InFlight from sent to again) = drawn_in_flight from sent to again
-text_of (Send column from ssn to undone) = drawn_send column from ssn to undone
-text_of (Receipt column determinant state undone) = drawn_receipt column determinant state undone
-text_of (Held column determinant kind holders) = drawn_held_receipt column determinant kind holders
-text_of (Strike column member) = drawn_strike column member
-text_of (Recovery column member receipts) = drawn_recovery column member receipts
-text_of (Checkpoint column member) = drawn_checkpoint column member
-text_of (MadeAndUndone column receipts) = drawn_made_and_undone column receipts
+text_of mark = text_of_mark mark
 
 -- how each kind of shape is drawn, in light and in dark: the style, and the tips of arrows
 unfoldable pub look : List ℕ

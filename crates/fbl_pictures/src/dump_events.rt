@@ -1,8 +1,7 @@
 //! The marks of events and the arrows of messages.
 
 ghost use Rattle.std.specs.Prelude.{◌≡◌, ◌++◌, IfOk, OnOk};
-ghost use Rattle.fbl_pictures.specs.DumpEvents.{event_arrow, event_mark, event_marks, message_arrow};
-ghost use Rattle.fbl_pictures.specs.DumpReceipts.{IsPlacesOf, kind_of, taken_by};
+ghost use Rattle.fbl_pictures.specs.DumpPictures.{IsPlacesOf, event_arrow, event_mark, event_marks, kind_of, message_arrow, taken_by};
 ghost use Rattle.fbl_pictures.specs.Places.{drawn};
 
 use crate::shape::{ArrowKind, Kind, Shape};

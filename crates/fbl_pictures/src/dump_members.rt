@@ -1,7 +1,7 @@
 //! The labels and the lines of members.
 
 ghost use Rattle.std.specs.Prelude.{◌≡◌, ◌++◌, OnOk, length};
-ghost use Rattle.fbl_pictures.specs.DumpMembers.{dump_member_shapes, members_drawn, dump_status};
+ghost use Rattle.fbl_pictures.specs.DumpPictures.{dump_member_shapes, members_drawn, dump_status};
 
 use crate::names::push_names;
 use crate::shape::{LineKind, Shape, Status};

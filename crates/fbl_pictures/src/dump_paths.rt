@@ -2,7 +2,7 @@
 
 ghost use Rattle.std.specs.Prelude.{◌≡◌, ◌++◌, List, OnOk, slice_get};
 ghost use Rattle.std.specs.List.{range_with_len};
-ghost use Rattle.fbl_pictures.specs.DumpPaths.{ArePathsDrawn, path_shapes, step_between as step_between_of, step_shape};
+ghost use Rattle.fbl_pictures.specs.DumpPictures.{ArePathsDrawn, path_shapes, step_between as step_between_of, step_shape};
 ghost use Rattle.fbl_pictures.specs.declared.shape.Shape.{Shape};
 
 use crate::names::push_any;

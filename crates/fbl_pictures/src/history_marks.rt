@@ -2,9 +2,10 @@
 
 ghost use Rattle.std.specs.Prelude.{◌≡◌, ◌<◌, ◌^◌, ◌++◌, OnOk, map};
 ghost use Rattle.fbl_base.specs.MemberSets.{member_list};
-ghost use Rattle.fbl_pictures.specs.HistoryMarks.{column_marks, marks_after, strike_mark, recovery_mark};
+ghost use Rattle.fbl_pictures.specs.HistoryMarks.{column_marks, event_mark as event_mark_of, marks_after, strike_mark, recovery_mark};
 ghost use Rattle.fbl_pictures.specs.Places.{drawn};
 
+use crate::names::push_any;
 use crate::shape::Shape;
 use fbl_base::{Determinant, MemberSet};
 use fbl_history::{Column, Replay, made_after};
@@ -43,6 +44,43 @@ fn push_recoveries(
     Ok(())
 }
 
+/// The mark of a column at this place, if it is an event.
+fn event_mark(place: usize, column: &Column) -> Option<Shape>
+    ensures { result ≡ event_mark_of place column.now }
+{
+    match column {
+        Column::Send {
+            from,
+            ssn,
+            to,
+            undone,
+        } => Some(Shape::Send {
+            column: place,
+            from: *from,
+            ssn: *ssn,
+            to: *to,
+            undone: *undone,
+        }),
+        Column::Receipt {
+            to,
+            rsn,
+            from,
+            ssn,
+            state,
+            undone,
+        } => {
+            let (from, ssn, to, rsn) = (*from, *ssn, *to, *rsn);
+            Some(Shape::Receipt {
+                column: place,
+                determinant: Determinant { from, ssn, to, rsn },
+                state: *state,
+                undone: *undone,
+            })
+        }
+        _ => None,
+    }
+}
+
 /// Draws the marks of a column at this place, before which so many receipts were made.
 fn push_mark(
     shapes: &mut Vec<Shape>,
@@ -54,34 +92,6 @@ fn push_mark(
     ensures { OnOk result (shapes.new.items ≡ shapes.old.items ++ marks_after made place column.now) }
 {
     match column {
-        Column::Send {
-            from,
-            ssn,
-            to,
-            undone,
-        } => shapes.push(Shape::Send {
-            column: place,
-            from: *from,
-            ssn: *ssn,
-            to: *to,
-            undone: *undone,
-        })?,
-        Column::Receipt {
-            to,
-            rsn,
-            from,
-            ssn,
-            state,
-            undone,
-        } => {
-            let (from, ssn, to, rsn) = (*from, *ssn, *to, *rsn);
-            shapes.push(Shape::Receipt {
-                column: place,
-                determinant: Determinant { from, ssn, to, rsn },
-                state: *state,
-                undone: *undone,
-            })?
-        }
         Column::Strike(struck) => push_strikes(shapes, alloc, place, *struck)?,
         Column::Recovery(replays) => push_recoveries(shapes, place, replays.as_slice())?,
         Column::Checkpoint(member) => shapes.push(Shape::Checkpoint {
@@ -92,6 +102,7 @@ fn push_mark(
             column: place,
             receipts: u128::from(*total).saturating_sub(made),
         })?,
+        _ => push_any(shapes, event_mark(place, column))?,
     }
     Ok(())
 }

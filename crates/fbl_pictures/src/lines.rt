@@ -1,7 +1,7 @@
 //! The texts of labels, of lines and of arrows.
 
 ghost use Rattle.std.specs.Prelude.{◌≡◌, IfOk, string_bytes};
-ghost use Rattle.fbl_pictures.specs.Lines.{drawn_arrow, drawn_in_flight, drawn_label, drawn_line, drawn_name, segment};
+ghost use Rattle.fbl_pictures.specs.Words.{drawn_arrow, drawn_in_flight, drawn_label, drawn_line, drawn_name, segment};
 
 use crate::places::{below, left, towards, x, y};
 use crate::shape::{ArrowKind, LineKind, Status};
@@ -10,7 +10,7 @@ use fbl_base::Member;
 use std::alloc::{AllocError, Global};
 
 /// The text of a member's name.
-#[tactic(auto, unfolding(crate::specs::Lines::drawn_label))]
+#[tactic(auto, unfolding(crate::specs::Words::drawn_label))]
 pub(crate) fn label_text(
     alloc: Global,
     member: Member,
@@ -25,7 +25,7 @@ pub(crate) fn label_text(
 }
 
 /// The text of a member's name in the room before a column.
-#[tactic(auto, unfolding(crate::specs::Lines::drawn_name))]
+#[tactic(auto, unfolding(crate::specs::Words::drawn_name))]
 pub(crate) fn name_text(alloc: Global, column: usize, member: Member) -> Result<String, AllocError>
     ensures { IfOk result (λ text. string_bytes text ≡ drawn_name column member) }
 {
@@ -52,7 +52,7 @@ fn segment_text(alloc: Global, class: &str, start: Point, end: Point) -> Result<
 }
 
 /// The text of a part of a member's line.
-#[tactic(auto, unfolding(crate::specs::Lines::drawn_line))]
+#[tactic(auto, unfolding(crate::specs::Words::drawn_line))]
 pub(crate) fn line_text(
     alloc: Global,
     member: Member,
@@ -69,7 +69,7 @@ pub(crate) fn line_text(
 }
 
 /// The text of an arrow from a send to a receipt.
-#[tactic(auto, unfolding(crate::specs::Lines::drawn_arrow))]
+#[tactic(auto, unfolding(crate::specs::Words::drawn_arrow))]
 pub(crate) fn arrow_text(
     alloc: Global,
     from: Member,
@@ -92,7 +92,7 @@ pub(crate) fn arrow_text(
 }
 
 /// The text of a message in flight.
-#[tactic(auto, unfolding(crate::specs::Lines::drawn_in_flight))]
+#[tactic(auto, unfolding(crate::specs::Words::drawn_in_flight))]
 pub(crate) fn in_flight_text(
     alloc: Global,
     from: Member,

@@ -1,7 +1,7 @@
 //! Pictures: a frame with a heading and a legend, and in it the texts of shapes.
 
 ghost use Rattle.std.specs.Prelude.{◌≡◌, ◌++◌, IfOk, OnOk, string_bytes};
-ghost use Rattle.fbl_pictures.specs.Pictures.{ending, opening, picture, text_of, texts_of};
+ghost use Rattle.fbl_pictures.specs.Pictures.{ending, opening, picture, text_of, text_of_mark, texts_of};
 
 use crate::lines::{arrow_text, in_flight_text, label_text, line_text, name_text};
 use crate::look::{entries, look};
@@ -13,32 +13,11 @@ use crate::places::{height, width, y};
 use crate::shape::{Legend, Shape};
 use std::alloc::{AllocError, Global};
 
-/// The text of a shape.
-fn shape_text(alloc: Global, shape: Shape) -> Result<String, AllocError>
-    ensures { IfOk result (λ text. string_bytes text ≡ text_of shape) }
+/// The text of a mark. What is no mark has none.
+fn mark_text(alloc: Global, shape: Shape) -> Result<String, AllocError>
+    ensures { IfOk result (λ text. string_bytes text ≡ text_of_mark shape) }
 {
     match shape {
-        Shape::Label { member, status } => label_text(alloc, member, status),
-        Shape::Name { column, member } => name_text(alloc, column, member),
-        Shape::Line {
-            member,
-            start,
-            end,
-            kind,
-        } => line_text(alloc, member, start, end, kind),
-        Shape::Arrow {
-            from,
-            sent,
-            to,
-            received,
-            kind,
-        } => arrow_text(alloc, from, sent, to, received, kind),
-        Shape::InFlight {
-            from,
-            sent,
-            to,
-            again,
-        } => in_flight_text(alloc, from, sent, to, again),
         Shape::Send {
             column,
             from,
@@ -66,6 +45,37 @@ fn shape_text(alloc: Global, shape: Shape) -> Result<String, AllocError>
         } => recovery_text(alloc, column, member, receipts),
         Shape::Checkpoint { column, member } => checkpoint_text(alloc, column, member),
         Shape::MadeAndUndone { column, receipts } => made_and_undone_text(alloc, column, receipts),
+        _ => Ok(String::new(alloc)),
+    }
+}
+
+/// The text of a shape.
+fn shape_text(alloc: Global, shape: Shape) -> Result<String, AllocError>
+    ensures { IfOk result (λ text. string_bytes text ≡ text_of shape) }
+{
+    match shape {
+        Shape::Label { member, status } => label_text(alloc, member, status),
+        Shape::Name { column, member } => name_text(alloc, column, member),
+        Shape::Line {
+            member,
+            start,
+            end,
+            kind,
+        } => line_text(alloc, member, start, end, kind),
+        Shape::Arrow {
+            from,
+            sent,
+            to,
+            received,
+            kind,
+        } => arrow_text(alloc, from, sent, to, received, kind),
+        Shape::InFlight {
+            from,
+            sent,
+            to,
+            again,
+        } => in_flight_text(alloc, from, sent, to, again),
+        mark => mark_text(alloc, mark),
     }
 }
 

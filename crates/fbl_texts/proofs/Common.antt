@@ -22,28 +22,20 @@ pub use Rattle.fbl_base.specs.MemberSets.{AllBelow, member_list, Members}
 pub use Rattle.fbl_base.specs.declared.trace.Determinant.{Determinant}
 pub use Rattle.fbl_base.specs.declared.trace.Mark.{Mark}
 pub use Rattle.fbl_base.specs.declared.trace.Mark.TheVariants.{Receipt, Send}
-pub use Rattle.fbl_input.proofs.Faults.{refused}
-pub use Rattle.fbl_input.proofs.Inputs.{over_input}
+pub use Rattle.fbl_input.proofs.Inputs.{over_input, refused}
 pub use Rattle.fbl_input.proofs.Lists.{elements_of, json_read}
 pub use Rattle.fbl_input.proofs.Outputs.{puts_front, puts_text}
 pub use Rattle.fbl_input.specs.Faults.{IsFirstFault, PutsOut}
-pub use Rattle.fbl_input.specs.Misfits.{IsOfParts, run_fault}
-pub use Rattle.fbl_input.specs.Shapes.{all_shaped, json_of, list_of, longest, member_shape, number_within, or_fault, set_shape, ◌>>=◌}
+pub use Rattle.fbl_input.specs.Misfits.{IsOfParts, IsOfSettings, run_fault}
+pub use Rattle.fbl_input.specs.Shapes.{all_shaped, count_shape, field, json_of, list_of, longest, member_shape, name_of, number_within, or_fault, set_shape, value_of_input, ◌>>=◌}
 pub use Rattle.fbl_input.specs.declared.fault.RunFault.{RunFault}
-pub use Rattle.json.specs.Ascii.{false_text, null_text, true_text}
-pub use Rattle.json.specs.Json.{if_last, value}
-pub use Rattle.json.specs.Lex.{Class, Lexeme, Mode, between, class, fresh, in_escape, in_string, in_word, lex_byte, other, punctuate, quote, string_token}
-pub use Rattle.json.specs.Lex.{token}
-pub use Rattle.json.specs.Text.{Within, after_backslash, after_high, after_u, is_high_surrogate, is_low_surrogate, plain, prepend, surrogate_pair}
-pub use Rattle.json.specs.Token.{Token, bad, boolean, null}
-pub use Rattle.json.specs.Word.{after_digits, after_exponent, after_fraction, after_minus, after_sign, after_whole, ends_word, head, literal, number_before}
 pub use Rattle.serde_json.proofs.Views.{view-Array}
 pub use Rattle.serde_json.specs.Data.{Data, array, depth, items_depth}
 pub use Rattle.serde_json.specs.Read.{max_depth, of_json, read}
 pub use Rattle.serde_json.specs.View.{items_of, view}
 pub use Rattle.serde_json.specs.Written.{compact_text, has_float, items_have_float}
 pub use Rattle.serde_json.specs.declared.value.Value.{Value}
-pub use Rattle.fbl_texts.specs.Auditing.{IsAuditText, IsChecked, IsVerdict, check_lines, unsafe_lines}
+pub use Rattle.fbl_texts.specs.Auditing.{ArePathsFrom, IsAuditText, IsChecked, IsLossReason, IsPathFrom, IsVerdict, check_lines, unsafe_lines}
 pub use Rattle.fbl_texts.specs.DumpLines.{ReadsBack, dump_object, event_data, list_data, number_data, pair_data}
 pub use Rattle.fbl_texts.specs.Dumps.{IsDumpFault, IsDumpOf, RefusesParts, event_shape, pair_shape, parts_of_data, parts_of_input}
 pub use Rattle.fbl_texts.specs.declared.auditing.Verdict.{Verdict}
@@ -53,6 +45,5 @@ pub use Rattle.fbl_audit.specs.Paths.{IsPathTo}
 pub use Rattle.fbl_base.proofs.PrecedenceLaws.{depends-from_places, places-from_depends, Has-first, Has-last}
 pub use Rattle.fbl_base.specs.Precedence.{DependsOnPlace, Has}
 pub use Rattle.fbl_base.specs.Rules.{WellFormed}
-pub use Rattle.fbl_texts.specs.Whys.{ArePathsFrom, IsPathFrom, IsLossReason}
 pub use Rattle.fbl_texts.specs.declared.why.LossReason.{LossReason}
 pub use Rattle.fbl_texts.specs.declared.why.OrphanPath.{OrphanPath}

@@ -1,13 +1,16 @@
--- The values of a dump, and how they are read back.
-use Rattle.fbl_texts.proofs.Common.{◌≡◌, ℕ, ◌+◌, ◌<◌, ◌≤◌, List, [], ◌∷◌, ◌++◌, map, take, get_or, length, suc, zero, refl, sym, ap, subst, ◌∙◌, arith, Bool}
-use Rattle.fbl_texts.proofs.Common.{true, Option, Some, option_map, Ok, nat_cmp, nat_eq, take_more, map_push, All-push, any-filter_same, eqb-true, le-leb}
-use Rattle.fbl_texts.proofs.Common.{All, filter, list_any, range_with_len, nat_cmp_total, Data, view, Value, AllBelow, Parts, IsDump, all_shaped}
+-- The values of a dump, how they are read back, and its text: it has no float, and its brackets nest to a depth of three.
+use Rattle.fbl_texts.proofs.Common.{◌≡◌, ℕ, ◌+◌, ◌<◌, ◌≤◌, List, [], ◌∷◌, ◌++◌, map, take, get_or, length, suc, zero, refl, sym, ap, subst, ◌∙◌, arith, Bool, cond}
+use Rattle.fbl_texts.proofs.Common.{true, false, Option, Some, option_map, Ok, Err, nat_cmp, nat_eq, nat_lt, take_more, map_push, All-push, any-filter_same, eqb-true, le-leb, le-ltb}
+use Rattle.fbl_texts.proofs.Common.{All, IsUtf8, filter, list_any, range_with_len, nat_cmp_total, Data, view, Value, AllBelow, Parts, IsDump, Mark, Send, Receipt, all_shaped}
 use Rattle.fbl_texts.proofs.Common.{number_within, list_of, member_shape, set_shape, dump_object, event_data, pair_data, list_data, number_data, event_shape}
-use Rattle.fbl_texts.proofs.Common.{pair_shape, elements_of}
+use Rattle.fbl_texts.proofs.Common.{pair_shape, elements_of, depth, items_depth, read, max_depth, items_of, has_float, items_have_float, compact_text}
+use Rattle.fbl_texts.proofs.Common.{json_of, longest, or_fault, ◌>>=◌, parts_of_input, ReadsBack}
 use Rattle.std.specs.FinSet as set
 use Rattle.fbl_base.specs.MemberSets.{member_list}
+use Rattle.fbl_input.specs.declared.fault.RunFault.TheVariants as faults
 use Rattle.fbl_texts.specs.DumpLines.{dump_data}
 use Rattle.fbl_texts.specs.Dumps.{parts_of_data}
+use Rattle.fbl_texts.proofs.Newlines.{read_newline}
 
 -- one more value
 pub next_value : {X : Type 0} (f : X → Data) (vs : List Value) (v : Value) (xs : List X) (i : ℕ) (x : X) → i < length xs
@@ -71,3 +74,41 @@ pub dump_same : (dump : Parts) (m f : ℕ) (e h s : Data) → m ≡ dump.members
     → h ≡ list_data (map pair_data dump.held) → s ≡ list_data (map number_data (member_list dump.strike)) → dump_object m f e h s ≡ dump_data dump
 unfolding dump_data
 dump_same dump m f e h s em ef ee eh es = rw (em, ef, ee, eh, es)
+
+-- ---- the text
+
+-- the items have no float, and nest to a depth of one
+abbrev AreFlat : List Data → Type 0
+AreFlat ds = (items_have_float (items_of ds) ≡ false) × (items_depth (items_of ds) ≤ 1)
+
+flat : {X : Type 0} (f : X → Data) → ((x : X) → (has_float (f x) ≡ false) × (depth (f x) ≤ 1)) → (xs : List X) → AreFlat (map f xs)
+flat f each [] = (refl, omega arith)
+flat f each (x ∷ xs) = (let rest = flat f each xs in (rw ((each x).0, rest.0), omega (arith, (each x).1, rest.1)))
+
+flat_event : (e : Mark) → (has_float (event_data e) ≡ false) × (depth (event_data e) ≤ 1)
+flat_event (Send from ssn to) = (refl, omega arith)
+flat_event (Receipt to rsn from ssn) = (refl, omega arith)
+
+dump_flat : (dump : Parts) → (has_float (dump_data dump) ≡ false) × (depth (dump_data dump) ≤ max_depth)
+unfolding dump_data
+dump_flat dump =
+    let events = flat event_data flat_event dump.events in
+    let held = flat pair_data (λ h. (refl, omega arith)) dump.held in
+    let strike = flat number_data (λ n. (refl, omega arith)) (member_list dump.strike) in
+    (rw (events.0, held.0, strike.0), omega (arith, events.1, held.1, strike.1))
+
+-- the text of a value that is a dump
+pub text_of_dump : (d : Data) (dump : Parts) (text : List ℕ) → d ≡ dump_data dump → (has_float d ≡ false → text ≡ compact_text d) → text ≡ compact_text (dump_data dump)
+text_of_dump d dump text e h = h (ap has_float e ∙ (dump_flat dump).0) ∙ ap compact_text e
+
+short_read : (bytes : List ℕ) (d : Data) → length bytes ≤ longest → json_of bytes ≡ Some d → parts_of_input bytes ≡ parts_of_data d
+short_read bytes d short e =
+    let within : nat_lt longest (length bytes) ≡ false = le-ltb longest (length bytes) short in
+    ap (λ b. cond b (Err faults.TooLong) (or_fault faults.NotJson (json_of bytes)) >>= parts_of_data) within ∙ ap (λ o. or_fault faults.NotJson o >>= parts_of_data) e
+
+pub text_reads_back : (d : Data) (dump : Parts) (text : List ℕ) → d ≡ dump_data dump → IsUtf8 text → text ≡ compact_text (dump_data dump)
+    → (depth d ≤ max_depth → read text ≡ Some d) → parts_of_data (dump_data dump) ≡ Ok dump → ReadsBack dump
+text_reads_back d dump text e valid is reads parts short =
+    let P : List ℕ → Type 0 = λ t. json_of (t ++ 10 ∷ []) ≡ Some (dump_data dump) in
+    let flat : depth d ≤ max_depth = subst (λ (x : Data). depth x ≤ max_depth) (sym e) (dump_flat dump).1 in
+    short_read _ (dump_data dump) short (subst P is (read_newline text _ valid (reads flat ∙ ap Some e))) ∙ parts

@@ -2,5 +2,4 @@ pub mod Versions
 pub mod Common
 pub mod Newlines
 pub mod DumpValues
-pub mod DumpTexts
 pub mod Whys

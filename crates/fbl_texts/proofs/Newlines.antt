@@ -1,16 +1,14 @@
 -- A newline behind a text changes nothing of what JSON reads in it.
-use Rattle.fbl_texts.proofs.Common.{◌≡◌, ℕ, ◌+◌, ◌-◌, true, false, cond, ◌&&◌, ◌==◌, nat_lt, List, [], ◌∷◌, ◌++◌, length, drop, Option, Some, None}
+use Rattle.fbl_texts.proofs.Common.{◌≡◌, ℕ, ◌+◌, ◌-◌, true, false, cond, ◌&&◌, ◌==◌, nat_lt, List, [], ◌∷◌, ◌++◌, length, drop, Option, Some, None, IsUtf8}
 use Rattle.fbl_texts.proofs.Common.{option_map, option_and_then, refl, ap, ◌∙◌, arith, length-append, nat_eq, not, and-false, take-append-le, drop-append-le}
-use Rattle.fbl_texts.proofs.Common.{prefix_len-le-length, IsUtf8-append, is_ascii_digit, list_all, prefix_len, starts_with, false_text, null_text, true_text}
-use Rattle.fbl_texts.proofs.Common.{if_last, value, Class, Lexeme, Mode, between, class, in_escape, in_string, in_word, lex_byte, fresh, other, punctuate}
-use Rattle.fbl_texts.proofs.Common.{quote, string_token, token, Within, after_backslash, after_high, after_u, is_high_surrogate, is_low_surrogate, plain}
-use Rattle.fbl_texts.proofs.Common.{prepend, surrogate_pair, Token, bad, boolean, null, after_digits, after_exponent, after_fraction, after_minus, after_sign}
-use Rattle.fbl_texts.proofs.Common.{after_whole, ends_word, head, literal, number_before, Data, max_depth, of_json, read, json_of, json_read}
-use Rattle.std.proofs.Common.{IsUtf8}
+use Rattle.fbl_texts.proofs.Common.{prefix_len-le-length, IsUtf8-append, is_ascii_digit, list_all, prefix_len, starts_with, Data, max_depth, of_json, read, json_of, json_read}
 use Rattle.std.specs.Char.{encode_utf8}
-use Rattle.json.specs.Lex.{lex}
-use Rattle.json.specs.Text.{code_unit, content, short_escape}
-use Rattle.json.specs.Word.{after_number, word}
+use Rattle.json.specs.Ascii.{false_text, null_text, true_text}
+use Rattle.json.specs.Json.{if_last, value}
+use Rattle.json.specs.Lex.{Class, Lexeme, Mode, between, class, fresh, in_escape, in_string, in_word, lex, lex_byte, other, punctuate, quote, string_token, token}
+use Rattle.json.specs.Text.{Within, after_backslash, after_high, after_u, code_unit, content, is_high_surrogate, is_low_surrogate, plain, prepend, short_escape, surrogate_pair}
+use Rattle.json.specs.Token.{Token, bad, boolean, null}
+use Rattle.json.specs.Word.{after_digits, after_exponent, after_fraction, after_minus, after_number, after_sign, after_whole, ends_word, head, literal, number_before, word}
 
 abbrev newline : List ℕ
 newline = 10 ∷ []
@@ -23,24 +21,15 @@ no_unit a b c = rw and-false
 
 content_same : (w : Within) (xs : List ℕ) → content w (xs ++ newline) ≡ content w xs
 unfolding content short_escape
-content_same plain [] = refl
 content_same plain (x ∷ xs) = λ i. cond (x == 34) (Some []) (cond (x == 92) (content_same after_backslash xs i) (cond (nat_lt x 32) None (prepend (x ∷ []) (content_same plain xs i))))
-content_same after_backslash [] = refl
 content_same after_backslash (x ∷ xs) = λ i. cond (x == 117) (content_same after_u xs i) (option_and_then (λ c. prepend (c ∷ []) (content_same plain xs i)) (short_escape x))
-content_same after_u [] = refl
-content_same after_u (a ∷ []) = refl
-content_same after_u (a ∷ b ∷ []) = refl
 content_same after_u (a ∷ b ∷ c ∷ []) = rw (no_unit a b c) refl
 content_same after_u (a ∷ b ∷ c ∷ d ∷ xs) =
     λ i. option_and_then (λ u. cond (is_high_surrogate u) (content_same (after_high u) xs i) (cond (is_low_surrogate u) None (prepend (encode_utf8 u) (content_same plain xs i)))) (code_unit a b c d)
-content_same (after_high h) [] = refl
-content_same (after_high h) (s ∷ []) = refl
-content_same (after_high h) (s ∷ u ∷ []) = refl
-content_same (after_high h) (s ∷ u ∷ a ∷ []) = refl
-content_same (after_high h) (s ∷ u ∷ a ∷ b ∷ []) = refl
 content_same (after_high h) (s ∷ u ∷ a ∷ b ∷ c ∷ []) = grind (arith, no_unit a b c)
 content_same (after_high h) (s ∷ u ∷ a ∷ b ∷ c ∷ d ∷ xs) =
     λ i. cond ((s == 92) && (u == 117)) (option_and_then (λ l. cond (is_low_surrogate l) (prepend (encode_utf8 (surrogate_pair h l)) (content_same plain xs i)) None) (code_unit a b c d)) None
+content_same _ _ = refl
 
 -- ---- words: what a part leaves of a text ends with the newline too
 

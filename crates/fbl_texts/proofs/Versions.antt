@@ -1,36 +1,20 @@
 -- What an input of another version than 2 asks for: what it did when version 1 was the only one.
-use Rattle.std.proofs.Common.{◌≡◌, ℕ, List, zero, suc, arith, refl, ap, Bool, true, false, cond, Option, Some, None, option_and_then, Result, Ok, Err}
+use Rattle.fbl_texts.proofs.Common.{◌≡◌, ℕ, List, arith, refl, ◌&&◌, cond, Option, Some, None, option_and_then, Result, Ok, Err, Data, RunFault, ◌>>=◌, or_fault, count_shape, field, name_of, number_within, value_of_input}
 use Rattle.std.proofs.lemmas.Bool.Decides.{nat_tests}
-use Rattle.std.specs.Prelude.{nat_le, ◌&&◌}
-use Rattle.serde_json.specs.Data.{Data}
+use Rattle.std.specs.Prelude.{nat_le}
 use Rattle.serde_json.specs.Find.{get, as_number, as_object, as_u64}
 use Rattle.fbl_input.specs.declared.fault.Key.TheVariants as keys
-use Rattle.fbl_input.specs.declared.fault.RunFault.{RunFault}
 use Rattle.fbl_input.specs.declared.fault.RunFault.TheVariants as faults
 use Rattle.fbl_texts.specs.declared.script.Version.{Version}
 use Rattle.fbl_texts.specs.declared.script.Version.TheVariants.{First}
-use Rattle.fbl_input.specs.Shapes.{◌>>=◌, or_fault, count_shape, field, name_of, number_within, value_of_input}
 use Rattle.fbl_texts.specs.Scripts.{Outline, IsOfVersion, first_outline_of, first_outline_of_input, outline_by, outline_of, outline_of_input, version_from, version_shape, versioned_shape}
-
--- a number that is no version, in reach or out of it
-no_version : (e : RunFault) (n : ℕ) (b c : Bool) (rest : Version → Result Outline RunFault) → version_from n ≡ None → c ≡ false
-    → (or_fault e (option_and_then version_from (cond b (Some n) None)) >>= rest) ≡ (or_fault e (cond c (Some n) None) >>= λ _. rest First)
-no_version e n b true rest p q = absurd cc
-no_version e n false false rest p q = refl
-no_version e n true false rest p q = ap (λ v. or_fault e v >>= rest) p
 
 -- by the number at the key, if there is one
 by_number : (e : RunFault) (rest : Version → Result Outline RunFault) (u : Option ℕ) → ¬ (or_fault e (option_and_then (λ n. cond (nat_le 0 n && nat_le n 4294967295) (Some n) None) u) ≡ Ok 2)
     → (or_fault e (option_and_then version_from (option_and_then (λ n. cond (nat_le 0 n && nat_le n 4294967295) (Some n) None) u)) >>= rest)
     ≡ (or_fault e (option_and_then (λ n. cond (nat_le 1 n && nat_le n 1) (Some n) None) u) >>= λ _. rest First)
 by_number e rest None h = refl
-by_number e rest (Some zero) h = refl
-by_number e rest (Some (suc zero)) h = refl
-by_number e rest (Some (suc (suc zero))) h = absurd (h refl)
-by_number e rest (Some (suc (suc (suc n)))) h =
-    let none : version_from (suc (suc (suc n))) ≡ None = grind (arith, nat_tests) in
-    let not_one : (nat_le 1 (suc (suc (suc n))) && nat_le (suc (suc (suc n))) 1) ≡ false = grind (arith, nat_tests) in
-    no_version e (suc (suc (suc n))) _ _ rest none not_one
+by_number e rest (Some n) h = grind (arith, nat_tests, h)
 
 -- by whether there is such a value
 of_found : (e : RunFault) (found : Option Data) (rest : Version → Result Outline RunFault) → ¬ (or_fault e (option_and_then count_shape found) ≡ Ok 2)

@@ -1,9 +1,6 @@
 pub mod Scripts
-pub mod Laws
-pub mod Commands
 pub mod Dumps
 pub mod DumpLines
 pub mod Auditing
 pub mod Sets
 pub mod Lines
-pub mod Whys

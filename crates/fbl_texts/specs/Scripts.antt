@@ -1,5 +1,5 @@
 -- The script that an input is, or its first fault.
-use Rattle.std.specs.Prelude.{◌≡◌, ℕ, ◌+◌, ◌==◌, List, [], ◌∷◌, ◌++◌, Option, Some, None, is_some, option_and_then, option_map, Result, Ok, Err, codes, if◌then◌else◌}
+use Rattle.std.specs.Prelude.{◌≡◌, ℕ, ◌+◌, ◌<◌, ◌==◌, List, [], ◌∷◌, ◌++◌, Bool, true, false, slice_get, Option, Some, None, is_some, option_and_then, option_map, Result, Ok, Err, codes, if◌then◌else◌}
 use Rattle.std.specs.Option.{option_or}
 use Rattle.serde_json.specs.Data.{Data}
 use Rattle.serde_json.specs.Find.{get, as_object}
@@ -22,7 +22,8 @@ use Rattle.fbl_texts.specs.declared.script_reading.Request.{Request}
 use Rattle.fbl_input.specs.declared.input_fault.InputFault.{InputFault}
 use Rattle.fbl_input.specs.declared.misfit.InputKind.TheVariants as kinds
 use Rattle.fbl_input.specs.declared.misfit.Misfit.{Misfit}
-use Rattle.fbl_input.specs.Misfits.{IsOfSettings}
+use Rattle.fbl_input.specs.declared.misfit.Misfit.TheVariants as misfits
+use Rattle.fbl_input.specs.Misfits.{IsOfSettings, wanted_form}
 use Rattle.fbl_input.specs.Items.{unknown_key}
 pub use Rattle.fbl_input.specs.Items.{start_from, start_shape}
 use Rattle.fbl_input.specs.Faults.{IsFaultOf, IsFirstFault, IsReadFault}
@@ -182,6 +183,31 @@ IsNoScript = IsReadFault kinds.Script IsScriptMisfit
 abbrev pub request_outline : Request → Outline
 request_outline r = record { behaviour = r.behaviour; config = record { members = r.members; f = r.f; limit = r.limit; starts = r.starts.items }; commands = r.commands.items }
 
+-- ---- faults of commands
+
+abbrev pub is_second_version : Version → Bool
+is_second_version First = false
+is_second_version Second = true
+
+-- the fault is of this list of commands: there are too many, or the one at its place, which may stand there, has not the form
+-- that is wanted
+abbrev pub IsBadAmong : Version → List Data → Misfit → Type 0
+IsBadAmong version items misfits.TooManyCommands = Unit {0}
+IsBadAmong version items (misfits.BadCommand place wanted) =
+    (place < 1024) × (option_map (wanted_form (is_second_version version)) (slice_get items place) ≡ Some wanted)
+IsBadAmong version items misfits.Memory = Unit {0}
+IsBadAmong version items fault = ⊥
+
 -- a list that was read after a front that was read before
 abbrev pub with_front : {A : Type 0} → List A → Result (List A) RunFault → Result (List A) RunFault
 with_front front read = read >>= λ rest. Ok (front ++ rest)
+
+-- ---- laws of the versions
+
+-- an input of version 1 reads as it did when version 1 was the only one
+abbrev pub FirstVersionLaw : Type 0
+FirstVersionLaw = (input : List ℕ) → IsOfVersion 1 input → outline_of_input input ≡ first_outline_of_input input
+
+-- so does every input that isn't of version 2
+abbrev pub OtherVersionsLaw : Type 0
+OtherVersionsLaw = (input : List ℕ) → ¬ (IsOfVersion 2 input) → outline_of_input input ≡ first_outline_of_input input

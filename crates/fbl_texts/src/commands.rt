@@ -4,8 +4,7 @@ ghost use Rattle.std.specs.Prelude.{◌≡◌, ◌≤◌, map, IfOk, IfErr};
 ghost use Rattle.serde_json.specs.View.{view};
 ghost use Rattle.fbl_input.specs.Misfits.{Gives, IsOfShape, form_of, wanted_form};
 ghost use Rattle.fbl_input.specs.Shapes.{list_of};
-ghost use Rattle.fbl_texts.specs.Commands.{IsBadAmong};
-ghost use Rattle.fbl_texts.specs.Scripts.{checkpoint_from, command_from, command_on, commands_from, delivery, lone_command, planned_shape, versioned_from, versioned_shape};
+ghost use Rattle.fbl_texts.specs.Scripts.{IsBadAmong, checkpoint_from, command_from, command_on, commands_from, delivery, lone_command, planned_shape, versioned_from, versioned_shape};
 
 use crate::script::{Command, Plan, Version};
 use fbl_base::Strike;

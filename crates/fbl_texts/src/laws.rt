@@ -1,6 +1,6 @@
 //! Laws of the definitions, each the contract of a function that does nothing.
 
-ghost use Rattle.fbl_texts.specs.Laws.{FirstVersionLaw, OtherVersionsLaw};
+ghost use Rattle.fbl_texts.specs.Scripts.{FirstVersionLaw, OtherVersionsLaw};
 
 /// An input reads as it did when version 1 was the only one, as the same script or with the same fault: `first` where its
 /// version is 1, and `other` wherever its version isn't 2.

@@ -3,7 +3,7 @@
 ghost use Rattle.std.specs.Prelude.{◌≡◌, IfOk, MatchOption};
 ghost use Rattle.fbl_base.specs.Events.{At, receipt_of};
 ghost use Rattle.fbl_base.specs.Precedence.{Has};
-ghost use Rattle.fbl_texts.specs.Whys.{ArePathsFrom, IsLossReason, TellsLost, TellsUnsafe};
+ghost use Rattle.fbl_texts.specs.Auditing.{ArePathsFrom, IsLossReason, TellsLost, TellsUnsafe};
 
 use fbl_audit::{Paths, unsafe_receipts};
 use fbl_base::audit::{Audit, Dump};

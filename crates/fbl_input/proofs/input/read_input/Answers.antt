@@ -1,5 +1,5 @@
 use Rattle.fbl_input.proofs.Common.{◌++◌, take, arith, common_steps}
-use Rattle.fbl_input.proofs.Bytes.{consumes_more}
+use Rattle.fbl_input.proofs.Outputs.{consumes_more}
 use Rattle.fbl_input.proofs.input.read_input.Goals as goal
 
 pub returns-in_err-extend_from_slice-in-Ok-clause-stops : goal.returns-in_err-extend_from_slice-in-Ok-clause-stops

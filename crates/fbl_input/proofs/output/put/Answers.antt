@@ -1,5 +1,5 @@
 use Rattle.fbl_input.proofs.Common.{ℕ, length-take, length-drop, arith}
-use Rattle.fbl_input.proofs.Bytes.{written_more}
+use Rattle.fbl_input.proofs.Outputs.{written_more}
 use Rattle.fbl_input.proofs.output.put.Goals as goal
 
 pub loop-done-preserved : goal.loop-done-preserved

@@ -1,6 +1,4 @@
-use Rattle.fbl_pictures.proofs.ArrowLaws.{has_arrow_from_its_send}
-use Rattle.fbl_pictures.proofs.EventLaws.{marks_each_event}
-use Rattle.fbl_pictures.proofs.LineLaws.{is_dashed_while_down}
+use Rattle.fbl_pictures.proofs.HistoryLaws.{has_arrow_from_its_send, is_dashed_while_down, marks_each_event}
 use Rattle.fbl_pictures.proofs.laws.history_law.Goals as goal
 
 pub returns : goal.returns

@@ -1,4 +1,4 @@
-use Rattle.fbl_pictures.specs.Lines.{drawn_in_flight}
+use Rattle.fbl_pictures.specs.Words.{drawn_in_flight}
 use Rattle.fbl_pictures.proofs.lines.in_flight_text.Goals as goal
 
 pub returns : goal.returns

@@ -1,6 +1,5 @@
-use Rattle.std.proofs.Common.{Err, Ok, refl, ap, ◌∙◌}
 use Rattle.std.proofs.lemmas.Result.{err_from_is_err_and}
-use Rattle.fbl_texts.proofs.Common.{IsAuditText, IsDumpFault, IsDumpOf, PutsOut, over_input}
+use Rattle.fbl_texts.proofs.Common.{Err, Ok, refl, ap, ◌∙◌, IsAuditText, IsDumpFault, IsDumpOf, PutsOut, over_input}
 use Rattle.fbl_texts.proofs.auditing.audit.Goals as goal
 
 pub returns-in_err-write_audit : goal.returns-in_err-write_audit

@@ -1,23 +1,18 @@
-use Rattle.std.proofs.Common.{◌≡◌, ◌∙◌, ap, inr, Ok, Result}
+use Rattle.fbl_texts.proofs.Common.{◌≡◌, ◌∙◌, ap, inr, Ok, Result, ◌>>=◌, IsFirstFault, IsOfSettings, RunFault, refused, run_fault}
 use Rattle.fbl_base.specs.Configs.{RefusesConfig}
 use Rattle.fbl_base.specs.Steps.{has_few_hops}
 use Rattle.fbl_base.specs.declared.config.ConfigRefusal.{ConfigRefusal}
-use Rattle.fbl_base.specs.declared.config.ConfigRefusal.TheVariants as config
+use Rattle.fbl_base.specs.declared.config.ConfigRefusal.TheVariants.{Memory}
 use Rattle.fbl_base.specs.declared.fault.Breach.{Breach}
-use Rattle.fbl_input.proofs.Faults.{refused}
-use Rattle.fbl_input.specs.declared.fault.RunFault.{RunFault}
 use Rattle.fbl_input.specs.declared.misfit.InputKind.TheVariants.{Script}
 use Rattle.fbl_input.specs.declared.misfit.Misfit.TheVariants.{Config}
-use Rattle.fbl_input.specs.Faults.{IsFirstFault}
-use Rattle.fbl_input.specs.Misfits.{IsOfSettings, run_fault}
-use Rattle.fbl_input.specs.Shapes.{◌>>=◌}
 use Rattle.fbl_texts.specs.Scripts.{Outline, RefusesScript, outline_of, outline_of_input, request_outline}
 use Rattle.fbl_texts.proofs.script_reading.script_in.Goals as goal
 
 -- a configuration's refusal
 no_group : (asked : Result Outline RunFault) (s : Outline) (e : ConfigRefusal) (breach : Breach) → asked ≡ Ok s → RefusesConfig has_few_hops s.config e
     → IsFirstFault asked RefusesScript (run_fault (Config e breach))
-no_group asked s config.Memory breach is h = tt
+no_group asked s Memory breach is h = tt
 no_group asked s e breach is h = inr (s, is, h)
 
 pub returns-clause-fault : goal.returns-clause-fault

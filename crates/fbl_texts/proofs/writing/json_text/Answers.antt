@@ -1,5 +1,5 @@
 use Rattle.fbl_texts.proofs.Common.{subst, IsUtf8}
-use Rattle.fbl_texts.proofs.DumpTexts.{text_of_dump, text_reads_back}
+use Rattle.fbl_texts.proofs.DumpValues.{text_of_dump, text_reads_back}
 use Rattle.fbl_texts.proofs.writing.json_text.Goals as goal
 
 pub returns-clause-text : goal.returns-clause-text
