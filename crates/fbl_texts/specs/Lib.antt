@@ -2,6 +2,7 @@ pub mod Scripts
 pub mod Laws
 pub mod Commands
 pub mod Dumps
+pub mod RawDumps
 pub mod DumpLines
 pub mod Auditing
 pub mod Sets
