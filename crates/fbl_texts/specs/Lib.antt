@@ -1,5 +1,6 @@
 pub mod Scripts
 pub mod Dumps
+pub mod RawDumps
 pub mod DumpLines
 pub mod Auditing
 pub mod Sets

@@ -13,7 +13,7 @@ mod why;
 mod writing;
 
 pub use auditing::{Verdict, audit, write_audit, write_check};
-pub use reading::read_dump;
+pub use reading::{DumpInput, read_dump, read_raw_dump};
 pub use script::{BehaviourName, Command, Plan, Script};
 pub use script_reading::read_script;
 pub use sets::set_text;

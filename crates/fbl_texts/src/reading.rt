@@ -1,13 +1,14 @@
 //! Dumps as JSON.
 
-ghost use Rattle.std.specs.Prelude.{◌≡◌, map, IfOk, IfErr, IfSome};
+ghost use Rattle.std.specs.Prelude.{◌≡◌, map, Ok, IfOk, IfErr, IfSome};
 ghost use Rattle.serde_json.specs.Data.{Data};
 ghost use Rattle.serde_json.specs.View.{view};
 ghost use Rattle.fbl_base.specs.Audit.{parts_of};
 ghost use Rattle.fbl_input.specs.Items.{receipt_from, send_from};
 ghost use Rattle.fbl_input.specs.Misfits.{Gives, IsMisfit, IsOfShape};
 ghost use Rattle.fbl_input.specs.declared.misfit.InputKind.TheVariants as kinds;
-ghost use Rattle.fbl_texts.specs.Dumps.{IsDumpMisfit, IsDumpOf, IsNoDump, parts_of_data};
+ghost use Rattle.fbl_texts.specs.Dumps.{IsDumpOf, IsNoDump, parts_of_data, parts_of_input};
+ghost use Rattle.fbl_texts.specs.RawDumps.{IsFormMisfit, IsNoRawDump, IsRawDumpOf};
 
 use fbl_base::audit::{Dump, checked_dump};
 use fbl_base::{Determinant, Mark, Member, RawDump};
@@ -85,7 +86,7 @@ impl JsonShape<(Member, Determinant)> for PairShape {
     }
 }
 
-/// The dump that a value gives, not yet checked.
+/// The dump that a value gives, its rules not yet checked.
 #[tactic(auto, unfolding(crate::specs::Dumps::parts_of_data))]
 fn raw_dump_of(alloc: Global, value: &Value) -> Result<RawDump, Misfit>
     ensures exact { Gives parts_of result (parts_of_data (view value.now)) }
@@ -109,16 +110,41 @@ fn raw_dump_of(alloc: Global, value: &Value) -> Result<RawDump, Misfit>
     })
 }
 
-/// The dump that the bytes spell, or their first fault.
-fn dump_in(alloc: Global, input: &[u8]) -> Result<Dump, Misfit>
-    ensures dump { IfOk result (IsDumpOf input.now) }
-    ensures fault { IfErr result (IsDumpMisfit input.now) }
+/// What the bytes spell as a dump, or the first fault of their form.
+fn raw_dump_in(alloc: Global, input: &[u8]) -> Result<RawDump, Misfit>
+    ensures parts { IfOk result (λ raw. parts_of_input input.now ≡ Ok (parts_of raw)) }
+    ensures fault { IfErr result (IsFormMisfit input.now) }
 {
     let value = value_in(alloc, input)?;
-    let raw = raw_dump_of(alloc, &value)?;
-    match checked_dump(alloc, raw) {
-        Ok(dump) => Ok(dump),
-        Err((refusal, breach)) => Err(Misfit::Dump(refusal, breach)),
+    raw_dump_of(alloc, &value)
+}
+
+/// An input that has the form of a dump. Its events, its held pairs and its strike set may break the rules of one.
+#[derive(Drop)]
+pub struct DumpInput {
+    pub raw: RawDump,
+    /// The bytes of the input.
+    pub bytes: Vec<u8>,
+}
+
+/// What the reader has, as one JSON object in the form of a dump, or the first fault of that form.
+pub fn read_raw_dump<R: Read>(alloc: Global, reader: &mut R) -> Result<DumpInput, InputFault>
+    ensures parts { IfOk result (λ found. IfSome (R.remaining reader.old) (λ input. IsRawDumpOf input found)) }
+    ensures fault { IfErr result (λ fault. IfSome (R.remaining reader.old) (λ input. IsNoRawDump input fault)) }
+{
+    let kind = InputKind::Dump;
+    let bytes = read_input(alloc, reader).map_err(|misfit| InputFault {
+        kind,
+        misfit,
+        input: Vec::new(alloc),
+    })?;
+    match raw_dump_in(alloc, bytes.as_slice()) {
+        Ok(raw) => Ok(DumpInput { raw, bytes }),
+        Err(misfit) => Err(InputFault {
+            kind,
+            misfit,
+            input: bytes,
+        }),
     }
 }
 
@@ -128,18 +154,13 @@ pub fn read_dump<R: Read>(alloc: Global, reader: &mut R) -> Result<Dump, InputFa
     ensures dump { IfOk result (λ dump. IfSome (R.remaining reader.old) (λ input. IsDumpOf input dump)) }
     ensures fault { IfErr result (λ fault. IfSome (R.remaining reader.old) (λ input. IsNoDump input fault)) }
 {
-    let kind = InputKind::Dump;
-    let input = read_input(alloc, reader).map_err(|misfit| InputFault {
-        kind,
-        misfit,
-        input: Vec::new(alloc),
-    })?;
-    match dump_in(alloc, input.as_slice()) {
+    let DumpInput { raw, bytes } = read_raw_dump(alloc, reader)?;
+    match checked_dump(alloc, raw) {
         Ok(dump) => Ok(dump),
-        Err(misfit) => Err(InputFault {
-            kind,
-            misfit,
-            input,
+        Err((refusal, breach)) => Err(InputFault {
+            kind: InputKind::Dump,
+            misfit: Misfit::Dump(refusal, breach),
+            input: bytes,
         }),
     }
 }

@@ -1,0 +1,31 @@
+-- An input that has the form of a dump, whether or not it obeys the rules of one, or its first fault.
+use Rattle.std.specs.Prelude.{◌≡◌, ℕ, List, Ok}
+use Rattle.fbl_base.specs.Audit.{Parts, parts_of}
+use Rattle.fbl_input.specs.declared.fault.RunFault.{RunFault}
+use Rattle.fbl_input.specs.declared.input_fault.InputFault.{InputFault}
+use Rattle.fbl_input.specs.declared.misfit.InputKind.TheVariants as kinds
+use Rattle.fbl_input.specs.declared.misfit.Misfit.{Misfit}
+use Rattle.fbl_input.specs.Misfits.{IsOfParts}
+use Rattle.fbl_input.specs.Faults.{IsFaultOf, IsFirstFault, IsReadFault}
+use Rattle.fbl_texts.specs.Dumps.{parts_of_input}
+use Rattle.fbl_texts.specs.declared.reading.DumpInput.{DumpInput}
+
+-- the input gives these parts of a dump, and has these bytes
+abbrev pub IsRawDumpOf : List ℕ → DumpInput → Type 0
+IsRawDumpOf input found = (parts_of_input input ≡ Ok (parts_of found.raw)) × (found.bytes.items ≡ input)
+
+-- what has the form of a dump is not refused
+abbrev pub RefusesNone : Parts → RunFault → Type 0
+RefusesNone parts fault = ⊥
+
+-- the fault is the first of the input's form
+abbrev pub IsFormFault : List ℕ → RunFault → Type 0
+IsFormFault input = IsFirstFault (parts_of_input input) RefusesNone
+
+-- so it is, and what it says of the input is so
+abbrev pub IsFormMisfit : List ℕ → Misfit → Type 0
+IsFormMisfit input = IsFaultOf kinds.Dump (parts_of_input input) RefusesNone IsOfParts input
+
+-- the fault of a reader of what has the form of a dump is so
+abbrev pub IsNoRawDump : List ℕ → InputFault → Type 0
+IsNoRawDump = IsReadFault kinds.Dump IsFormMisfit
