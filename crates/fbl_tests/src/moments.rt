@@ -8,7 +8,8 @@ use fbl_base::audit::{Audit, check_dump};
 use fbl_base::{Breach, Determinant, DumpRefusal, Mark, Member, MemberSet, Outsider, RawDump};
 use fbl_fixtures::first_receipt;
 use fbl_moments::{
-    Entry, Group, RecordFault, RecordRule, RunFault, UnsafeMoment, check_run, unsafe_moments,
+    Entry, Group, RecordFault, RecordRule, RunFault, UnsafeMoment, check_run, event_place,
+    unsafe_moments,
 };
 use std::alloc::Global;
 use std::test::Fail;
@@ -227,6 +228,8 @@ fn refuses_what_is_no_run(rt: HostRuntime) {
         event(receipt(1, 1, 0, 1)),
     ];
     assert!(rt; is_refused(alloc, &early, not_before(1)));
+    assert!(rt; event_place(&early, 1) == Some(2));
+    assert!(rt; event_place(&early, 2).is_none());
     let apart = [
         event(send(0, 1, 1)),
         event(receipt(1, 1, 0, 1)),
