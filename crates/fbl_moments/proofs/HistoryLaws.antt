@@ -1,0 +1,109 @@
+-- What the clocks of a history say.
+use Rattle.fbl_moments.proofs.Common.{ℕ, suc, Bool, true, false, cond, ◌≡◌, ◌==◌, ◌<◌, ◌≤◌, ◌+◌, ◌⊎◌, ◌↔◌, inl, inr, List, [], ◌∷◌, ◌++◌, length, length-append, max, refl, sym, ap, subst, ◌∙◌, arith}
+use Rattle.fbl_moments.proofs.Common.{At-push, nat_tests, cases_eq, cases_lt, eqb-true, slice_get_within, Entry, Logs, log_of, Position, Precedes, at, Cut, HasCome}
+use Rattle.std.proofs.Common.{nat_lt}
+use Rattle.fbl_moments.specs.declared.clock.Clock.{Clock}
+use Rattle.fbl_moments.specs.declared.clocks.Advance.{Advance}
+use Rattle.fbl_moments.specs.Clocks.{AreClocks, IsAdvance, IsClock, PrecedesSome, StandsAt, cut_of, seen}
+use Rattle.fbl_moments.specs.Histories.{IsFirstAfter, IsLeastMomentOfReceipt}
+use Rattle.fbl_moments.specs.Indexes.{EndsStep}
+use Rattle.fbl_moments.proofs.ClockLaws.{IsClock-none, first_there, last_there}
+use Rattle.fbl_moments.proofs.LeastMoments.{cut_of_step, least_moment, max_or}
+
+-- the clock of nothing is that of no entries
+pub none_clock : (logs : Logs) (m : ℕ) (cut : Cut) → ((q : ℕ) → cut q ≡ 0) → IsClock logs m 0 cut
+none_clock logs m cut none = (let nothing : (λ (q : ℕ). 0) ≡ cut = λ i q. sym (none q) i in subst (λ (cut : Cut). IsClock logs m 0 cut) nothing (IsClock-none logs m))
+
+-- an entry precedes one of the member's first ones where it has come by their clock
+pub precedes_iff : (logs : Logs) (source k m count n : ℕ) (cut : Cut) → IsClock logs m count cut → n ≡ cut source → (nat_lt k n ≡ true) ↔ PrecedesSome logs (at source k) m count
+precedes_iff logs source k m count n cut clock is = (
+  λ h. clock.only (at source k) (let lt : k < n = grind (arith, nat_tests, h) in omega (arith, lt, is)),
+  λ p. (let come : k < cut source = clock.all (at source k) p in let lt : k < n = omega (arith, come, is) in grind (arith, nat_tests, lt)),
+)
+
+-- of the member's first entries the last is the first that the other precedes
+pub first_after : (logs : Logs) (i : Position) (m k : ℕ) → ¬ (PrecedesSome logs i m k) → PrecedesSome logs i m (k + 1) → IsFirstAfter logs i (at m k)
+first_after logs i m k none some = record {
+  precedes = elim (cases_eq some.0 k) [
+    | inl same ↦ subst (λ (k : ℕ). Precedes logs i (at m k)) same some.2
+    | inr ne ↦ absurd (none (some.0, (let below = some.1 in omega (arith, below, ne)), some.2))
+  ];
+  first = λ l earlier precedes. none (l, earlier, precedes);
+}
+
+-- where it precedes none of the member's entries that there are it precedes none
+pub none_after : (logs : Logs) (i : Position) (m k : ℕ) → ¬ (PrecedesSome logs i m k) → length (logs m) ≤ k → (l : ℕ) → ¬ (Precedes logs i (at m l))
+none_after logs i m k none all l precedes =
+    let there = last_there precedes in
+    let below = slice_get_within (logs m) l there.0 there.1 in
+    none (l, omega (arith, below, all), precedes)
+
+-- a clock has no more entries than there are
+pub clock_within : (logs : Logs) (m count : ℕ) (cut : Cut) → IsClock logs m count cut → (q : ℕ) → cut q ≤ length (logs q)
+clock_within logs m count cut clock q = elim (cases_lt (length (logs q)) (cut q)) [
+  | inr fine ↦ fine
+  | inl more ↦
+      let w = clock.only (at q (length (logs q))) more in
+      let there = first_there w.2 in
+      absurd (let below = slice_get_within (logs q) (length (logs q)) there.0 there.1 in omega (arith, below))
+]
+
+-- nor has a step
+pub step_within : (log : List Entry) (l end : ℕ) → l < length log → EndsStep log l end → end ≤ length log
+step_within log l end within ends = elim (cases_lt (length log) end) [
+  | inr fine ↦ fine
+  | inl more ↦ (let r = ends.records (length log) within more in absurd (let below = slice_get_within log (length log) r.0 r.1 in omega (arith, below)))
+]
+
+-- the clock with the entry, up to the end of its step, is the least moment at which the entry has come
+pub moment_of : (logs : Logs) (m l end : ℕ) (clock cut : Cut) → IsClock logs m (l + 1) clock → EndsStep (logs m) l end → ((q : ℕ) → cut q ≡ max (clock q) (cond (q == m) end 0))
+    → IsLeastMomentOfReceipt logs (at m l) cut
+moment_of logs m l end clock cut is_clock ends counts r here = least_moment logs r (at m l) here cut (cut_of_step logs r m l end clock cut here with_clock ends joins) where
+  with_clock : IsClock logs m (suc l) clock
+  with_clock = (let same : l + 1 ≡ suc l = omega arith in subst (λ (k : ℕ). IsClock logs m k clock) same is_clock)
+
+  joins : (i : Position) → HasCome cut i ↔ HasCome clock i ⊎ ((i.member ≡ m) × (i.number < end))
+  joins i =
+      let both = max_or (clock i.member) (cond (i.member == m) end 0) i.number in
+      let own : (i.number < cond (i.member == m) end 0) ↔ (i.member ≡ m) × (i.number < end) = grind (arith, nat_tests) in
+      let count = counts i.member in (
+        λ come. elim (both.0 (subst (λ (x : ℕ). i.number < x) count come)) [ inl x ↦ inl x | inr x ↦ inr (own.0 x) ],
+        λ h. subst (λ (x : ℕ). i.number < x) (sym count) (both.1 (elim h [ inl x ↦ inl x | inr x ↦ inr (own.1 x) ])),
+      )
+
+pub moment_within : (logs : Logs) (m l end : ℕ) (clock cut : Cut) → l < length (logs m) → IsClock logs m (l + 1) clock → EndsStep (logs m) l end → ((q : ℕ) → cut q ≡ max (clock q) (cond (q == m) end 0))
+    → (q : ℕ) → cut q ≤ length (logs q)
+moment_within logs m l end clock cut within is_clock ends counts q = at_member (q == m) refl where
+  at_member : (b : Bool) → (q == m) ≡ b → cut q ≤ length (logs q)
+  at_member true own =
+      let same : q ≡ m = eqb-true q m own in
+      let count : cut q ≡ max (clock q) end = counts q ∙ ap (λ b. max (clock q) (cond b end 0)) own in
+      let lengths : length (logs q) ≡ length (logs m) = ap (λ q. length (logs q)) same in
+      let below = clock_within logs m (l + 1) clock is_clock q in
+      let step = step_within (logs m) l end within ends in
+      omega (arith, count, lengths, below, step)
+  at_member false other =
+      let count : cut q ≡ max (clock q) 0 = counts q ∙ ap (λ b. max (clock q) (cond b end 0)) other in
+      let below = clock_within logs m (l + 1) clock is_clock q in
+      omega (arith, count, below)
+
+-- ---- a pass
+
+pub AreClocks-none : (entries : List Entry) (clocks : List Clock) → clocks ≡ [] → AreClocks entries 0 clocks
+AreClocks-none entries clocks none = subst (λ (cs : List Clock). AreClocks entries 0 cs) (sym none) (record { count = refl; each = λ k c i there. cc })
+
+-- one entry more
+pub AreClocks-push : (entries : List Entry) (p : ℕ) (clocks : List Clock) (advance : Advance) → AreClocks entries p clocks → IsAdvance entries p advance → AreClocks entries (p + 1) (clocks ++ advance.with ∷ [])
+AreClocks-push entries p clocks advance are is = record {
+  count = (let c = are.count in omega (arith, c, length-append clocks (advance.with ∷ [])));
+  each = λ k c i there stands. elim (At-push clocks advance.with k c there) [
+    | inl old ↦ are.each k c i old stands
+    | inr new ↦
+        let at_p : p ≡ k = (let n = are.count in omega (arith, new.0, n)) in
+        let stands' : StandsAt entries p i = subst (λ (k : ℕ). StandsAt entries k i) (sym at_p) stands in
+        let member : advance.member ≡ i.member = sym (is.member stands'.0 stands'.1) ∙ stands'.2 in
+        let number : advance.number ≡ i.number = is.number ∙ ap (seen entries p) member ∙ stands'.3 in
+        subst (λ (c : Clock). IsClock (log_of entries) i.member (i.number + 1) (cut_of c)) new.1
+        (subst (λ (k : ℕ). IsClock (log_of entries) i.member (k + 1) (cut_of advance.with)) number (subst (λ (m : ℕ). IsClock (log_of entries) m (advance.number + 1) (cut_of advance.with)) member is.with))
+  ];
+}

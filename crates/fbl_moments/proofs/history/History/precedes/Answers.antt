@@ -1,0 +1,7 @@
+use Rattle.fbl_moments.proofs.Common.{log_of}
+use Rattle.fbl_moments.specs.Clocks.{cut_of}
+use Rattle.fbl_moments.proofs.HistoryLaws.{precedes_iff}
+use Rattle.fbl_moments.proofs.history.History.precedes.Goals as goal
+
+pub returns : goal.returns
+returns c = precedes_iff (log_of c.args.self.now) c.args.source c.args.number c.args.member c.args.count c.count.result (cut_of c.clock.result) c.clock.ensures c.count.ensures

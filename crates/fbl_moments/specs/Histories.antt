@@ -1,0 +1,15 @@
+-- What a history answers of the entries of a run.
+use Rattle.std.specs.Prelude.{ℕ, ◌<◌}
+use Rattle.fbl_base.specs.declared.trace.Determinant.{Determinant}
+use Rattle.fbl_moments.specs.Entries.{Logs}
+use Rattle.fbl_moments.specs.HappenedBefore.{Position, Precedes, at}
+use Rattle.fbl_moments.specs.Moments.{Cut, IsLeastMoment, IsReceiptAt}
+
+-- it is its member's first entry that the other precedes
+pub record IsFirstAfter (logs : Logs) (i j : Position) : Type 0 where
+  pub precedes : Precedes logs i j
+  pub first : (k : ℕ) → k < j.number → ¬ (Precedes logs i (at j.member k))
+
+-- if the entry is a receipt, the cut is the least moment at which it has come
+abbrev pub IsLeastMomentOfReceipt : Logs → Position → Cut → Type 0
+IsLeastMomentOfReceipt logs j cut = (r : Determinant) → IsReceiptAt logs r j → IsLeastMoment logs j cut

@@ -1,0 +1,42 @@
+//! Why entries are not those of a run.
+
+use fbl_base::{Breach, DumpRefusal, Outsider};
+use thiserror::Error;
+
+/// Which rule a hold or a store breaks behind the entries before it. Of several the first in this order is named.
+#[derive(Clone, Copy, PartialEq, Eq, Debug, Error)]
+pub enum RecordRule {
+    /// There are at most 131,072 holds and stores.
+    #[error("there may be at most 131072 holds and stores")]
+    TooMany,
+    /// It is in the log of a member of the group.
+    #[error("{0}")]
+    Outside(Outsider),
+    /// The receipt that it names precedes it, by its member's own order and messages.
+    #[error("nobody there can know the receipt yet")]
+    NotBefore,
+}
+
+/// The first hold or store that breaks a rule: its place, from 0, among the entries, and the first rule that it breaks.
+#[derive(Clone, Copy, PartialEq, Eq, Debug, Error)]
+#[error("{rule}")]
+pub struct RecordFault {
+    /// Its place.
+    pub place: usize,
+    /// The rule.
+    pub rule: RecordRule,
+}
+
+/// Why entries are not those of a run.
+#[derive(Clone, Copy, PartialEq, Eq, Debug, Error)]
+pub enum RunFault {
+    /// The group's numbers, the strike set, or the sends and receipts are refused, for this. A place is that among the sends and receipts.
+    #[error("{1}")]
+    Trace(DumpRefusal, Breach),
+    /// A hold or a store is refused.
+    #[error("{0}")]
+    Record(RecordFault),
+    /// There is no memory for what the check keeps.
+    #[error("out of memory")]
+    Memory,
+}
