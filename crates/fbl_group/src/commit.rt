@@ -68,9 +68,9 @@ impl<B: Behaviour, A: Allocator + Copy> Group<B, A> {
         self.channels.front(from, to)
     }
 
-    /// Whether nothing but lack of memory refuses the commit.
+    /// Whether nothing but lack of memory refuses the commit. Nothing changes.
     #[tactic(auto, using(std::proofs::lemmas::Bool::Decides::nat_tests))]
-    fn plan_commit(&self, done: &Done<B>) -> Result<(), CommitRefusal>
+    pub fn plan_commit(&self, done: &Done<B>) -> Result<(), CommitRefusal>
         ensures planned { OnOk result (MayCommit B.next self.now done.now.ticket × IsPlanned B.next done.now.ticket.note self.now done.now.ticket.from done.now.ticket.to done.now.outcome) }
         ensures refused { IfErr result (RefusesCommit B.next self.now done.now.ticket) }
     {

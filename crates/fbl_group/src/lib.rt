@@ -11,6 +11,7 @@ mod dump;
 mod group;
 mod readers;
 mod rebuilt;
+mod record;
 mod recover;
 mod refusals;
 mod replay;
@@ -23,6 +24,7 @@ mod ticket;
 pub use answers::{Receipted, Recovered, Struck};
 pub use fbl_base::Ticket;
 pub use group::Group;
+pub use record::{CrashRecord, RecoveryRecord, TurnRecord};
 pub use refusals::{
     CheckpointRefusal, CommitRefusal, CrashRefusal, DeliverRefusal, DumpGroupRefusal,
     RecoverRefusal, StrikeRefusal, TakeRefusal,
