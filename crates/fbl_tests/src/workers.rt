@@ -5,5 +5,6 @@ mod fixtures;
 mod gates;
 mod memory;
 mod patience;
+mod recording;
 mod schedules;
 mod sharing;
