@@ -83,7 +83,9 @@ fn write_dump<T: Eprint, W: Write>(
     let length = text.len();
     let done = put(writer, text.as_bytes());
     if length > LONGEST && done.is_ok() {
-        let _ = eprintln!(rt; "the dump has {length} bytes, and an input may have {LONGEST}: it can't be read again");
+        let _ = eprintln!(rt;
+            "the dump has {length} bytes, and an input may have {LONGEST}: it can't be read again"
+        );
     }
     done
 }

@@ -181,7 +181,15 @@ impl Work for OverFiles<'_> {
         if dumps.is_empty() {
             return INPUT_FAULT;
         }
-        end_merged(rt, alloc, self.task, self.explain, dumps, self.names, writer)
+        end_merged(
+            rt,
+            alloc,
+            self.task,
+            self.explain,
+            dumps,
+            self.names,
+            writer,
+        )
     }
 }
 
@@ -232,13 +240,15 @@ where
         Some(name) => match File::open(rt, name) {
             Ok(file) => {
                 let reader = Named::new(file, Some(name));
-                end_at(rt, alloc, request.output, &mut OverReader { order, reader })
+                let mut work = OverReader { order, reader };
+                end_at(rt, alloc, request.output, &mut work)
             }
             Err(error) => fail_on(rt, RunFault::Read, name, error),
         },
         None => {
             let reader = Named::new(rt.reader(), None);
-            end_at(rt, alloc, request.output, &mut OverReader { order, reader })
+            let mut work = OverReader { order, reader };
+            end_at(rt, alloc, request.output, &mut work)
         }
     }
 }

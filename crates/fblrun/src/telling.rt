@@ -156,13 +156,13 @@ pub(crate) fn refuse_input<R: Eprint>(
 /// Prints the line of the fault of these dumps together, and answers its exit status. Where that is asked for the fault is explained
 /// in a line behind it. Where memory runs out for the line, that is the fault. The names are those of the dumps' files, or none
 /// where there is one dump.
-pub(crate) fn refuse_merge<R: Eprint>(
+pub(crate) fn refuse_merge<'a, R: Eprint>(
     rt: &R,
     alloc: Global,
     explain: bool,
-    fault: &MergeFault,
-    dumps: &[RawDump],
-    names: &[&str],
+    fault: &'a MergeFault,
+    dumps: &'a [RawDump],
+    names: &'a [&'a str],
 ) -> u8
     ensures { (result ≡ merge_status fault.now) ⊎ (result ≡ 4) }
 {
