@@ -137,77 +137,75 @@ fn settle<T: Eprint + Files>(rt: &T, beside: Beside<T::File>, name: &str, status
 }
 
 /// What is left to do once it is known where the text goes.
-trait Work {
-    /// Does it, writes the text, and answers the exit status.
-    fn end<T, W>(&mut self, rt: &T, alloc: Global, writer: &mut Named<'_, W>) -> u8
-    where
-        T: Eprint + Threads + Wait + Sync,
-        W: Write;
-}
-
-/// To obey the order over what a reader has.
 #[derive(Drop)]
-struct OverReader<'a, R> {
-    order: Order,
-    reader: Named<'a, R>,
+enum Work<'a, R> {
+    /// To obey the order over what a reader has.
+    Reader(Order, Named<'a, R>),
+    /// To do this with the dumps of several files together.
+    Merge(Merge<'a>),
 }
 
-impl<R: Read> Work for OverReader<'_, R> {
-    fn end<T, W>(&mut self, rt: &T, alloc: Global, writer: &mut Named<'_, W>) -> u8
-    where
-        T: Eprint + Threads + Wait + Sync,
-        W: Write,
-    {
-        obey(rt, alloc, self.order, &mut self.reader, writer)
-    }
-}
-
-/// To do this with the dumps of several files together.
+/// What is to be done with the dumps of several files together.
 #[derive(Drop)]
-struct OverFiles<'a> {
+struct Merge<'a> {
     task: DumpTask,
     explain: bool,
     dumps: Vec<RawDump>,
     names: &'a [&'a str],
 }
 
-impl Work for OverFiles<'_> {
-    fn end<T, W>(&mut self, rt: &T, alloc: Global, writer: &mut Named<'_, W>) -> u8
-    where
-        T: Eprint + Threads + Wait + Sync,
-        W: Write,
-    {
-        let dumps = self.dumps.as_slice();
-        if dumps.is_empty() {
-            return INPUT_FAULT;
+/// Merges the dumps, writes the text, and answers the exit status.
+fn end_merge<T, W>(rt: &T, alloc: Global, merge: &Merge<'_>, writer: &mut Named<'_, W>) -> u8
+where
+    T: Eprint,
+    W: Write,
+{
+    let dumps = merge.dumps.as_slice();
+    if dumps.is_empty() {
+        return INPUT_FAULT;
+    }
+    end_merged(
+        rt,
+        alloc,
+        merge.task,
+        merge.explain,
+        dumps,
+        merge.names,
+        writer,
+    )
+}
+
+/// Does the work, writes the text, and answers the exit status.
+fn end_work<T, R, W>(rt: &T, alloc: Global, work: Work<'_, R>, writer: &mut Named<'_, W>) -> u8
+where
+    T: Eprint + Threads + Wait + Sync,
+    R: Read + Drop,
+    W: Write,
+{
+    match work {
+        Work::Reader(order, reader) => {
+            let mut reader = reader;
+            obey(rt, alloc, order, &mut reader, writer)
         }
-        end_merged(
-            rt,
-            alloc,
-            self.task,
-            self.explain,
-            dumps,
-            self.names,
-            writer,
-        )
+        Work::Merge(merge) => end_merge(rt, alloc, &merge, writer),
     }
 }
 
 /// Does the work, and writes the text into the file with this name.
-fn end_into<T, K>(rt: &T, alloc: Global, name: &str, work: &mut K) -> u8
+fn end_into<T, R>(rt: &T, alloc: Global, name: &str, work: Work<'_, R>) -> u8
 where
     T: Eprint + Files + Threads + Wait + Sync,
-    K: Work,
+    R: Read + Drop,
 {
     match target_of(rt, alloc, name) {
         Ok(Target::Itself(file)) => {
             let mut writer = Named::new(file, Some(name));
-            work.end(rt, alloc, &mut writer)
+            end_work(rt, alloc, work, &mut writer)
         }
         Ok(Target::Beside(beside)) => {
             let Beside { file, own, place } = beside;
             let mut writer = Named::new(file, Some(name));
-            let status = work.end(rt, alloc, &mut writer);
+            let status = end_work(rt, alloc, work, &mut writer);
             let file = writer.stream;
             settle(rt, Beside { file, own, place }, name, status)
         }
@@ -216,16 +214,16 @@ where
 }
 
 /// Does the work, and writes the text where it is to go.
-fn end_at<T, K>(rt: &T, alloc: Global, output: Option<&str>, work: &mut K) -> u8
+fn end_at<T, R>(rt: &T, alloc: Global, output: Option<&str>, work: Work<'_, R>) -> u8
 where
     T: Eprint + Print + Files + Threads + Wait + Sync,
-    K: Work,
+    R: Read + Drop,
 {
     match file_name(output) {
         Some(name) => end_into(rt, alloc, name, work),
         None => {
             let mut writer = Named::new(io::writer(rt), None);
-            work.end(rt, alloc, &mut writer)
+            end_work(rt, alloc, work, &mut writer)
         }
     }
 }
@@ -240,15 +238,13 @@ where
         Some(name) => match File::open(rt, name) {
             Ok(file) => {
                 let reader = Named::new(file, Some(name));
-                let mut work = OverReader { order, reader };
-                end_at(rt, alloc, request.output, &mut work)
+                end_at(rt, alloc, request.output, Work::Reader(order, reader))
             }
             Err(error) => fail_on(rt, RunFault::Read, name, error),
         },
         None => {
             let reader = Named::new(rt.reader(), None);
-            let mut work = OverReader { order, reader };
-            end_at(rt, alloc, request.output, &mut work)
+            end_at(rt, alloc, request.output, Work::Reader(order, reader))
         }
     }
 }
@@ -318,13 +314,13 @@ where
     let explain = request.order.explain;
     match dumps_at(rt, alloc, explain, names) {
         Ok(dumps) => {
-            let mut work = OverFiles {
+            let work: Work<'_, T::File> = Work::Merge(Merge {
                 task,
                 explain,
                 dumps,
                 names,
-            };
-            end_at(rt, alloc, request.output, &mut work)
+            });
+            end_at(rt, alloc, request.output, work)
         }
         Err(status) => status,
     }
