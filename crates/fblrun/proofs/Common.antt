@@ -1,7 +1,7 @@
 -- The names that proofs of this crate take from outside: of the standard library, of the crates below, and of the definitions here.
 pub use Rattle.std.proofs.Common.{Bool, Err, IfErr, IfSome, List, None, Ok, Option, Result, Some, [], ap, arith, codes, decimal, drop, false, map, not}
 pub use Rattle.std.proofs.Common.{option_map, refl, rules, option_and_then, string_bytes, subst, suc, sym, true, unwrap_or, zero, ℕ, ◌&&◌, ◌+◌, ◌<◌, ◌||◌}
-pub use Rattle.std.proofs.Common.{◌∙◌, ◌∷◌, ◌≡◌, ◌++◌}
+pub use Rattle.std.proofs.Common.{◌∙◌, ◌∷◌, ◌≡◌, ◌++◌, ◌⊎◌, inl, inr}
 pub use Rattle.std.proofs.lemmas.Fmt.{decimal_digit, parse-decimal}
 pub use Rattle.std.specs.Borrow.{Bor}
 pub use Rattle.std.specs.Box.{box_value}
@@ -9,11 +9,11 @@ pub use Rattle.std.specs.List.{list_any}
 pub use Rattle.std.specs.Prelude.{Box, pos}
 pub use Rattle.std.specs.Result.{IsErrAnd}
 pub use Rattle.std.specs.Str.Parse.{ExplainsUnsignedError, HasUnsignedDigitsIfOk, ParsesUnsigned}
-pub use Rattle.clap.proofs.WalkLemmas.{first_value-rows, one_text-rows}
+pub use Rattle.clap.proofs.WalkLemmas.{first_value-rows, one_text-rows, raw_values-rows}
 pub use Rattle.clap.specs.Simple.{built, entered, is_simple, names_of}
 pub use Rattle.clap.specs.Takes.{built_takes, takes}
 pub use Rattle.clap.specs.Walk.{nothing_held, stop_after}
-pub use Rattle.clap.specs.Words.{App, HasMatchesOf, ReadsOne, Row, Rule, Text, first_of, found_of, kind_of, new_rule, one_of, rule_of, subcommand_name_of}
+pub use Rattle.clap.specs.Words.{App, HasMatchesOf, ReadsOne, Row, Rule, Text, all_of, first_of, found_of, kind_of, new_rule, one_of, rule_of, subcommand_name_of}
 pub use Rattle.clap.specs.Words.{subcommand_of, subcommand_rows, subcommand_rows_of}
 pub use Rattle.clap.specs.declared.builder.ArgAction.TheVariants.{Set}
 pub use Rattle.clap.specs.declared.error.Error.{Error}
@@ -26,7 +26,7 @@ pub use Rattle.fbl_base.specs.Configs.{WorkersAllowed}
 pub use Rattle.fbl_play.specs.Steps.{is_refusal}
 pub use Rattle.fbl_play.specs.declared.answer.Answer.{Answer}
 pub use Rattle.fbl_pictures.specs.HistoryPictures.{history_picture}
-pub use Rattle.fblrun.specs.CommandLines.{IsRefusedFor, IsRequestOf, Names, given_in, IsCommandLine, IsOrderAt, flag_text, is_play, is_show, order_for}
+pub use Rattle.fblrun.specs.CommandLines.{AreNames, IsRefusedFor, IsRequestOf, Names, all_given_in, given_in, is_merge, merge_line, texts_in, IsCommandLine, IsOrderAt, flag_text, is_play, is_show, order_for}
 pub use Rattle.fblrun.specs.CommandLines.{program, with_explain, with_strict, IsRequestAt, audit_line, check_line, draw_line, is_audit, is_check, is_draw}
 pub use Rattle.fblrun.specs.CommandLines.{is_show_workers, is_workers, play_line, show_line}
 pub use Rattle.fblrun.specs.Statuses.{status_after}
@@ -35,9 +35,11 @@ pub use Rattle.fblrun.specs.declared.command_line.Misuse.{Misuse}
 pub use Rattle.fblrun.specs.declared.command_line.Misuse.TheVariants.{Words}
 pub use Rattle.fblrun.specs.declared.command_line.Request.{Request}
 pub use Rattle.fbl_texts.specs.Dumps.{IsDumpFault, IsDumpOf}
+pub use Rattle.fbl_base.specs.Audit.{parts_of, Parts}
+pub use Rattle.fbl_base.specs.declared.raw_dump.RawDump.{RawDump}
+pub use Rattle.fbl_input.proofs.Outputs.{keeps_itself, puts_as, puts_text}
 pub use Rattle.fbl_input.proofs.Inputs.{over_fault, over_input}
-pub use Rattle.fbl_input.proofs.Outputs.{puts_as, puts_text}
-pub use Rattle.fbl_input.specs.Faults.{PutsOut, run_result}
+pub use Rattle.fbl_input.specs.Faults.{OverInput, PutsOut, run_result}
 pub use Rattle.fbl_input.specs.declared.fault.RunFault.{RunFault}
 pub use Rattle.fbl_input.specs.declared.output.OutputFault.{OutputFault}
 pub use Rattle.fbl_law.specs.Groups.{GroupRecord}
@@ -46,12 +48,15 @@ pub use Rattle.fbl_play.proofs.Moments.{unobserved}
 pub use Rattle.fbl_play.specs.Transcripts.{Transcript, history, text}
 pub use Rattle.fbl_texts.specs.Scripts.{IsScriptFault, IsScriptOf, Outline, behaviour_word, outline}
 pub use Rattle.fbl_texts.specs.declared.script.Command.{Command}
-pub use Rattle.fblrun.specs.Orders.{DoesScript, DoesTask, IsDumpAnswer, IsShown, PlaysWell}
-pub use Rattle.fbl_base.specs.Audit.{Parts}
+pub use Rattle.fblrun.specs.Merging.{IsMergeOf, RefusesMerge, merge_status}
+pub use Rattle.fblrun.specs.Orders.{DoesScript, EndsDump, EndsMerged, EndsTask, IsDumpAnswer, IsShown, PlaysWell}
+pub use Rattle.fblrun.specs.declared.merging.MergeFault.{MergeFault}
+pub use Rattle.fblrun.specs.declared.DumpTask.{DumpTask}
 pub use Rattle.fbl_pictures.specs.DumpPictures.{IsPicture}
 pub use Rattle.fbl_texts.specs.Auditing.{IsAuditText, IsChecked}
+pub use Rattle.fbl_texts.specs.DumpLines.{dump_line}
 pub use Rattle.fbl_texts.specs.declared.auditing.Verdict.{Verdict}
 pub use Rattle.fbl_texts.specs.declared.auditing.Verdict.TheVariants.{Safe, Unsafe}
-pub use Rattle.fblrun.specs.declared.DumpTask.TheVariants.{Audit, Check, Draw}
+pub use Rattle.fblrun.specs.declared.DumpTask.TheVariants.{Audit, Check, Draw, Write}
 pub use Rattle.std.proofs.lemmas.Option.{IfSome_then}
 pub use Rattle.fbl_input.specs.Misfits.{run_fault}

@@ -1,5 +1,8 @@
 -- The exit status of what was done, and whether a play was refused something.
 use Rattle.fbl_base.specs.declared.trace.Note.{Note}
+use Rattle.fbl_order.specs.declared.parts.PartsFault.TheVariants as parts
+use Rattle.fblrun.specs.declared.merging.MergeFault.TheVariants as faults
+use Rattle.fblrun.proofs.Common.{DumpTask, EndsMerged, MergeFault, RawDump, RefusesMerge, inl, inr, keeps_itself, merge_status, refl, ◌⊎◌}
 use Rattle.fblrun.proofs.Common.{◌≡◌, ℕ, ◌||◌, ◌&&◌, not, Bool, false, List, [], ◌∷◌, Option, Some, None, Result, Ok, Err, IfSome, arith, true, IsErrAnd}
 use Rattle.fblrun.proofs.Common.{OutputFault, Parts, PutsOut, puts_as, IsChecked, IsDumpAnswer, Verdict, Safe, Unsafe, Check, ap, ◌∙◌, list_any, or_false}
 use Rattle.fblrun.proofs.Common.{RunFault, Answer, is_refusal, Command, GroupRecord, Observes, PlaysScript, Ran, Transcript, Outline, PlaysWell, next_of}
@@ -24,6 +27,12 @@ is_safe Unsafe = false
 pub check_answer : (dump : Parts) (verdict : Verdict) (told : List ℕ) → IsChecked dump verdict told → IsDumpAnswer Check dump (is_safe verdict) told
 check_answer dump Safe told is = is
 check_answer dump Unsafe told is = is
+
+-- what several dumps are together is refused, whether for the fault or for want of memory to tell it
+pub merge_refused : {A : Type 0} (task : DumpTask) (dumps : List (RawDump A)) (known : Option (List ℕ)) (fault : MergeFault) (status : ℕ) → RefusesMerge dumps fault
+    → (status ≡ merge_status fault) ⊎ (status ≡ 4) → EndsMerged task dumps known known status
+merge_refused task dumps known fault status refuses (inl is) = inr (fault, refuses, keeps_itself known, is)
+merge_refused task dumps known fault status refuses (inr is) = inr (faults.Parts parts.Memory, inl refl, keeps_itself known, is)
 
 -- an observer that keeps whether some command was refused
 module _ {O : Type 0} (has : O → Bool) where

@@ -1,8 +1,8 @@
 -- What the parser of command lines makes of the program's command lines.
 use Rattle.fblrun.proofs.Common.{◌≡◌, ℕ, zero, suc, ◌+◌, ◌<◌, ◌&&◌, Bool, true, false, List, [], ◌∷◌, ◌++◌, Option, Some, None, option_map, Result, Ok, Err}
 use Rattle.fblrun.proofs.Common.{IfErr, refl, sym, ap, ◌∙◌, arith, codes, decimal, drop, subst, unwrap_or, decimal_digit, parse-decimal, Box, box_value}
-use Rattle.fblrun.proofs.Common.{IsErrAnd, ParsesUnsigned, built, entered, is_simple, Bor, Misuse, Words, IsRefusedFor, Names, Request, IsRequestAt}
-use Rattle.fblrun.proofs.Common.{IsRequestOf, given_in, first_of, option_and_then, subcommand_of, names_of, built_takes, takes, nothing_held, stop_after, App}
+use Rattle.fblrun.proofs.Common.{IsErrAnd, ParsesUnsigned, built, entered, is_simple, Bor, Misuse, Words, AreNames, IsRefusedFor, Names, Request, IsRequestAt}
+use Rattle.fblrun.proofs.Common.{IsRequestOf, all_given_in, all_of, is_merge, merge_line, given_in, map, texts_in, first_of, option_and_then, subcommand_of, names_of, built_takes, takes, nothing_held, stop_after, App}
 use Rattle.fblrun.proofs.Common.{HasMatchesOf, ReadsOne, Row, Text, kind_of, one_of, subcommand_name_of, subcommand_rows, subcommand_rows_of, Error}
 use Rattle.fblrun.proofs.Common.{OutOfMemory, ArgMatches, out-ArgMatches, out-SubCommand, SubCommand, WorkersAllowed, Order, IsCommandLine, is_audit}
 use Rattle.fblrun.proofs.Common.{is_check, is_draw, is_play, is_show, is_show_workers, is_workers, IsOrderAt, audit_line, check_line, draw_line, flag_text}
@@ -13,13 +13,13 @@ use Rattle.clap.proofs.OnLiterals.{clap_on_literals}
 abbrev named : List Text → Option (Text × List Row)
 named line = entered (built program) (stop_after (built program).top.rules (names_of (built program)) line)
 
--- its name, the texts of the number of workers and of the two flags, and the names of the two files
+-- its name, the texts of the number of workers and of the two flags, the names of the files that are read, and that of the one written
 abbrev Asked : Type 0
-Asked = Text × Option Text × Option Text × Option Text × Option Text × Option Text
+Asked = Text × Option Text × Option Text × Option Text × Option (List Text) × Option Text
 
 abbrev asked : Option (Text × List Row) → Option Asked
 asked found =
-    option_map (λ p. (p.0, one_of (codes "workers") p.1, one_of (codes "strict") p.1, one_of (codes "explain") p.1, first_of (codes "input") p.1, first_of (codes "output") p.1)) found
+    option_map (λ p. (p.0, one_of (codes "workers") p.1, one_of (codes "strict") p.1, one_of (codes "explain") p.1, all_of (codes "input") p.1, first_of (codes "output") p.1)) found
 
 -- the words are taken
 abbrev IsTaken : List Text → Type 0
@@ -75,6 +75,7 @@ workers_gives o e n is = subst (WordGives o e) (sym (decimal_digit n (omega (ari
 
 -- what a command line asks for
 abbrev asked_for : {words : List Text} → IsCommandLine words → Asked
+asked_for (is_merge line) = (codes "merge", None, None, Some (flag_text line.0), None, None)
 asked_for (is_audit line) = (codes "audit", None, None, Some (flag_text line.0), None, None)
 asked_for (is_check line) = (codes "check", None, None, Some (flag_text line.0), None, None)
 asked_for (is_draw line) = (codes "draw", None, None, Some (flag_text line.0), None, None)
@@ -86,6 +87,7 @@ asked_for (is_show_workers n count line) = (codes "show", Some (decimal n), None
 -- its words are taken, and ask for this
 line_gives : (words : List Text) (line : IsCommandLine words) → (asked (named (drop 1 words)) ≡ Some (asked_for line)) × IsTaken (drop 1 words)
 unfolding clap_on_literals
+line_gives words (is_merge line) = rw line.1 (elim line.0 as (Gives merge_line (codes "merge") None None) [ true ↦ (refl, refl) | false ↦ (refl, refl) ])
 line_gives words (is_audit line) = rw line.1 (elim line.0 as (Gives audit_line (codes "audit") None None) [ true ↦ (refl, refl) | false ↦ (refl, refl) ])
 line_gives words (is_check line) = rw line.1 (elim line.0 as (Gives check_line (codes "check") None None) [ true ↦ (refl, refl) | false ↦ (refl, refl) ])
 line_gives words (is_draw line) = rw line.1 (elim line.0 as (Gives draw_line (codes "draw") None None) [ true ↦ (refl, refl) | false ↦ (refl, refl) ])
@@ -124,7 +126,7 @@ record IsFound (name : Text) (rows : List Row) (x : Asked) : Type 0 where
   pub workers : one_of (codes "workers") rows ≡ x.1
   pub strict : one_of (codes "strict") rows ≡ x.2
   pub explain : one_of (codes "explain") rows ≡ x.3
-  pub input : first_of (codes "input") rows ≡ x.4
+  pub input : all_of (codes "input") rows ≡ x.4
   pub output : first_of (codes "output") rows ≡ x.5
 
 found_asked : (o : Option (Text × List Row)) (name : Text) (rows : List Row) (x : Asked) → option_map (λ p. p.0) o ≡ Some name → option_map (λ p. p.1) o ≡ Some rows → asked o ≡ Some x
@@ -135,6 +137,7 @@ found_asked (Some p) name rows x is found e = record { named = cc; workers = cc;
 -- what was found is what a command line asks for, so that the order at it is the line's
 order_found : {words : List Text} (name : Text) (rows : List Row) (order : Option Order) → IsOrderAt name rows order
     → (line : IsCommandLine words) → IsFound name rows (asked_for line) → order ≡ Some (order_for line)
+order_found name rows order at (is_merge line) f = at.merge line.0 f.named f.explain
 order_found name rows order at (is_audit line) f = at.audit line.0 f.named f.explain
 order_found name rows order at (is_check line) f = at.check line.0 f.named f.explain
 order_found name rows order at (is_draw line) f = at.draw line.0 f.named f.explain
@@ -145,7 +148,8 @@ order_found name rows order at (is_show_workers n count line) f = at.show line.0
 
 -- no file is named by one of the lines
 no_input : {words : List Text} (line : IsCommandLine words) (name : Text) (rows : List Row) → IsFound name rows (asked_for line)
-    → (first_of (codes "input") rows ≡ None) × (first_of (codes "output") rows ≡ None)
+    → (all_of (codes "input") rows ≡ None) × (first_of (codes "output") rows ≡ None)
+no_input (is_merge line) name rows f = (f.input, f.output)
 no_input (is_audit line) name rows f = (f.input, f.output)
 no_input (is_check line) name rows f = (f.input, f.output)
 no_input (is_draw line) name rows f = (f.input, f.output)
@@ -158,6 +162,17 @@ no_input (is_show_workers n count line) name rows f = (f.input, f.output)
 not_named : (name : Option (Bor Text)) (text : Option Text) → Names name text → text ≡ None → name ≡ None
 not_named None text is none = refl
 not_named (Some x) text is none = absurd (cc)
+
+-- names that have no text are none
+none_named : (names : List (Bor Text)) (texts : Option (List Text)) → AreNames names (unwrap_or texts []) → texts ≡ None → names ≡ []
+none_named [] texts is none = refl
+none_named (x ∷ xs) texts is none = absurd (cc)
+
+-- the values of an argument, at the rows of the subcommand that was found
+all_found : (id : Text) (o : Option (Text × List Row)) (rows : List Row) → Some rows ≡ option_map (λ p. p.1) o
+    → texts_in id rows ≡ unwrap_or (option_and_then (λ found. all_of id found.1) o) []
+all_found id None rows is = absurd (cc)
+all_found id (Some p) rows is = ap (λ o. unwrap_or (option_and_then (all_of id) o) []) is
 
 -- the first value of an argument, at the rows of the subcommand that was found
 first_found : (id : Text) (o : Option (Text × List Row)) (rows : List Row) → Some rows ≡ option_map (λ p. p.1) o
@@ -181,6 +196,9 @@ module _ (a : App) (words : List Text) (m : ArgMatches) (is : a ≡ program) (ma
     first_given : (id : Text) → first_of id rows ≡ given_in id words
     first_given id = first_found id (subcommand_rows_of m) rows has ∙ ap (option_and_then (λ found. first_of id found.1)) rows_are
 
+    all_given : (id : Text) → texts_in id rows ≡ all_given_in id words
+    all_given id = all_found id (subcommand_rows_of m) rows has ∙ ap (λ o. unwrap_or (option_and_then (λ found. all_of id found.1) o) []) rows_are
+
     -- the request is the one at its name and rows
     pub request_is : (request : Option Request) (r : Request) → request ≡ Some r → IsRequestAt name rows request → IsRequestOf words r
     request_is request r e at = record {
@@ -188,10 +206,10 @@ module _ (a : App) (words : List Text) (m : ArgMatches) (is : a ≡ program) (ma
           let o : option_map (λ (q : Request). q.order) request ≡ Some (order_for line) = order_found name rows _ at.order line (is_found line) in
           let s : Some r.order ≡ Some (order_for line) = ap (option_map (λ (q : Request). q.order)) (sym e) ∙ o in cc;
       none = λ line. (
-        not_named r.input _ (at.input r e) (no_input line name rows (is_found line)).0,
+        none_named r.inputs.items _ (at.inputs r e) (no_input line name rows (is_found line)).0,
         not_named r.output _ (at.output r e) (no_input line name rows (is_found line)).1,
       );
-      input = at.input r e ∙ first_given (codes "input");
+      inputs = at.inputs r e ∙ all_given (codes "input");
       output = at.output r e ∙ first_given (codes "output");
     }
 

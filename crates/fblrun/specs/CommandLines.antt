@@ -1,9 +1,9 @@
 -- The program's command lines, and the orders that they give.
-use Rattle.std.specs.Prelude.{◌≡◌, ℕ, ◌<◌, Bool, true, false, List, [], ◌∷◌, ◌++◌, Option, None, Some, codes, decimal, drop, option_and_then, option_map, pos}
+use Rattle.std.specs.Prelude.{◌≡◌, ℕ, ◌<◌, Bool, true, false, List, [], ◌∷◌, ◌++◌, Option, None, Some, codes, decimal, drop, map, option_and_then, option_map, pos, unwrap_or}
 use Rattle.std.specs.Borrow.{Bor}
 use Rattle.clap.specs.Simple.{on_top}
-use Rattle.clap.specs.Words.{App, Row, Rule, Text, first_of, kind_of, new_app, new_rule, one_of, subcommand_of, with_rule, with_subcommand}
-use Rattle.clap.specs.declared.builder.ArgAction.TheVariants.{Set, SetTrue}
+use Rattle.clap.specs.Words.{App, Row, Rule, Text, all_of, first_of, kind_of, new_app, new_rule, one_of, subcommand_of, with_rule, with_subcommand}
+use Rattle.clap.specs.declared.builder.ArgAction.TheVariants.{Append, Set, SetTrue}
 use Rattle.clap.specs.declared.builder.value_parser.ValueParser.TheVariants as parsers
 use Rattle.fbl_base.specs.Configs.{WorkersAllowed}
 use Rattle.clap.specs.declared.error.kind.ErrorKind.TheVariants.{OutOfMemory}
@@ -11,9 +11,9 @@ use Rattle.fblrun.specs.declared.Order.{Order}
 use Rattle.fblrun.specs.declared.command_line.Misuse.{Misuse}
 use Rattle.fblrun.specs.declared.command_line.Misuse.TheVariants.{Words, NoCommand}
 use Rattle.fblrun.specs.declared.command_line.Request.{Request}
-use Rattle.fblrun.specs.declared.DumpTask.TheVariants.{Audit, Check, Draw}
+use Rattle.fblrun.specs.declared.DumpTask.TheVariants.{Audit, Check, Draw, Write}
 use Rattle.fblrun.specs.declared.ScriptTask.TheVariants.{Play, Show}
-use Rattle.fblrun.specs.declared.Task.TheVariants.{Script, Dump}
+use Rattle.fblrun.specs.declared.Task.TheVariants.{Script, Dump, Merged}
 
 -- ---- what the parser of command lines is told
 
@@ -33,23 +33,27 @@ strict_rule = record (new_rule (codes "strict")) { long = Some (codes "strict");
 abbrev pub input_rule : Rule
 input_rule = record (new_rule (codes "input")) { action = Some Set; value_names = 1 }
 
+-- `FILE..`, words of their own, as many as are given
+abbrev pub inputs_rule : Rule
+inputs_rule = record (new_rule (codes "input")) { action = Some Append; value_names = 1 }
+
 -- `-o FILE` or `--output FILE`, which is given or not
 abbrev pub output_rule : Rule
 output_rule = record (new_rule (codes "output")) { short = Some 111; long = Some (codes "output"); action = Some Set; value_names = 1 }
 
--- what each subcommand has: the two files, and `--explain`
-abbrev pub with_shared : App → App
-with_shared app = with_rule (with_rule (with_rule app input_rule) output_rule) explain_rule
+-- what each subcommand has: what it reads, the file to write, and `--explain`
+abbrev pub with_shared : Rule → App → App
+with_shared read app = with_rule (with_rule (with_rule app read) output_rule) explain_rule
 
 abbrev pub play_app : App
-play_app = with_shared (with_rule (with_rule (new_app (codes "play")) workers_rule) strict_rule)
+play_app = with_shared input_rule (with_rule (with_rule (new_app (codes "play")) workers_rule) strict_rule)
 
 abbrev pub show_app : App
-show_app = with_shared (with_rule (new_app (codes "show")) workers_rule)
+show_app = with_shared input_rule (with_rule (new_app (codes "show")) workers_rule)
 
--- a subcommand of this name with no more
+-- a subcommand of this name that reads files, with no more
 abbrev pub shared_app : Text → App
-shared_app name = with_shared (new_app name)
+shared_app name = with_shared inputs_rule (new_app name)
 
 -- a program with a version, which asks for a subcommand
 abbrev pub top_app : App
@@ -59,13 +63,17 @@ top_app = on_top (λ s. record s { subcommand_required = true; has_version = tru
 abbrev pub with_reader : Text → App → App
 with_reader name app = with_subcommand app (shared_app name).top
 
--- the program with the subcommands `play`, `show`, `audit`, `check` and `draw`
+-- the program with the subcommands `play`, `show`, `merge`, `audit`, `check` and `draw`
 abbrev pub program : App
 program =
     with_reader (codes "draw")
-    (with_reader (codes "check") (with_reader (codes "audit") (with_subcommand (with_subcommand top_app play_app.top) show_app.top)))
+    (with_reader (codes "check")
+    (with_reader (codes "audit") (with_reader (codes "merge") (with_subcommand (with_subcommand top_app play_app.top) show_app.top))))
 
 -- ---- what it makes of the words
+
+abbrev pub merge_line : List Text
+merge_line = codes "merge" ∷ []
 
 abbrev pub audit_line : List Text
 audit_line = codes "audit" ∷ []
@@ -100,9 +108,10 @@ with_explain false line = line
 abbrev pub IsLine : List Text → List Text → Type 0
 IsLine words line = (explain : Bool) × (drop 1 words ≡ with_explain explain line)
 
--- the words, behind the program's name, are `audit`, `check`, `draw`, or `play` or `show`, with `--workers N` behind them or not, N
+-- the words, behind the program's name, are `merge`, `audit`, `check`, `draw`, or `play` or `show`, with `--workers N` behind them or not, N
 -- from 1 to 8; `--strict` may stand behind those of a play, and `--explain` behind all
 pub data IsCommandLine (words : List Text) : Type 0 where
+  is_merge : IsLine words merge_line → IsCommandLine words
   is_audit : IsLine words audit_line → IsCommandLine words
   is_check : IsLine words check_line → IsCommandLine words
   is_draw : IsLine words draw_line → IsCommandLine words
@@ -113,6 +122,7 @@ pub data IsCommandLine (words : List Text) : Type 0 where
 
 -- the order that they give: where no number of workers is said there are 2
 abbrev pub order_for : {words : List Text} → IsCommandLine words → Order
+order_for (is_merge line) = record { task = Merged Write; explain = line.0 }
 order_for (is_audit line) = record { task = Dump Audit; explain = line.0 }
 order_for (is_check line) = record { task = Dump Check; explain = line.0 }
 order_for (is_draw line) = record { task = Dump Draw; explain = line.0 }
@@ -129,16 +139,24 @@ IsOrderOf words order = (line : IsCommandLine words) → order ≡ order_for lin
 abbrev pub given_in : Text → List Text → Option Text
 given_in id words = option_and_then (λ found. first_of id found.1) (subcommand_of program words)
 
+-- the texts of an argument that may be given more than once, in their order
+abbrev pub all_given_in : Text → List Text → List Text
+all_given_in id words = unwrap_or (option_and_then (λ found. all_of id found.1) (subcommand_of program words)) []
+
 -- a name that is given or not is this text
 abbrev pub Names : Option (Bor Text) → Option Text → Type 0
 Names name text = option_map (λ s. s.now) name ≡ text
+
+-- the names are these texts
+abbrev pub AreNames : List (Bor Text) → List Text → Type 0
+AreNames names texts = map (λ s. s.now) names ≡ texts
 
 -- the request has the order of the words, if they are one of these lines, in which no file is named; and the names of the files
 -- are those that the words give
 pub record IsRequestOf (words : List Text) (request : Request) : Type 0 where
   pub order : IsOrderOf words request.order
-  pub none : IsCommandLine words → (request.input ≡ None) × (request.output ≡ None)
-  pub input : Names request.input (given_in (codes "input") words)
+  pub none : IsCommandLine words → (request.inputs.items ≡ []) × (request.output ≡ None)
+  pub inputs : AreNames request.inputs.items (all_given_in (codes "input") words)
   pub output : Names request.output (given_in (codes "output") words)
 
 -- why words are refused, if they are one of these lines: memory ran out
@@ -157,8 +175,13 @@ flag_text false = codes "false"
 abbrev pub IsFlagged : Text → Bool → List Row → Type 0
 IsFlagged name given rows = one_of name rows ≡ Some (flag_text given)
 
+-- the texts of an argument that may be given more than once
+abbrev pub texts_in : Text → List Row → List Text
+texts_in id rows = unwrap_or (all_of id rows) []
+
 -- the order is that of a subcommand of this name with these arguments
 pub record IsOrderAt (name : Text) (rows : List Row) (order : Option Order) : Type 0 where
+  pub merge : (explain : Bool) → name ≡ codes "merge" → IsFlagged (codes "explain") explain rows → order ≡ Some (record { task = Merged Write; explain = explain })
   pub audit : (explain : Bool) → name ≡ codes "audit" → IsFlagged (codes "explain") explain rows → order ≡ Some (record { task = Dump Audit; explain = explain })
   pub check : (explain : Bool) → name ≡ codes "check" → IsFlagged (codes "explain") explain rows → order ≡ Some (record { task = Dump Check; explain = explain })
   pub draw : (explain : Bool) → name ≡ codes "draw" → IsFlagged (codes "explain") explain rows → order ≡ Some (record { task = Dump Draw; explain = explain })
@@ -170,5 +193,5 @@ pub record IsOrderAt (name : Text) (rows : List Row) (order : Option Order) : Ty
 -- the request is that of a subcommand of this name with these arguments
 pub record IsRequestAt (name : Text) (rows : List Row) (request : Option Request) : Type 0 where
   pub order : IsOrderAt name rows (option_map (λ r. r.order) request)
-  pub input : (r : Request) → request ≡ Some r → Names r.input (first_of (codes "input") rows)
+  pub inputs : (r : Request) → request ≡ Some r → AreNames r.inputs.items (texts_in (codes "input") rows)
   pub output : (r : Request) → request ≡ Some r → Names r.output (first_of (codes "output") rows)

@@ -1,3 +1,4 @@
 pub mod Statuses
+pub mod Merging
 pub mod Orders
 pub mod CommandLines

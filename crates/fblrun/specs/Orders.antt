@@ -1,13 +1,18 @@
 -- What the program leaves in its writer, and its exit status, by the order that it is given.
-use Rattle.std.specs.Prelude.{◌≡◌, ℕ, ◌&&◌, not, Bool, true, false, List, Option, Some, None, Result, Ok, Err}
+use Rattle.std.specs.Prelude.{◌≡◌, ℕ, ◌&&◌, ◌⊎◌, not, Bool, true, false, List, [], ◌∷◌, Option, Some, None, Result, Ok, Err}
+use Rattle.std.specs.declared.alloc.Global.{Global}
+use Rattle.std.specs.Io.KnownBytes.{Keeps}
 use Rattle.std.specs.List.{list_any}
-use Rattle.fbl_base.specs.Audit.{Parts}
+use Rattle.fbl_base.specs.declared.raw_dump.RawDump.{RawDump}
+use Rattle.fbl_base.specs.Audit.{Parts, parts_of}
 use Rattle.fbl_pictures.specs.DumpPictures.{IsPicture}
 use Rattle.fbl_texts.specs.Auditing.{IsAuditText, IsChecked}
-use Rattle.fbl_texts.specs.Dumps.{IsDumpFault, IsDumpOf}
+use Rattle.fbl_texts.specs.DumpLines.{dump_line}
+use Rattle.fbl_texts.specs.Dumps.{IsDumpFault, IsDumpOf, parts_of_input}
+use Rattle.fbl_texts.specs.RawDumps.{IsFormFault}
 use Rattle.fbl_texts.specs.declared.auditing.Verdict.TheVariants.{Safe, Unsafe}
 use Rattle.fbl_history.specs.declared.column.Column.{Column}
-use Rattle.fbl_input.specs.Faults.{OverInput, PutsOut}
+use Rattle.fbl_input.specs.Faults.{OverInput, PutsOut, run_result}
 use Rattle.fbl_input.specs.declared.fault.RunFault.{RunFault}
 use Rattle.fbl_input.specs.declared.output.OutputFault.{OutputFault}
 use Rattle.fbl_play.specs.Plays.{PlaysUnobserved}
@@ -16,13 +21,15 @@ use Rattle.fbl_play.specs.Transcripts.{history, text}
 use Rattle.fbl_texts.specs.Scripts.{Outline, IsScriptFault, IsScriptOf, behaviour_word}
 use Rattle.fbl_pictures.specs.HistoryPictures.{history_picture}
 use Rattle.fblrun.specs.declared.DumpTask.{DumpTask}
-use Rattle.fblrun.specs.declared.DumpTask.TheVariants.{Audit, Check, Draw}
+use Rattle.fblrun.specs.declared.DumpTask.TheVariants.{Audit, Check, Draw, Write}
+use Rattle.fblrun.specs.declared.merging.MergeFault.{MergeFault}
 use Rattle.fblrun.specs.declared.Order.{Order}
 use Rattle.fblrun.specs.declared.ScriptTask.{ScriptTask}
 use Rattle.fblrun.specs.declared.ScriptTask.TheVariants.{Play, Show}
 use Rattle.fblrun.specs.declared.Task.{Task}
-use Rattle.fblrun.specs.declared.Task.TheVariants.{Script, Dump}
-use Rattle.fblrun.specs.Statuses.{status_after}
+use Rattle.fblrun.specs.declared.Task.TheVariants.{Script, Dump, Merged}
+use Rattle.fblrun.specs.Merging.{IsMergeOf, RefusesMerge, merge_status}
+use Rattle.fblrun.specs.Statuses.{fault_status, status_after}
 
 -- a play, after which all is well but where it is strict and some command was refused
 abbrev pub PlaysWell : ℕ → Bool → Outline → Option (List ℕ) → Option (List ℕ) → Result Bool OutputFault → Type 0
@@ -46,12 +53,30 @@ IsDumpAnswer Audit dump is_well told = IsAuditText dump told × (is_well ≡ tru
 IsDumpAnswer Check dump true told = IsChecked dump Safe told
 IsDumpAnswer Check dump false told = IsChecked dump Unsafe told
 IsDumpAnswer Draw dump is_well told = IsPicture dump told × (is_well ≡ true)
+IsDumpAnswer Write dump is_well told = (told ≡ dump_line dump) × (is_well ≡ true)
 
--- what is left in the writer where the task is done over this input
-abbrev pub DoesTask : Task → List ℕ → Option (List ℕ) → Option (List ℕ) → Result Bool RunFault → Type 0
-DoesTask (Script task) input before after = OverInput (IsScriptOf input) (IsScriptFault input) (λ s. DoesScript task s before after) before after
-DoesTask (Dump task) input before after = OverInput (IsDumpOf input) (IsDumpFault input) (λ dump. PutsOut (IsDumpAnswer task dump) before after) before after
+-- what is left in the writer, and the exit status, where this is done with the dump
+abbrev pub EndsDump : DumpTask → Parts → Option (List ℕ) → Option (List ℕ) → ℕ → Type 0
+EndsDump task dump before after status =
+    (done : Result Bool OutputFault) × PutsOut (IsDumpAnswer task dump) before after done × (status ≡ status_after (run_result done))
+
+-- what is left in the writer, and the exit status, where this is done with what several dumps are together, if they are a dump
+abbrev pub EndsMerged : {A : Type 0} → DumpTask → List (RawDump A) → Option (List ℕ) → Option (List ℕ) → ℕ → Type 0
+EndsMerged task dumps before after status =
+    ((dump : Parts) × IsMergeOf dumps dump × EndsDump task dump before after status)
+    ⊎ ((fault : MergeFault) × RefusesMerge dumps fault × Keeps before after × (status ≡ merge_status fault))
+
+-- what is left in the writer, and the exit status, where the task is done over this input
+abbrev pub EndsTask : Task → List ℕ → Option (List ℕ) → Option (List ℕ) → ℕ → Type 0
+EndsTask (Script task) input before after status =
+    (done : Result Bool RunFault) × OverInput (IsScriptOf input) (IsScriptFault input) (λ s. DoesScript task s before after) before after done × (status ≡ status_after done)
+EndsTask (Dump task) input before after status =
+    ((dump : Parts) × IsDumpOf input dump × EndsDump task dump before after status)
+    ⊎ ((fault : RunFault) × IsDumpFault input fault × Keeps before after × (status ≡ fault_status fault))
+EndsTask (Merged task) input before after status =
+    ((dump : RawDump Global) × (parts_of_input input ≡ Ok (parts_of dump)) × EndsMerged task (dump ∷ []) before after status)
+    ⊎ ((fault : RunFault) × IsFormFault input fault × Keeps before after × (status ≡ fault_status fault))
 
 -- what is left in the writer, and the exit status, where the order is obeyed over an input, whether it is to explain or not
 abbrev pub Obeys : Order → List ℕ → Option (List ℕ) → Option (List ℕ) → ℕ → Type 0
-Obeys order input before after status = (done : Result Bool RunFault) × DoesTask order.task input before after done × (status ≡ status_after done)
+Obeys order input before after status = EndsTask order.task input before after status

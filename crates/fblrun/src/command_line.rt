@@ -1,9 +1,9 @@
 //! The command line.
 
 ghost use Rattle.std.specs.Prelude.{◌≡◌, ℕ, ◌<◌, Bool, map, false, Some, IfOk, IfErr, codes, decimal, option_map, string_bytes};
-ghost use Rattle.clap.specs.Words.{app_of, first_of, found_of, one_of, rows_of, rule_of, with_subcommand};
+ghost use Rattle.clap.specs.Words.{Rule, app_of, first_of, found_of, one_of, rows_of, rule_of, with_subcommand};
 ghost use Rattle.clap.specs.declared.builder.command.Command.TheViews.{out-Command as fields_of};
-ghost use Rattle.fblrun.specs.CommandLines.{IsCommandLine, IsFlagged, IsOrderAt, IsRefusedFor, IsRequestAt, IsRequestOf, explain_rule, input_rule, output_rule, play_app, program, shared_app, show_app, strict_rule, top_app, with_shared, workers_rule};
+ghost use Rattle.fblrun.specs.CommandLines.{AreNames, IsCommandLine, IsFlagged, IsOrderAt, IsRefusedFor, IsRequestAt, IsRequestOf, explain_rule, input_rule, inputs_rule, output_rule, play_app, program, shared_app, show_app, strict_rule, texts_in, top_app, with_shared, workers_rule};
 
 use crate::{DumpTask, Order, ScriptTask, Task};
 use clap::{Arg, ArgAction, ArgMatches, Command};
@@ -11,7 +11,7 @@ use std::alloc::{AllocError, Global};
 
 /// What the program is for.
 const PROGRAM: &str =
-    "Causal message logging with proved recovery: plays and shows scripts of a group, and audits, checks and draws recorded traces.";
+    "Causal message logging with proved recovery: plays and shows scripts of a group, and merges, audits, checks and draws recorded traces.";
 
 /// The exit statuses, and where a fault is told.
 const STATUSES: &str = "\
@@ -39,6 +39,18 @@ A first one: member 1 gets a message, is struck and recovers.
 
   echo '{"version":2,"members":3,"f":1,"behaviour":"relay","start":[[0,1,5,1]],
    "commands":[["deliver",1,0],["deliver",2,1],["strike",[1]],["recover"]]}' | fblrun show -o run.svg"#;
+
+/// What `merge` does.
+const MERGE: &str =
+    "Merges dumps, which are JSON, such as each member's own log, and prints one dump of all their events, in an order";
+
+/// How a run is recorded by its members.
+const MERGE_EXAMPLE: &str =
+    r#"Each file is a dump with the events of some members, in each member's own order. The files agree on members and f; who
+holds what, and who is struck, is taken from all of them. Which order is found makes no difference to an audit or a check, which
+merge several files themselves:
+
+  fblrun check member-0.json member-1.json member-2.json"#;
 
 /// What `audit` does.
 const AUDIT: &str =
@@ -77,7 +89,8 @@ each message; what a mark is stands in its tooltip. A first one, with a lost rec
 const SCRIPT: &str = "The file with the script; where none is named, or -, it is standard input";
 
 /// What the input of an audit is.
-const DUMP: &str = "The file with the dump; where none is named, or -, it is standard input";
+const DUMP: &str =
+    "The file with the dump; several are merged first; where none is named, or -, it is standard input";
 
 /// What `-o` does.
 const OUTPUT: &str =
@@ -95,7 +108,7 @@ const EXPLAIN_AUDIT: &str =
 const EXPLAIN_CHECK: &str =
     "Tells on standard error what stands and what is wanted where the dump has a fault, and of each unsafe receipt who holds it, and a path to each orphan";
 
-/// What `--explain` does where a dump is drawn.
+/// What `--explain` does where a dump is drawn, or several are merged.
 const EXPLAIN_DRAW: &str =
     "Tells on standard error what stands and what is wanted where the dump has a fault";
 
@@ -103,11 +116,11 @@ const EXPLAIN_DRAW: &str =
 const VERSION: &str = "1.0.0";
 
 /// What the words of a command line ask for.
-#[derive(Clone, Copy, Debug)]
+#[derive(Drop, Debug)]
 pub(crate) struct Request<'a> {
     pub(crate) order: Order,
-    /// The name of the file with the input, if one is given.
-    pub(crate) input: Option<&'a str>,
+    /// The names of the files that are read, in order. A script is in one.
+    pub(crate) inputs: Vec<&'a str>,
     /// The name of the file to write, if one is given.
     pub(crate) output: Option<&'a str>,
 }
@@ -188,6 +201,17 @@ fn input<'a>(alloc: Global, help: &'a str) -> Arg<'a>
         .help(help)
 }
 
+/// The files with the input, and what they have.
+fn inputs<'a>(alloc: Global, help: &'a str) -> Arg<'a>
+    ensures rule { rule_of result ≡ inputs_rule }
+    ensures local { result.global ≡ false }
+{
+    Arg::new(alloc, "input")
+        .action(ArgAction::Append)
+        .value_name("FILE")
+        .help(help)
+}
+
 /// The option `-o`, the file to write.
 fn output<'a>(alloc: Global) -> Arg<'a>
     ensures rule { rule_of result ≡ output_rule }
@@ -201,19 +225,20 @@ fn output<'a>(alloc: Global) -> Arg<'a>
         .help(OUTPUT)
 }
 
-/// The program with this subcommand, which has what each has too: the input, which is this, the file to write, and the flag
+/// The program with this subcommand, which has what each has too: what is read, which is this, the file to write, and the flag
 /// `--explain`, which does this.
 fn with_shared_args<'a>(
     alloc: Global,
     command: Command<'a>,
     sub: Command<'a>,
-    read: &'a str,
+    read: Arg<'a>,
     explained: &'a str,
 ) -> Result<Command<'a>, AllocError>
-    requires { (fields_of sub).has_globals ≡ false }
-    ensures { IfOk result (λ c. app_of c ≡ with_subcommand (app_of command.entry) (with_shared (app_of sub.entry)).top) }
+    requires globals { (fields_of sub).has_globals ≡ false }
+    requires local { read.global ≡ false }
+    ensures { IfOk result (λ c. app_of c ≡ with_subcommand (app_of command.entry) (with_shared (rule_of read.entry) (app_of sub.entry)).top) }
 {
-    let sub = sub.arg(input(alloc, read))?;
+    let sub = sub.arg(read)?;
     let sub = sub.arg(output(alloc))?;
     let sub = sub.arg(explain(alloc, explained))?;
     command.subcommand(sub)
@@ -228,7 +253,7 @@ fn with_play<'a>(alloc: Global, command: Command<'a>) -> Result<Command<'a>, All
         .after_help(PLAY_EXAMPLE);
     let play = play.arg(workers(alloc))?;
     let play = play.arg(strict(alloc))?;
-    with_shared_args(alloc, command, play, SCRIPT, EXPLAIN_PLAY)
+    with_shared_args(alloc, command, play, input(alloc, SCRIPT), EXPLAIN_PLAY)
 }
 
 /// The program with the subcommand `show`, which has a number of workers.
@@ -239,10 +264,10 @@ fn with_show<'a>(alloc: Global, command: Command<'a>) -> Result<Command<'a>, All
         .about(SHOW)
         .after_help(SHOW_EXAMPLE);
     let show = show.arg(workers(alloc))?;
-    with_shared_args(alloc, command, show, SCRIPT, EXPLAIN_PLAY)
+    with_shared_args(alloc, command, show, input(alloc, SCRIPT), EXPLAIN_PLAY)
 }
 
-/// The program with a subcommand of this name that reads a dump.
+/// The program with a subcommand of this name that reads dumps.
 fn with_reader<'a>(
     alloc: Global,
     command: Command<'a>,
@@ -254,7 +279,7 @@ fn with_reader<'a>(
     ensures { IfOk result (λ c. app_of c ≡ with_subcommand (app_of command.entry) (shared_app name.now).top) }
 {
     let reader = Command::new(alloc, name).about(about).after_help(example);
-    with_shared_args(alloc, command, reader, DUMP, explained)
+    with_shared_args(alloc, command, reader, inputs(alloc, DUMP), explained)
 }
 
 /// The program above its subcommands.
@@ -268,13 +293,15 @@ fn top<'a>(alloc: Global) -> Command<'a>
         .subcommand_required(true)
 }
 
-/// What the program takes: `play`, with a number of workers, strict or not, `show`, with a number of workers, `audit`, `check` or
-/// `draw`, each with or without a file to read, one to write and `--explain`.
+/// What the program takes: `play`, with a number of workers, strict or not, `show`, with a number of workers, both with or without
+/// a file to read, `merge`, `audit`, `check` or `draw`, with any number of them, each with or without a file to write and
+/// `--explain`.
 fn command_line<'a>(alloc: Global) -> Result<Command<'a>, AllocError>
     ensures { IfOk result (λ c. app_of c ≡ program) }
 {
     let command = with_play(alloc, top(alloc))?;
     let command = with_show(alloc, command)?;
+    let command = with_reader(alloc, command, "merge", MERGE, MERGE_EXAMPLE, EXPLAIN_DRAW)?;
     let command = with_reader(alloc, command, "audit", AUDIT, AUDIT_EXAMPLE, EXPLAIN_AUDIT)?;
     let command = with_reader(alloc, command, "check", CHECK, CHECK_EXAMPLE, EXPLAIN_CHECK)?;
     with_reader(alloc, command, "draw", DRAW, DRAW_EXAMPLE, EXPLAIN_DRAW)
@@ -301,6 +328,19 @@ fn file_in<'a>(found: &ArgMatches<'a>, name: &str) -> Option<&'a str>
     found.get_str(name)
 }
 
+/// The names of the files that are given, in order.
+fn files_in<'a>(
+    alloc: Global,
+    found: &ArgMatches<'a>,
+    name: &str,
+) -> Result<Vec<&'a str>, AllocError>
+    ensures { IfOk result (λ v. AreNames v.items (texts_in name.now (rows_of (found_of found.now)))) }
+{
+    let mut files = Vec::new(alloc);
+    files.extend_from_slice(found.get_raw(name).unwrap_or(&[]))?;
+    Ok(files)
+}
+
 /// The order of a subcommand, if there is one of this name.
 fn order_at(name: &str, found: &ArgMatches) -> Option<Order>
     ensures { IsOrderAt name.now (rows_of (found_of found.now)) result }
@@ -314,6 +354,7 @@ fn order_at(name: &str, found: &ArgMatches) -> Option<Order>
         "show" => Task::Script(ScriptTask::Show {
             workers: workers_in(found),
         }),
+        "merge" => Task::Merged(DumpTask::Write),
         "audit" => Task::Dump(DumpTask::Audit),
         "check" => Task::Dump(DumpTask::Check),
         "draw" => Task::Dump(DumpTask::Draw),
@@ -323,15 +364,21 @@ fn order_at(name: &str, found: &ArgMatches) -> Option<Order>
 }
 
 /// What a subcommand asks for, if there is one of this name.
-fn request_at<'a>(name: &str, found: &ArgMatches<'a>) -> Option<Request<'a>>
-    ensures { IsRequestAt name.now (rows_of (found_of found.now)) result }
+fn request_at<'a>(
+    alloc: Global,
+    name: &str,
+    found: &ArgMatches<'a>,
+) -> Result<Option<Request<'a>>, AllocError>
+    ensures { IfOk result (IsRequestAt name.now (rows_of (found_of found.now))) }
 {
-    let order = order_at(name, found)?;
-    Some(Request {
+    let Some(order) = order_at(name, found) else {
+        return Ok(None);
+    };
+    Ok(Some(Request {
         order,
-        input: file_in(found, "input"),
+        inputs: files_in(alloc, found, "input")?,
         output: file_in(found, "output"),
-    })
+    }))
 }
 
 /// What the words of the command line ask for, the program's name first.
@@ -342,7 +389,7 @@ pub(crate) fn request_of(alloc: Global, words: &[String]) -> Result<Request<'_>,
     let command = command_line(alloc)?;
     let matches = command.try_get_matches_from(words)?;
     match matches.subcommand() {
-        Some((name, found)) => match request_at(name, found) {
+        Some((name, found)) => match request_at(alloc, name, found)? {
             Some(request) => Ok(request),
             None => Err(Misuse::NoCommand),
         },

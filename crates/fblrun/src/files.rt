@@ -1,16 +1,19 @@
-//! Files by name: the one that is read, and the one that is written. The second gets a whole text or stays as it was: the
+//! Files by name: those that are read, and the one that is written. The last gets a whole text or stays as it was: the
 //! text goes to a new file beside it, which takes its name once the text is whole.
 
 ghost use Rattle.std.specs.Prelude.{◌≡◌, ◌<◌};
 
 use crate::command_line::Request;
-use crate::doing::obey;
+use crate::doing::{end_merged, obey};
 use crate::streams::{Failure, Named};
-use crate::{NOT_WELL, fail};
+use crate::telling::refuse_input;
+use crate::{DumpTask, INPUT_FAULT, NOT_WELL, Order, Task, fail};
+use fbl_base::RawDump;
 use fbl_input::RunFault;
+use fbl_texts::read_raw_dump;
 use std::alloc::Global;
 use std::fs::{self, File, OpenFile, OpenOptions};
-use std::io::{self, ErrorKind, Read};
+use std::io::{self, ErrorKind, Read, Write};
 use std::rt::Files;
 use std::sync::Wait;
 use std::thread::Threads;
@@ -133,27 +136,76 @@ fn settle<T: Eprint + Files>(rt: &T, beside: Beside<T::File>, name: &str, status
     }
 }
 
-/// Does what is asked for, over what the reader has, and writes the text into the file with this name.
-fn obey_into<T, R>(
-    rt: &T,
-    alloc: Global,
-    request: Request<'_>,
-    name: &str,
-    reader: &mut Named<'_, R>,
-) -> u8
+/// What is left to do once it is known where the text goes.
+#[derive(Drop)]
+enum Work<'a, R> {
+    /// To obey the order over what a reader has.
+    Reader(Order, Named<'a, R>),
+    /// To do this with the dumps of several files together.
+    Merge(Merge<'a>),
+}
+
+/// What is to be done with the dumps of several files together.
+#[derive(Drop)]
+struct Merge<'a> {
+    task: DumpTask,
+    explain: bool,
+    dumps: Vec<RawDump>,
+    names: &'a [&'a str],
+}
+
+/// Merges the dumps, writes the text, and answers the exit status.
+fn end_merge<T, W>(rt: &T, alloc: Global, merge: &Merge<'_>, writer: &mut Named<'_, W>) -> u8
+where
+    T: Eprint,
+    W: Write,
+{
+    let dumps = merge.dumps.as_slice();
+    if dumps.is_empty() {
+        return INPUT_FAULT;
+    }
+    end_merged(
+        rt,
+        alloc,
+        merge.task,
+        merge.explain,
+        dumps,
+        merge.names,
+        writer,
+    )
+}
+
+/// Does the work, writes the text, and answers the exit status.
+fn end_work<T, R, W>(rt: &T, alloc: Global, work: Work<'_, R>, writer: &mut Named<'_, W>) -> u8
+where
+    T: Eprint + Threads + Wait + Sync,
+    R: Read + Drop,
+    W: Write,
+{
+    match work {
+        Work::Reader(order, reader) => {
+            let mut reader = reader;
+            obey(rt, alloc, order, &mut reader, writer)
+        }
+        Work::Merge(merge) => end_merge(rt, alloc, &merge, writer),
+    }
+}
+
+/// Does the work, and writes the text into the file with this name.
+fn end_into<T, R>(rt: &T, alloc: Global, name: &str, work: Work<'_, R>) -> u8
 where
     T: Eprint + Files + Threads + Wait + Sync,
-    R: Read,
+    R: Read + Drop,
 {
     match target_of(rt, alloc, name) {
         Ok(Target::Itself(file)) => {
             let mut writer = Named::new(file, Some(name));
-            obey(rt, alloc, request.order, reader, &mut writer)
+            end_work(rt, alloc, work, &mut writer)
         }
         Ok(Target::Beside(beside)) => {
             let Beside { file, own, place } = beside;
             let mut writer = Named::new(file, Some(name));
-            let status = obey(rt, alloc, request.order, reader, &mut writer);
+            let status = end_work(rt, alloc, work, &mut writer);
             let file = writer.stream;
             settle(rt, Beside { file, own, place }, name, status)
         }
@@ -161,38 +213,129 @@ where
     }
 }
 
-/// Does what is asked for, over what the reader has, and writes the text where it is to go.
-fn obey_from<T, R>(rt: &T, alloc: Global, request: Request<'_>, reader: &mut Named<'_, R>) -> u8
+/// Does the work, and writes the text where it is to go.
+fn end_at<T, R>(rt: &T, alloc: Global, output: Option<&str>, work: Work<'_, R>) -> u8
 where
     T: Eprint + Print + Files + Threads + Wait + Sync,
-    R: Read,
+    R: Read + Drop,
 {
-    match file_name(request.output) {
-        Some(name) => obey_into(rt, alloc, request, name, reader),
+    match file_name(output) {
+        Some(name) => end_into(rt, alloc, name, work),
         None => {
             let mut writer = Named::new(io::writer(rt), None);
-            obey(rt, alloc, request.order, reader, &mut writer)
+            end_work(rt, alloc, work, &mut writer)
         }
     }
 }
 
-/// Does what is asked for, from the one file to the other, and answers the exit status. Where the first can't be opened, nothing
-/// is done with the second.
-pub(crate) fn obey_request<T>(rt: &T, alloc: Global, request: Request<'_>) -> u8
+/// Does what is asked for over one input. Where it can't be opened, nothing is done with what is written.
+fn obey_one<T>(rt: &T, alloc: Global, request: &Request<'_>, name: Option<&str>) -> u8
 where
     T: Eprint + Print + Input + Files + Threads + Wait + Sync,
 {
-    match file_name(request.input) {
+    let order = request.order;
+    match file_name(name) {
         Some(name) => match File::open(rt, name) {
             Ok(file) => {
-                let mut reader = Named::new(file, Some(name));
-                obey_from(rt, alloc, request, &mut reader)
+                let reader = Named::new(file, Some(name));
+                end_at(rt, alloc, request.output, Work::Reader(order, reader))
             }
             Err(error) => fail_on(rt, RunFault::Read, name, error),
         },
         None => {
-            let mut reader = Named::new(rt.reader(), None);
-            obey_from(rt, alloc, request, &mut reader)
+            let reader = Named::new(rt.reader(), None);
+            end_at(rt, alloc, request.output, Work::Reader(order, reader))
         }
+    }
+}
+
+/// The dump that the reader has, its rules not yet checked, where it is one of several, with this name; or the exit status of its
+/// fault, which is told.
+fn dump_of<T: Eprint, R: Read>(
+    rt: &T,
+    alloc: Global,
+    explain: bool,
+    name: &str,
+    reader: &mut Named<'_, R>,
+) -> Result<RawDump, u8> {
+    match read_raw_dump(alloc, reader) {
+        Ok(found) => Ok(found.raw),
+        Err(fault) => {
+            Err(refuse_input(rt, alloc, explain, &fault, reader.failure(), Some(name)))
+        }
+    }
+}
+
+/// The same of the file with this name, or of standard input.
+fn dump_at<T>(rt: &T, alloc: Global, explain: bool, name: &str) -> Result<RawDump, u8>
+where
+    T: Eprint + Input + Files,
+{
+    match file_name(Some(name)) {
+        Some(path) => match File::open(rt, path) {
+            Ok(file) => {
+                let mut reader = Named::new(file, Some(path));
+                dump_of(rt, alloc, explain, name, &mut reader)
+            }
+            Err(error) => Err(fail_on(rt, RunFault::Read, path, error)),
+        },
+        None => {
+            let mut reader = Named::new(rt.reader(), None);
+            dump_of(rt, alloc, explain, name, &mut reader)
+        }
+    }
+}
+
+/// The dumps of the files with these names, in their order, or the exit status of the first fault.
+fn dumps_at<T>(rt: &T, alloc: Global, explain: bool, names: &[&str]) -> Result<Vec<RawDump>, u8>
+where
+    T: Eprint + Input + Files,
+{
+    let mut dumps = Vec::new(alloc);
+    for name in names {
+        let dump = dump_at(rt, alloc, explain, name)?;
+        if dumps.push(dump).is_err() {
+            return Err(fail(rt, RunFault::Memory, None));
+        }
+    }
+    Ok(dumps)
+}
+
+/// Does this with the dumps of several files together. They are read before anything is done with what is written.
+fn obey_several<T>(rt: &T, alloc: Global, request: &Request<'_>, task: DumpTask) -> u8
+where
+    T: Eprint + Print + Input + Files + Threads + Wait + Sync,
+{
+    let names = request.inputs.as_slice();
+    if names.iter().filter(|name| **name == "-").count() > 1 {
+        let _ = eprintln!(rt; "error: standard input can be read once, and - is named again");
+        return INPUT_FAULT;
+    }
+    let explain = request.order.explain;
+    match dumps_at(rt, alloc, explain, names) {
+        Ok(dumps) => {
+            let work: Work<'_, T::File> = Work::Merge(Merge {
+                task,
+                explain,
+                dumps,
+                names,
+            });
+            end_at(rt, alloc, request.output, work)
+        }
+        Err(status) => status,
+    }
+}
+
+/// Does what is asked for, from the files that are read to the one that is written, and answers the exit status.
+pub(crate) fn obey_request<T>(rt: &T, alloc: Global, request: &Request<'_>) -> u8
+where
+    T: Eprint + Print + Input + Files + Threads + Wait + Sync,
+{
+    match (request.order.task, request.inputs.as_slice()) {
+        (Task::Dump(task) | Task::Merged(task), [_, _, ..]) => {
+            obey_several(rt, alloc, request, task)
+        }
+        (_, [name, ..]) => obey_one(rt, alloc, request, Some(*name)),
+        (_, []) => obey_one(rt, alloc, request, None),
     }
 }

@@ -1,4 +1,4 @@
-//! Plays or shows a script, or audits, checks or draws a dump, that is in a file or comes from standard input.
+//! Plays or shows a script, or merges, audits, checks or draws dumps, that are in files or come from standard input.
 #![tactic(auto)]
 
 ghost use Rattle.std.specs.Prelude.{◌≡◌};
@@ -8,6 +8,7 @@ ghost use Rattle.fblrun.specs.Statuses.{status_after, fault_status};
 mod command_line;
 mod doing;
 mod files;
+mod merging;
 mod streams;
 mod telling;
 
@@ -62,13 +63,18 @@ enum DumpTask {
     Check,
     /// Draw it.
     Draw,
+    /// Write it as a line.
+    Write,
 }
 
 /// What is to be done with the input.
 #[derive(Clone, Copy, PartialEq, Eq, Debug)]
 enum Task {
     Script(ScriptTask),
+    /// The input is a dump as it stands.
     Dump(DumpTask),
+    /// The dump is that of the input's events in an order.
+    Merged(DumpTask),
 }
 
 /// What the command line asks for.
@@ -168,7 +174,7 @@ fn main(rt: HostRuntime) -> ExitCode {
     };
     match request_of(rt.alloc(), words.as_slice()) {
         Ok(request) => {
-            let status = obey_request(&rt, rt.alloc(), request);
+            let status = obey_request(&rt, rt.alloc(), &request);
             name_explain(&rt, request.order, status);
             ExitCode::from(status)
         }

@@ -1,13 +1,15 @@
 //! What is told on standard error, where the command line asks for explanations, beside the fault line.
 
-ghost use Rattle.std.specs.Prelude.{◌≡◌, false};
+ghost use Rattle.std.specs.Prelude.{◌≡◌, ◌⊎◌, false};
 ghost use Rattle.fbl_input.specs.Misfits.{run_fault};
+ghost use Rattle.fblrun.specs.Merging.{merge_status};
 ghost use Rattle.fblrun.specs.Statuses.{fault_status};
 
+use crate::merging::{MergeExplanation, MergeFault, MergeLine, Parts};
 use crate::streams::Failure;
-use crate::{DumpTask, fail};
+use crate::{DumpTask, INPUT_FAULT, fail, status_of};
 use fbl_base::audit::Dump;
-use fbl_base::{Behaviour, Note};
+use fbl_base::{Behaviour, Note, RawDump};
 use fbl_group::Group;
 use fbl_input::{InputFault, RunFault};
 use fbl_play::{Account, Answer, Observer, Transcribed};
@@ -115,7 +117,7 @@ pub(crate) fn tell_why<R: Eprint>(rt: &R, alloc: Global, task: DumpTask, dump: &
     let why = match task {
         DumpTask::Audit => why_lost(alloc, dump),
         DumpTask::Check => why_unsafe(alloc, dump),
-        DumpTask::Draw => return,
+        DumpTask::Draw | DumpTask::Write => return,
     };
     if let Ok(why) = why {
         let _ = eprint!(rt; "{why}");
@@ -123,21 +125,57 @@ pub(crate) fn tell_why<R: Eprint>(rt: &R, alloc: Global, task: DumpTask, dump: &
 }
 
 /// Prints the line of the input's fault, and answers its exit status. Where that is asked for the fault is explained in a line
-/// behind it; where memory runs out for it that is left out. The file is one on which a read may have failed.
+/// behind it; where memory runs out for it that is left out. The file is one on which a read may have failed; where the input is
+/// one of several, it has a name.
 pub(crate) fn refuse_input<R: Eprint>(
     rt: &R,
     alloc: Global,
     explain: bool,
     fault: &InputFault,
     file: Option<Failure<'_>>,
+    name: Option<&str>,
 ) -> u8
     ensures { result ≡ fault_status (run_fault fault.now.misfit) }
 {
-    let status = fail(rt, fault.misfit.fault(), file);
+    let found = fault.misfit.fault();
+    let status = match (found, name) {
+        (RunFault::Read | RunFault::Memory, _) | (_, None) => fail(rt, found, file),
+        (_, Some(name)) => {
+            let _ = eprintln!(rt; "fault: {found} in {name:?}");
+            status_of(&found)
+        }
+    };
     if explain {
         if let Ok(Some(explanation)) = fault.explanation(alloc) {
             let _ = eprintln!(rt; "{explanation}");
         }
+    }
+    status
+}
+
+/// Prints the line of the fault of these dumps together, and answers its exit status. Where that is asked for the fault is explained
+/// in a line behind it. Where memory runs out for the line, that is the fault. The names are those of the dumps' files, or none
+/// where there is one dump.
+pub(crate) fn refuse_merge<'a, R: Eprint>(
+    rt: &R,
+    alloc: Global,
+    explain: bool,
+    fault: &'a MergeFault,
+    dumps: &'a [RawDump],
+    names: &'a [&'a str],
+) -> u8
+    ensures { (result ≡ merge_status fault.now) ⊎ (result ≡ 4) }
+{
+    let Ok(parts) = Parts::of(alloc, names, dumps) else {
+        return fail(rt, RunFault::Memory, None);
+    };
+    let parts = &parts;
+    let line = MergeLine { fault, parts };
+    let _ = eprintln!(rt; "{line}");
+    let status = fault.status();
+    if explain && status == INPUT_FAULT {
+        let explanation = MergeExplanation { fault, parts };
+        let _ = eprintln!(rt; "{explanation}");
     }
     status
 }

@@ -7,12 +7,12 @@ returns-in_err-matches-clause-refused c =
     refused (map string_bytes c.args.words.now) c.in_err-matches.field-0.0 c.from_residual-in_err-matches.result
     c.from_residual-in_err-matches.ensures.1 (λ line. c.in_err-matches.ensures.passes (taken _ (map string_bytes c.args.words.now) c.in_ok-command.ensures line))
 
-pub returns-in-Some-request_at-clause-given : goal.returns-in-Some-request_at-clause-given
-returns-in-Some-request_at-clause-given c =
+pub returns-in-Some-2-clause-given : goal.returns-in-Some-2-clause-given
+returns-in-Some-2-clause-given c =
     request_is _ _ c.in_ok-matches.matches c.in_ok-command.ensures c.in_ok-matches.ensures.matches _ _ c.in-Some.ensures.name c.in-Some.ensures.rows
-    c.request_at.result c.in-Some-request_at.request c.in-Some-request_at.is c.request_at.ensures
+    c.in_ok-request-in-Some.field-0 c.in-Some-2.request c.in-Some-2.is c.in_ok-request-in-Some.ensures
 
 pub returns-in-Some-clause-refused : goal.returns-in-Some-clause-refused
 returns-in-Some-clause-refused c =
     no_request _ _ c.in_ok-matches.matches c.in_ok-command.ensures c.in_ok-matches.ensures.matches _ _ c.in-Some.ensures.name c.in-Some.ensures.rows
-    c.request_at.result c.in-None-request_at.is c.request_at.ensures
+    c.in_ok-request-in-Some.field-0 c.in-None-2.is c.in_ok-request-in-Some.ensures

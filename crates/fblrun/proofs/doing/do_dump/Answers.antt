@@ -1,4 +1,4 @@
-use Rattle.fblrun.proofs.Common.{true, refl, Audit, Check, Draw, IsAuditText, IsChecked, IsDumpAnswer, IsPicture}
+use Rattle.fblrun.proofs.Common.{◌≡◌, true, refl, Audit, Check, Draw, Write, IsAuditText, IsChecked, IsDumpAnswer, IsPicture, dump_line}
 use Rattle.fblrun.proofs.Endings.{check_answer, cut, is_safe}
 use Rattle.fblrun.proofs.doing.do_dump.Goals as goal
 
@@ -22,3 +22,11 @@ returns-in_err-write_picture-in-Draw g c =
 
 pub returns-in_ok-write_picture-in-Draw : goal.returns-in_ok-write_picture-in-Draw
 returns-in_ok-write_picture-in-Draw g c = (let puts = c.in_ok-write_picture-in-Draw.ensures in rw c.in-Draw.is (puts.0, (puts.1, refl), puts.2))
+
+pub returns-in_err-write_dump-in-Write : goal.returns-in_err-write_dump-in-Write
+returns-in_err-write_dump-in-Write g c =
+    rw c.in-Write.is (cut (λ _ told. told ≡ dump_line c.args.dump.now) (IsDumpAnswer Write c.args.dump.now) (λ _. true) (λ _ _ is. (is, refl)) _ _ _ _
+    c.from_residual-in_err-write_dump-in-Write.ensures.1 c.in_err-write_dump-in-Write.ensures)
+
+pub returns-in_ok-write_dump-in-Write : goal.returns-in_ok-write_dump-in-Write
+returns-in_ok-write_dump-in-Write g c = (let puts = c.in_ok-write_dump-in-Write.ensures in rw c.in-Write.is (puts.0, (puts.1, refl), puts.2))

@@ -1,0 +1,10 @@
+use Rattle.fblrun.proofs.Common.{inl}
+use Rattle.fblrun.proofs.Endings.{merge_refused}
+use Rattle.fblrun.proofs.doing.end_merged.Goals as goal
+
+pub returns-in-Ok : goal.returns-in-Ok
+returns-in-Ok g c = inl (c.in-Ok.dump, c.in-Ok.ensures.merged, c.end_dump.ensures)
+
+pub returns-in-Err : goal.returns-in-Err
+returns-in-Err g c =
+    merge_refused c.args.task c.args.dumps.now (g.W.Write.contents c.args.writer.now.stream) c.in-Err.fault c.refuse_merge.result c.in-Err.ensures.refused c.refuse_merge.ensures

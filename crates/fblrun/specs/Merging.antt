@@ -1,0 +1,38 @@
+-- What comes of several dumps: one dump of all their events, in an order.
+use Rattle.std.specs.Prelude.{◌≡◌, ℕ, List}
+use Rattle.fbl_base.specs.declared.raw_dump.RawDump.{RawDump}
+use Rattle.fbl_base.specs.declared.refusal.DumpRefusal.TheVariants as dump
+use Rattle.fbl_base.specs.declared.trace.Mark.{Mark}
+use Rattle.fbl_base.specs.Audit.{Parts, IsDump}
+use Rattle.fbl_base.specs.Rules.{WellFormed}
+use Rattle.fbl_order.specs.declared.fault.OrderFault.TheVariants as orders
+use Rattle.fbl_order.specs.declared.parts.PartsFault.TheVariants as parts
+use Rattle.fbl_order.specs.Faults.{RefusesUnordered}
+use Rattle.fbl_order.specs.Orders.{SameAnswers, with_events, IsOrder}
+use Rattle.fbl_order.specs.Parts.{IsUnited, RefusesParts}
+use Rattle.fblrun.specs.declared.merging.MergeFault.{MergeFault}
+use Rattle.fblrun.specs.declared.merging.MergeFault.TheVariants as faults
+
+-- the dump is the whole, but for its events, which stand in an order; where they obeyed the rules, they stand as they did; and in
+-- whichever order they stand, an audit and a check answer the same
+pub record IsMerged (whole dump : Parts) : Type 0 where
+  pub rules : IsDump dump
+  pub parts : dump ≡ with_events dump.events whole
+  pub order : IsOrder whole.members whole.events dump.events
+  pub kept : WellFormed whole.members whole.events → dump ≡ whole
+  pub answers : (events : List Mark) → IsOrder whole.members whole.events events → SameAnswers (with_events events whole) dump
+
+-- the same of what the dumps have together
+abbrev pub IsMergeOf : {A : Type 0} → List (RawDump A) → Parts → Type 0
+IsMergeOf dumps dump = (whole : Parts) × IsUnited dumps whole × IsMerged whole dump
+
+-- the dumps differ; or what they have together has no order, or breaks another rule; or memory ran out
+abbrev pub RefusesMerge : {A : Type 0} → List (RawDump A) → MergeFault → Type 0
+RefusesMerge dumps (faults.Parts fault) = RefusesParts dumps fault
+RefusesMerge dumps (faults.Order fault) = (whole : Parts) × IsUnited dumps whole × RefusesUnordered whole fault
+
+-- 4 where memory ran out, and else 2
+abbrev pub merge_status : MergeFault → ℕ
+merge_status (faults.Parts parts.Memory) = 4
+merge_status (faults.Order (orders.Dump dump.Memory breach)) = 4
+merge_status fault = 2

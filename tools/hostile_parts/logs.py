@@ -1,0 +1,225 @@
+"""Runs that are cut into the logs of their members, in one file or several, and merged."""
+import json
+import pathlib
+import random
+import tempfile
+from contextlib import contextmanager
+
+from hostile_parts.damage import mutated
+from program import EXAMPLES, run
+
+RUNS = 500
+DAMAGED_RUNS = 500
+MUTATED_FILES = 200
+# the most events of a run through whose orders a search goes
+MOST_SEARCHED = 9
+NOTHING = (4, "", "fault: memory\n")
+
+
+def is_send(event):
+    return event[0] == "send"
+
+
+def channel_of(event):
+    """The sender and the receiver of an event's message."""
+    return (event[1], event[3]) if is_send(event) else (event[3], event[1])
+
+
+def message_of(event):
+    """The number of an event's message."""
+    return event[2] if is_send(event) else event[4]
+
+
+def random_run(source, most):
+    """The number of members, and events that obey the rules."""
+    members = source.randint(2, 5)
+    counts, flights, events = {}, {}, []
+    for _ in range(source.randint(2, most)):
+        ready = [channel for channel, numbers in sorted(flights.items()) if numbers]
+        if ready and source.random() < 0.5:
+            sender, member = source.choice(ready)
+            counts["receipt", member] = counts.get(("receipt", member), 0) + 1
+            events.append(["receipt", member, counts["receipt", member], sender, flights[sender, member].pop(0)])
+        else:
+            sender, member = source.sample(range(members), 2)
+            counts["send", sender] = counts.get(("send", sender), 0) + 1
+            flights.setdefault((sender, member), []).append(counts["send", sender])
+            events.append(["send", sender, counts["send", sender], member])
+    return members, events
+
+
+def dump(source, members, events):
+    """The run as a dump, with pairs and a strike set at random."""
+    receipts = [[event[3], event[4], event[1], event[2]] for event in events if not is_send(event)]
+    held = [[member, *receipt] for receipt in receipts for member in range(members) if source.random() < 0.6]
+    strike = [member for member in range(members) if source.random() < 0.2]
+    return {"members": members, "f": source.randint(1, members - 1), "events": events, "held": held, "strike": strike}
+
+
+def cut(source, whole, files):
+    """The members' logs, one behind another in random order, in so many files; and what they hold and who is struck."""
+    logs = [[event for event in whole["events"] if event[1] == member] for member in range(whole["members"])]
+    source.shuffle(logs)
+    parts = [{**whole, "events": [], "held": [], "strike": []} for _ in range(files)]
+    first = 0
+    for log in logs:
+        # a member's log may be cut, and goes on in a later file then
+        start, end = sorted((source.randint(0, len(log)), len(log)))
+        places = sorted(source.choices(range(files), k=2)) if source.random() < 0.3 else [first, first]
+        parts[places[0]]["events"] += log[:start]
+        parts[places[1]]["events"] += log[start:end]
+        first = source.randrange(files)
+    for key in ("held", "strike"):
+        for item in whole[key]:
+            source.choice(parts)[key].append(item)
+    return parts
+
+
+@contextmanager
+def files_of(texts):
+    """Files with these texts, as the program is to name them."""
+    with tempfile.TemporaryDirectory() as room:
+        paths = [pathlib.Path(room, f"{number}.json") for number in range(len(texts))]
+        for path, text in zip(paths, texts):
+            path.write_bytes(text)
+        yield [str(path) for path in paths]
+
+
+def texts_of(parts):
+    return [json.dumps(part).encode() for part in parts]
+
+
+def may_come(event, before):
+    """Whether an event obeys the rules behind these."""
+    same_kind = [other for other in before if other[:2] == event[:2]]
+    if event[2] != len(same_kind) + 1:
+        return False
+    if is_send(event):
+        return True
+    on_channel = [other for other in before if channel_of(other) == channel_of(event)]
+    flight = [message_of(other) for other in on_channel if is_send(other)][sum(not is_send(other) for other in on_channel):]
+    return flight[:1] == [message_of(event)]
+
+
+def logs_of(members, events):
+    return [[event for event in events if event[1] == member] for member in range(members)]
+
+
+def is_order(members, events, ordered):
+    return logs_of(members, events) == logs_of(members, ordered) and all(may_come(event, ordered[:place]) for place, event in enumerate(ordered))
+
+
+def first_that_never_comes(members, events):
+    """The place of the first event that stands in no part of an order, by a search through all of them; None where there is none."""
+    logs = logs_of(members, events)
+    seen, waiting, reached = set(), [((0,) * members, [])], [0] * members
+    while waiting:
+        fronts, before = waiting.pop()
+        if fronts in seen:
+            continue
+        seen.add(fronts)
+        for member in range(members):
+            reached[member] = max(reached[member], fronts[member])
+            log = logs[member]
+            if fronts[member] < len(log) and may_come(log[fronts[member]], before):
+                waiting.append(((*fronts[:member], fronts[member] + 1, *fronts[member + 1:]), [*before, log[fronts[member]]]))
+    passed = [0] * members
+    for place, event in enumerate(events):
+        if passed[event[1]] >= reached[event[1]]:
+            return place
+        passed[event[1]] += 1
+    return None
+
+
+def events_of(parts):
+    return [event for part in parts for event in part["events"]]
+
+
+def try_logs(tally):
+    """A run that is cut is merged into an order, and an audit and a check say of it what they say of the run."""
+    source = random.Random(2)
+    for number in range(RUNS):
+        members, events = random_run(source, 40)
+        whole = dump(source, members, events)
+        parts = cut(source, whole, source.choice([1, 1, 2, 3, members]))
+        with files_of(texts_of(parts)) as paths:
+            ran = run(["merge", *paths])
+            merged = json.loads(ran.text) if ran.status == 0 else {}
+            well = ran.fault == "" and is_order(members, events_of(parts), merged.get("events", [])) and sorted(merged["held"]) == sorted(whole["held"])
+            tally.note(well, f"run {number}, {parts}: {ran}")
+            for word in ("audit", "check"):
+                told, wanted = (run([word, *paths]) if len(paths) > 1 else run([word], ran.text.encode())), run([word], json.dumps(whole).encode())
+                # the receipts come in the order of the events
+                same = (told.status, sorted(told.text.splitlines()), told.fault) == (wanted.status, sorted(wanted.text.splitlines()), wanted.fault)
+                tally.note(same, f"run {number}, {word} of {parts}: {told} and not {wanted}")
+
+
+def damaged(source, events):
+    """The events with one left out, two of a member swapped, or a receipt put before its member's first event, so that what it led to
+    comes before it."""
+    events = list(events)
+    change = source.choice(["leave out", "swap", "circle"])
+    place = source.randrange(len(events))
+    own = [other for other, event in enumerate(events) if event[1] == events[place][1]]
+    if change == "leave out":
+        del events[place]
+    elif change == "swap":
+        other = source.choice(own)
+        events[place], events[other] = events[other], events[place]
+    else:
+        events.insert(own[0], events.pop(own[-1]))
+    return events
+
+
+def try_damaged_logs(tally):
+    """A damaged run has the fault that a search through all orders finds, or an order."""
+    source = random.Random(3)
+    refused = 0
+    for number in range(DAMAGED_RUNS):
+        members, events = random_run(source, MOST_SEARCHED)
+        whole = dump(source, members, damaged(source, events))
+        whole["held"] = []
+        parts = cut(source, whole, source.choice([1, 2, 3]))
+        given = events_of(parts)
+        place = first_that_never_comes(members, given)
+        with files_of(texts_of(parts)) as paths:
+            ran = run(["merge", *paths])
+            if place is None:
+                well = ran.status == 0 and is_order(members, given, json.loads(ran.text)["events"])
+            else:
+                refused += 1
+                file = 0
+                while place >= len(parts[file]["events"]):
+                    place -= len(parts[file]["events"])
+                    file += 1
+                name = f' in "{paths[file]}"' if len(paths) > 1 else ""
+                well = ran == (2, "", f"fault: BadEvent {place}{name}\n")
+            tally.note(well, f"damaged run {number}, {parts}: {ran}")
+    tally.note(refused > DAMAGED_RUNS // 3, f"of the damaged runs {refused} alone have no order")
+
+
+def try_mutated_logs(tally):
+    """Files that are damaged as texts give a fault, which names one of them, or an answer."""
+    source = random.Random(4)
+    texts = [path.read_bytes() for path in sorted((EXAMPLES / "logs").glob("*.json"))]
+    for number in range(MUTATED_FILES):
+        given = [source.choice([text, text, mutated(source, texts)]) for text in texts[-3:]]
+        words = [source.choice(["merge", "audit", "check", "draw"])]
+        with files_of(given) as paths:
+            ran = run([*words, *paths])
+        is_fault = ran.status == 2 and ran.text == "" and ran.fault.startswith("fault: ") and ran.fault.count("\n") == 1
+        found_unsafe = words == ["check"] and ran.status == 1 and ran.text.startswith("unsafe ") and ran.fault == ""
+        tally.note(is_fault or found_unsafe or (ran.status == 0 and ran.fault == ""), f"files {number} for {words[0]}, {given!r:.600}: {ran}")
+
+
+def try_logs_without_memory(refuser, _, tally):
+    """Of several files the whole is written, or their fault, or nothing where a request for memory is refused."""
+    logs = [EXAMPLES / "logs" / f"member-{member}.json" for member in range(3)]
+    late = [EXAMPLES / "logs/member-0-send-last.json", *logs[1:]]
+    for words in (["merge", *logs], ["audit", *logs], ["check", "--explain", *logs], ["draw", *logs], ["merge", *late], ["merge", "--explain", *late]):
+        wanted = run(words)
+        for variable in ("REFUSE_AT", "REFUSE_FROM"):
+            for number, ran, met in refuser.refuse_each(words, variable=variable):
+                # the fault's line stands where there is no memory for its explanation
+                whole = ran[:2] == wanted[:2] and (ran.fault == wanted.fault or (met and "--explain" in words and wanted.fault.startswith(ran.fault)))
+                tally.note(whole or (met and ran == NOTHING), f"{words}, {variable}={number}: {ran}")
