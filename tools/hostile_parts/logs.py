@@ -1,9 +1,12 @@
 """Runs that are cut into the logs of their members, in one file or several, and merged."""
 import json
+import os
 import pathlib
 import random
 import tempfile
+from concurrent.futures import ThreadPoolExecutor
 from contextlib import contextmanager
+from typing import NamedTuple
 
 from hostile_parts.damage import mutated
 from program import EXAMPLES, run
@@ -135,23 +138,46 @@ def events_of(parts):
     return [event for part in parts for event in part["events"]]
 
 
+class Cut(NamedTuple):
+    """A run as one dump, and its parts."""
+    number: int
+    whole: dict
+    parts: list
+
+
+def note_each(tally, judge, cases):
+    """Judges the cases, as many at a time as there are cores, and notes of each what is well and what is told of it if it isn't."""
+    with ThreadPoolExecutor(os.cpu_count()) as pool:
+        for notes in pool.map(judge, cases):
+            for is_well, told in notes:
+                tally.note(is_well, told)
+
+
+def judge_merge(case):
+    """Whether the parts are merged into an order, and an audit and a check say of it what they say of the run."""
+    number, whole, parts = case
+    with files_of(texts_of(parts)) as paths:
+        ran = run(["merge", *paths])
+        merged = json.loads(ran.text) if ran.status == 0 else {"events": [], "held": []}
+        is_merged = is_order(whole["members"], events_of(parts), merged["events"]) and sorted(merged["held"]) == sorted(whole["held"])
+        notes = [(ran.status == 0 and ran.fault == "" and is_merged, f"run {number}, {parts}: {ran}")]
+        for word in ("audit", "check"):
+            told, wanted = (run([word, *paths]) if len(paths) > 1 else run([word], ran.text.encode())), run([word], json.dumps(whole).encode())
+            # the receipts come in the order of the events
+            same = (told.status, sorted(told.text.splitlines()), told.fault) == (wanted.status, sorted(wanted.text.splitlines()), wanted.fault)
+            notes.append((same, f"run {number}, {word} of {parts}: {told} and not {wanted}"))
+    return notes
+
+
 def try_logs(tally):
     """A run that is cut is merged into an order, and an audit and a check say of it what they say of the run."""
     source = random.Random(2)
+    cases = []
     for number in range(RUNS):
         members, events = random_run(source, 40)
         whole = dump(source, members, events)
-        parts = cut(source, whole, source.choice([1, 1, 2, 3, members]))
-        with files_of(texts_of(parts)) as paths:
-            ran = run(["merge", *paths])
-            merged = json.loads(ran.text) if ran.status == 0 else {}
-            well = ran.fault == "" and is_order(members, events_of(parts), merged.get("events", [])) and sorted(merged["held"]) == sorted(whole["held"])
-            tally.note(well, f"run {number}, {parts}: {ran}")
-            for word in ("audit", "check"):
-                told, wanted = (run([word, *paths]) if len(paths) > 1 else run([word], ran.text.encode())), run([word], json.dumps(whole).encode())
-                # the receipts come in the order of the events
-                same = (told.status, sorted(told.text.splitlines()), told.fault) == (wanted.status, sorted(wanted.text.splitlines()), wanted.fault)
-                tally.note(same, f"run {number}, {word} of {parts}: {told} and not {wanted}")
+        cases.append(Cut(number, whole, cut(source, whole, source.choice([1, 1, 2, 3, members]))))
+    note_each(tally, judge_merge, cases)
 
 
 def damaged(source, events):
@@ -171,30 +197,41 @@ def damaged(source, events):
     return events
 
 
+def line_of_fault(parts, paths, place):
+    """The line of the fault of the event at this place of all, by its file where there are several."""
+    file = 0
+    while place >= len(parts[file]["events"]):
+        place -= len(parts[file]["events"])
+        file += 1
+    name = f' in "{paths[file]}"' if len(paths) > 1 else ""
+    return f"fault: BadEvent {place}{name}\n"
+
+
+def judge_damaged(case):
+    """Whether the merge has the fault that a search through all orders finds, or an order."""
+    number, whole, parts = case
+    members, given = whole["members"], events_of(parts)
+    place = first_that_never_comes(members, given)
+    with files_of(texts_of(parts)) as paths:
+        ran = run(["merge", *paths])
+        if place is None:
+            is_well = ran.status == 0 and is_order(members, given, json.loads(ran.text)["events"])
+        else:
+            is_well = ran == (2, "", line_of_fault(parts, paths, place))
+    return [(is_well, f"damaged run {number}, {parts}: {ran}")]
+
+
 def try_damaged_logs(tally):
     """A damaged run has the fault that a search through all orders finds, or an order."""
     source = random.Random(3)
-    refused = 0
+    cases = []
     for number in range(DAMAGED_RUNS):
         members, events = random_run(source, MOST_SEARCHED)
         whole = dump(source, members, damaged(source, events))
         whole["held"] = []
-        parts = cut(source, whole, source.choice([1, 2, 3]))
-        given = events_of(parts)
-        place = first_that_never_comes(members, given)
-        with files_of(texts_of(parts)) as paths:
-            ran = run(["merge", *paths])
-            if place is None:
-                well = ran.status == 0 and is_order(members, given, json.loads(ran.text)["events"])
-            else:
-                refused += 1
-                file = 0
-                while place >= len(parts[file]["events"]):
-                    place -= len(parts[file]["events"])
-                    file += 1
-                name = f' in "{paths[file]}"' if len(paths) > 1 else ""
-                well = ran == (2, "", f"fault: BadEvent {place}{name}\n")
-            tally.note(well, f"damaged run {number}, {parts}: {ran}")
+        cases.append(Cut(number, whole, cut(source, whole, source.choice([1, 2, 3]))))
+    note_each(tally, judge_damaged, cases)
+    refused = sum(first_that_never_comes(case.whole["members"], events_of(case.parts)) is not None for case in cases)
     tally.note(refused > DAMAGED_RUNS // 3, f"of the damaged runs {refused} alone have no order")
 
 
@@ -217,9 +254,12 @@ def try_logs_without_memory(refuser, _, tally):
     logs = [EXAMPLES / "logs" / f"member-{member}.json" for member in range(3)]
     late = [EXAMPLES / "logs/member-0-send-last.json", *logs[1:]]
     for words in (["merge", *logs], ["audit", *logs], ["check", "--explain", *logs], ["draw", *logs], ["merge", *late], ["merge", "--explain", *late]):
-        wanted = run(words)
+        wanted, refused = run(words), 0
         for variable in ("REFUSE_AT", "REFUSE_FROM"):
             for number, ran, met in refuser.refuse_each(words, variable=variable):
                 # the fault's line stands where there is no memory for its explanation
                 whole = ran[:2] == wanted[:2] and (ran.fault == wanted.fault or (met and "--explain" in words and wanted.fault.startswith(ran.fault)))
                 tally.note(whole or (met and ran == NOTHING), f"{words}, {variable}={number}: {ran}")
+                refused += ran == NOTHING
+        # each file takes some requests
+        tally.note(refused > len(logs), f"{words}: memory ran out {refused} times alone")

@@ -34,12 +34,15 @@ pub use Rattle.fblrun.specs.declared.Order.{Order}
 pub use Rattle.fblrun.specs.declared.command_line.Misuse.{Misuse}
 pub use Rattle.fblrun.specs.declared.command_line.Misuse.TheVariants.{Words}
 pub use Rattle.fblrun.specs.declared.command_line.Request.{Request}
+<<<<<<< HEAD
 pub use Rattle.fbl_texts.specs.Dumps.{IsDumpFault, IsDumpOf}
 pub use Rattle.fbl_base.specs.Audit.{parts_of, Parts}
 pub use Rattle.fbl_base.specs.declared.raw_dump.RawDump.{RawDump}
 pub use Rattle.fbl_input.proofs.Outputs.{keeps_itself, puts_as, puts_text}
 pub use Rattle.fbl_input.proofs.Inputs.{over_fault, over_input}
 pub use Rattle.fbl_input.specs.Faults.{OverInput, PutsOut, run_result}
+=======
+>>>>>>> h-mw
 pub use Rattle.fbl_input.specs.declared.fault.RunFault.{RunFault}
 pub use Rattle.fbl_input.specs.declared.output.OutputFault.{OutputFault}
 pub use Rattle.fbl_law.specs.Groups.{GroupRecord}
@@ -48,8 +51,8 @@ pub use Rattle.fbl_play.proofs.Moments.{unobserved}
 pub use Rattle.fbl_play.specs.Transcripts.{Transcript, history, text}
 pub use Rattle.fbl_texts.specs.Scripts.{IsScriptFault, IsScriptOf, Outline, behaviour_word, outline}
 pub use Rattle.fbl_texts.specs.declared.script.Command.{Command}
-pub use Rattle.fblrun.specs.Merging.{IsMergeOf, RefusesMerge, merge_status}
-pub use Rattle.fblrun.specs.Orders.{DoesScript, EndsDump, EndsMerged, EndsTask, IsDumpAnswer, IsShown, PlaysWell}
+pub use Rattle.fblrun.specs.Merging.{RefusesMerge, merge_status}
+pub use Rattle.fblrun.specs.Orders.{DoesScript, EndsMerged, IsDumpAnswer, IsShown, PlaysWell}
 pub use Rattle.fblrun.specs.declared.merging.MergeFault.{MergeFault}
 pub use Rattle.fblrun.specs.declared.DumpTask.{DumpTask}
 pub use Rattle.fbl_pictures.specs.DumpPictures.{IsPicture}

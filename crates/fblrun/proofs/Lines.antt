@@ -2,7 +2,7 @@
 use Rattle.fblrun.proofs.Common.{◌≡◌, ℕ, zero, suc, ◌+◌, ◌<◌, ◌&&◌, Bool, true, false, List, [], ◌∷◌, ◌++◌, Option, Some, None, option_map, Result, Ok, Err}
 use Rattle.fblrun.proofs.Common.{IfErr, refl, sym, ap, ◌∙◌, arith, codes, decimal, drop, subst, unwrap_or, decimal_digit, parse-decimal, Box, box_value}
 use Rattle.fblrun.proofs.Common.{IsErrAnd, ParsesUnsigned, built, entered, is_simple, Bor, Misuse, Words, AreNames, IsRefusedFor, Names, Request, IsRequestAt}
-use Rattle.fblrun.proofs.Common.{IsRequestOf, all_given_in, all_of, is_merge, merge_line, given_in, map, texts_in, first_of, option_and_then, subcommand_of, names_of, built_takes, takes, nothing_held, stop_after, App}
+use Rattle.fblrun.proofs.Common.{IsRequestOf, all_given_in, all_of, is_merge, merge_line, given_in, texts_in, first_of, option_and_then, subcommand_of, names_of, built_takes, takes, nothing_held, stop_after, App}
 use Rattle.fblrun.proofs.Common.{HasMatchesOf, ReadsOne, Row, Text, kind_of, one_of, subcommand_name_of, subcommand_rows, subcommand_rows_of, Error}
 use Rattle.fblrun.proofs.Common.{OutOfMemory, ArgMatches, out-ArgMatches, out-SubCommand, SubCommand, WorkersAllowed, Order, IsCommandLine, is_audit}
 use Rattle.fblrun.proofs.Common.{is_check, is_draw, is_play, is_show, is_show_workers, is_workers, IsOrderAt, audit_line, check_line, draw_line, flag_text}

@@ -234,7 +234,8 @@ where
     T: Eprint + Print + Input + Files + Threads + Wait + Sync,
 {
     let order = request.order;
-    match file_name(name) {
+    let path = file_name(name);
+    match path {
         Some(name) => match File::open(rt, name) {
             Ok(file) => {
                 let reader = Named::new(file, Some(name));
@@ -243,7 +244,7 @@ where
             Err(error) => fail_on(rt, RunFault::Read, name, error),
         },
         None => {
-            let reader = Named::new(rt.reader(), None);
+            let reader = Named::new(rt.reader(), path);
             end_at(rt, alloc, request.output, Work::Reader(order, reader))
         }
     }

@@ -1,4 +1,4 @@
-use Rattle.fblrun.proofs.Common.{Err, IfSome_then, refl, inl, inr, keeps_itself, over_fault, outline, over_input, run_fault, run_result, DoesScript, IsScriptFault, IsScriptOf, OverInput}
+use Rattle.fblrun.proofs.Common.{Err, IfSome_then, refl, inl, inr, keeps_itself, over_fault, run_fault, DoesScript, IsScriptFault, IsScriptOf, OverInput}
 use Rattle.fblrun.proofs.Endings.{ended}
 use Rattle.fblrun.proofs.doing.obey.Goals as goal
 
