@@ -34,15 +34,11 @@ pub use Rattle.fblrun.specs.declared.Order.{Order}
 pub use Rattle.fblrun.specs.declared.command_line.Misuse.{Misuse}
 pub use Rattle.fblrun.specs.declared.command_line.Misuse.TheVariants.{Words}
 pub use Rattle.fblrun.specs.declared.command_line.Request.{Request}
-<<<<<<< HEAD
-pub use Rattle.fbl_texts.specs.Dumps.{IsDumpFault, IsDumpOf}
 pub use Rattle.fbl_base.specs.Audit.{parts_of, Parts}
 pub use Rattle.fbl_base.specs.declared.raw_dump.RawDump.{RawDump}
 pub use Rattle.fbl_input.proofs.Outputs.{keeps_itself, puts_as, puts_text}
-pub use Rattle.fbl_input.proofs.Inputs.{over_fault, over_input}
-pub use Rattle.fbl_input.specs.Faults.{OverInput, PutsOut, run_result}
-=======
->>>>>>> h-mw
+pub use Rattle.fbl_input.proofs.Inputs.{over_fault}
+pub use Rattle.fbl_input.specs.Faults.{OverInput, PutsOut}
 pub use Rattle.fbl_input.specs.declared.fault.RunFault.{RunFault}
 pub use Rattle.fbl_input.specs.declared.output.OutputFault.{OutputFault}
 pub use Rattle.fbl_law.specs.Groups.{GroupRecord}
