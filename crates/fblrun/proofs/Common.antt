@@ -44,7 +44,7 @@ pub use Rattle.fbl_input.specs.declared.output.OutputFault.{OutputFault}
 pub use Rattle.fbl_law.specs.Groups.{GroupRecord}
 pub use Rattle.fbl_play.specs.Plays.{Observes, PlaysScript, Ran, next_of}
 pub use Rattle.fbl_play.proofs.Moments.{unobserved}
-pub use Rattle.fbl_play.specs.Transcripts.{Transcript, history, text}
+pub use Rattle.fbl_play.specs.Transcripts.{Transcript, text}
 pub use Rattle.fbl_texts.specs.Scripts.{IsScriptFault, IsScriptOf, Outline, behaviour_word, outline}
 pub use Rattle.fbl_texts.specs.declared.script.Command.{Command}
 pub use Rattle.fblrun.specs.Merging.{RefusesMerge, merge_status}

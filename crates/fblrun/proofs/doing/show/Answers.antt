@@ -1,4 +1,4 @@
-use Rattle.fblrun.proofs.Common.{◌≡◌, ◌∙◌, IsShown, behaviour_word, history, history_picture, outline, puts_text}
+use Rattle.fblrun.proofs.Common.{◌≡◌, ◌∙◌, IsShown, behaviour_word, history_picture, outline, puts_text}
 use Rattle.fblrun.proofs.doing.show.Goals as goal
 
 pub returns : goal.returns
