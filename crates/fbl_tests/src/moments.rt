@@ -46,6 +46,16 @@ fn second() -> Determinant {
     first_receipt(Member::at(1), Member::at(2))
 }
 
+/// That of member 1's message to member 0, the second one that it sends.
+fn third() -> Determinant {
+    Determinant {
+        from: Member::at(1),
+        ssn: 2,
+        to: Member::at(0),
+        rsn: 1,
+    }
+}
+
 fn three() -> Group {
     Group {
         members: 3,
@@ -147,12 +157,6 @@ fn finds_the_middle_unsafe(rt: HostRuntime) -> Result<(), Fail> {
 #[test]
 fn judges_cuts_in_whichever_order(rt: HostRuntime) {
     let alloc = rt.alloc();
-    let third = Determinant {
-        from: Member::at(1),
-        ssn: 2,
-        to: Member::at(0),
-        rsn: 1,
-    };
     let learned_before = [
         event(send(0, 1, 1)),
         event(receipt(1, 1, 0, 1)),
@@ -161,7 +165,7 @@ fn judges_cuts_in_whichever_order(rt: HostRuntime) {
         event(send(1, 2, 0)),
         event(receipt(0, 1, 1, 2)),
         hold(0, first()),
-        hold(0, third),
+        hold(0, third()),
         event(receipt(2, 1, 1, 1)),
         hold(2, second()),
     ];
@@ -176,7 +180,7 @@ fn judges_cuts_in_whichever_order(rt: HostRuntime) {
         event(send(1, 2, 0)),
         event(receipt(0, 1, 1, 2)),
         hold(0, first()),
-        hold(0, third),
+        hold(0, third()),
     ];
     assert!(rt; says(alloc, &learned_behind, &[orphan_of_first(4)]));
 }
@@ -250,7 +254,8 @@ fn refuses_what_is_no_run(rt: HostRuntime) {
         rule: RecordRule::Outside(outsider),
     };
     assert!(rt; is_refused(alloc, &outside, RunFault::Record(fault)));
-    match check_run(alloc, &three(), &outside[1..]) {
+    let never_sent = [event(receipt(1, 1, 0, 1)), hold(3, first())];
+    match check_run(alloc, &three(), &never_sent) {
         Err(RunFault::Trace(refusal, Breach::Event(_))) => {
             assert!(rt; refusal == DumpRefusal::BadEvent(0))
         }

@@ -5,7 +5,7 @@ use super::fixtures::{
 };
 use fbl_base::{Member, Relay, Strike};
 use fbl_fixtures::strike;
-use fbl_group::{CrashRecord, Group, TurnRecord};
+use fbl_group::{CrashRecord, Group, Ticket, TurnRecord};
 use fbl_threads::{NoGate, Recorded, drain_recorded};
 use std::alloc::Global;
 use std::process::Abort;
@@ -41,15 +41,21 @@ fn is_crash_again(group: &mut Group<Relay>, crash: &CrashRecord) -> bool {
     }
 }
 
+/// Whether the group has this ticket to give.
+fn is_taken_again(group: &Group<Relay>, ticket: &Ticket) -> bool {
+    match group.take(ticket.to, ticket.from) {
+        Ok(taken) => taken == *ticket,
+        Err(_) => false,
+    }
+}
+
 /// Whether the turn can be made again, and answers what was recorded.
 fn is_turn_again(group: &mut Group<Relay>, turn: &TurnRecord) -> bool {
-    let ticket = turn.ticket;
-    if group.take(ticket.to, ticket.from) != Ok(ticket)
-        || group.deliver(ticket.to, ticket.from).is_err()
-    {
+    let to = turn.ticket.to;
+    if !is_taken_again(group, &turn.ticket) || group.deliver(to, turn.ticket.from).is_err() {
         return false;
     }
-    if ticket.to.number() >= group.config().members() || group.sent(ticket.to) != turn.sent {
+    if to.number() >= group.config().members() || group.sent(to) != turn.sent {
         return false;
     }
     match &turn.crash {
