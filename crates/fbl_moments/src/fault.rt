@@ -1,5 +1,6 @@
 //! Why entries are not those of a run.
 
+use crate::entry::Entry;
 use fbl_base::{Breach, DumpRefusal, Outsider};
 use thiserror::Error;
 
@@ -19,10 +20,12 @@ pub enum RecordRule {
 
 /// The first hold or store that breaks a rule: its place, from 0, among the entries, and the first rule that it breaks.
 #[derive(Clone, Copy, PartialEq, Eq, Debug, Error)]
-#[error("{rule}")]
+#[error("event {place} is {entry}, and {rule}")]
 pub struct RecordFault {
     /// Its place.
     pub place: usize,
+    /// What it is.
+    pub entry: Entry,
     /// The rule.
     pub rule: RecordRule,
 }
@@ -39,4 +42,15 @@ pub enum RunFault {
     /// There is no memory for what the check keeps.
     #[error("out of memory")]
     Memory,
+}
+
+/// What a log is refused for, with the numbers that were given. Places are those among all entries.
+#[derive(Clone, Copy, PartialEq, Eq, Debug, Error)]
+pub enum LogBreach {
+    /// The group's numbers, the strike set, or a send or receipt.
+    #[error("{0}")]
+    Trace(Breach),
+    /// A hold or a store.
+    #[error("{0}")]
+    Record(RecordFault),
 }
