@@ -1,4 +1,4 @@
-//! Drains by one and by several workers.
+//! Drains by one and by several workers, and such as hand out their turns.
 
 use crate::circulate::Circulate;
 use crate::load::beside_load;
@@ -8,7 +8,7 @@ use crate::times::{TRIES, microseconds_since, print_rate};
 use anyhow::Result;
 use fbl_base::{Behaviour, Config, Member, Note, Start};
 use fbl_group::Group;
-use fbl_threads::{NoGate, drain};
+use fbl_threads::{NoGate, drain, drain_recorded};
 use std::alloc::{AllocError, Global};
 use std::sync::Wait;
 use std::thread::Threads;
@@ -24,19 +24,66 @@ const LOST: u8 = 1;
 const TURNS: u32 = 1_000_000;
 
 /// Times the drain of equal groups by 1, 2, 4 and 8 workers in threads, by a step that takes no time and by one that does;
-/// of groups with one message by 1 and 8; and of the first ones beside a load.
+/// of groups with one message by 1 and 8; of the first ones where the turns are handed out; and of the first ones beside a load.
 pub fn time_workers<T: Threads + Wait + Sync>(rt: &HostRuntime, threads: &T) -> Result<()> {
-    time_drains::<Circulate, T>(rt, threads, "short step", MEMBERS, &[1, 2, 4, 8])?;
-    time_drains::<LongCirculate, T>(rt, threads, "long step", MEMBERS, &[1, 2, 4, 8])?;
-    time_drains::<Circulate, T>(rt, threads, "sparse drain", 1, &[1, 8])?;
+    time_drains::<Circulate, T>(rt, threads, SHORT_STEP, &[1, 2, 4, 8])?;
+    time_drains::<LongCirculate, T>(rt, threads, LONG_STEP, &[1, 2, 4, 8])?;
+    time_drains::<Circulate, T>(rt, threads, SPARSE, &[1, 8])?;
+    time_drains::<Circulate, T>(rt, threads, RECORDED, &[1, 2, 4, 8])?;
     beside_load(threads, || time_loaded_drains(rt, threads))
 }
 
 /// Times the drains that are timed beside a load.
 fn time_loaded_drains<T: Threads + Wait + Sync>(rt: &HostRuntime, threads: &T) -> Result<()> {
-    time_drains::<Circulate, T>(rt, threads, "loaded drain short step", MEMBERS, &[1, 8])?;
-    time_drains::<LongCirculate, T>(rt, threads, "loaded drain long step", MEMBERS, &[1, 8])
+    time_drains::<Circulate, T>(rt, threads, LOADED_SHORT_STEP, &[1, 8])?;
+    time_drains::<LongCirculate, T>(rt, threads, LOADED_LONG_STEP, &[1, 8])
 }
+
+/// Which drain is timed.
+#[derive(Clone, Copy)]
+struct Case {
+    name: &'static str,
+    /// How many messages are in flight at first.
+    messages: u8,
+    /// Whether the turns are handed out.
+    is_recorded: bool,
+}
+
+const SHORT_STEP: Case = Case {
+    name: "short step",
+    messages: MEMBERS,
+    is_recorded: false,
+};
+
+const LONG_STEP: Case = Case {
+    name: "long step",
+    messages: MEMBERS,
+    is_recorded: false,
+};
+
+const SPARSE: Case = Case {
+    name: "sparse drain",
+    messages: 1,
+    is_recorded: false,
+};
+
+const RECORDED: Case = Case {
+    name: "recorded short step",
+    messages: MEMBERS,
+    is_recorded: true,
+};
+
+const LOADED_SHORT_STEP: Case = Case {
+    name: "loaded drain short step",
+    messages: MEMBERS,
+    is_recorded: false,
+};
+
+const LOADED_LONG_STEP: Case = Case {
+    name: "loaded drain long step",
+    messages: MEMBERS,
+    is_recorded: false,
+};
 
 /// What a drain did, which ends when the trace is full: each delivery makes two events.
 #[derive(Clone, Copy)]
@@ -60,16 +107,15 @@ fn ring<B: Behaviour<State = u64, Note = Note>>(alloc: Global, messages: u8) -> 
     Ok(Group::new(alloc, config)?)
 }
 
-/// Times the drains of groups with so many messages by each number of workers.
+/// Times the drains of a case by each number of workers.
 fn time_drains<B: Behaviour<State = u64, Note = Note> + Send + Sync, T: Threads + Wait + Sync>(
     rt: &HostRuntime,
     threads: &T,
-    name: &str,
-    messages: u8,
+    case: Case,
     numbers: &[u8],
 ) -> Result<()> {
     for workers in numbers {
-        time_drain::<B, T>(rt, threads, name, messages, *workers)?;
+        time_drain::<B, T>(rt, threads, case, *workers)?;
     }
     Ok(())
 }
@@ -78,15 +124,15 @@ fn time_drains<B: Behaviour<State = u64, Note = Note> + Send + Sync, T: Threads 
 fn time_drain<B: Behaviour<State = u64, Note = Note> + Send + Sync, T: Threads + Wait + Sync>(
     rt: &HostRuntime,
     threads: &T,
-    name: &str,
-    messages: u8,
+    case: Case,
     workers: u8,
 ) -> Result<()> {
-    let (mut least, drained) = try_drain::<B, T>(rt, threads, messages, workers)?;
+    let (mut least, drained) = try_drain::<B, T>(rt, threads, case, workers)?;
     for _ in 1..TRIES {
-        let (taken, _again) = try_drain::<B, T>(rt, threads, messages, workers)?;
+        let (taken, _again) = try_drain::<B, T>(rt, threads, case, workers)?;
         least = least.min(taken);
     }
+    let name = case.name;
     let name = format!(in rt.alloc(); "{name} workers {workers}")?;
     println!(rt;
         "{name}: delivered {} full {}",
@@ -95,19 +141,27 @@ fn time_drain<B: Behaviour<State = u64, Note = Note> + Send + Sync, T: Threads +
     print_rate(rt, &name, "deliveries", drained.receipts, least)
 }
 
-/// Drains a group with so many messages, and answers how many microseconds it took and what was done.
+/// Drains the group of a case, and answers how many microseconds it took and what was done.
 fn try_drain<B: Behaviour<State = u64, Note = Note> + Send + Sync, T: Threads + Wait + Sync>(
     rt: &HostRuntime,
     threads: &T,
-    messages: u8,
+    case: Case,
     workers: u8,
 ) -> Result<(u128, Drain)> {
     let alloc = rt.alloc();
-    let group = ring::<B>(alloc, messages)?;
+    let group = ring::<B>(alloc, case.messages)?;
     let start = Instant::now(rt)?;
-    let (group, drained) = drain(threads, alloc, group, &[], workers, TURNS, &NoGate);
+    let (group, full, turns) = if case.is_recorded {
+        let (group, recorded) = drain_recorded(threads, alloc, group, &[], workers, TURNS, &NoGate);
+        let recorded = recorded?;
+        (group, recorded.drained.full, Some(recorded.turns))
+    } else {
+        let (group, drained) = drain(threads, alloc, group, &[], workers, TURNS, &NoGate);
+        (group, drained?.full, None)
+    };
     let taken = microseconds_since(rt, start)?;
-    let full = drained?.full;
     let receipts = group.receipts_ever().min(u64::from(LIMIT)) as u32;
+    // the turns are given back to memory when the time is taken
+    drop(turns);
     Ok((taken, Drain { receipts, full }))
 }
