@@ -7,6 +7,8 @@ use Rattle.fbl_base.specs.declared.trace.Start.{Start}
 use Rattle.fbl_base.specs.declared.trace.Determinant.{Determinant}
 use Rattle.fbl_base.specs.declared.trace.Mark.{Mark}
 use Rattle.fbl_base.specs.declared.trace.Mark.TheVariants.{Send, Receipt}
+use Rattle.fbl_moments.specs.declared.entry.Entry.{Entry}
+use Rattle.fbl_moments.specs.declared.entry.Entry.TheVariants.{Event, Hold, Store}
 use Rattle.fbl_input.specs.declared.fault.Key.{Key}
 use Rattle.fbl_input.specs.declared.fault.Key.TheVariants as keys
 use Rattle.fbl_input.specs.declared.misfit.InputKind.{InputKind}
@@ -55,18 +57,38 @@ pair_from _ = None
 abbrev pub pair_shape : Data → Option (ℕ × Determinant)
 pair_shape d = option_and_then pair_from (as_list d)
 
+-- `["hold", holder, from, ssn, to, rsn]` or `["store", member, from, ssn, to, rsn]`
+abbrev pub record_from : Data → List Data → Option Entry
+record_from name pair =
+    if is_text (codes "hold") name then option_map (λ h. Hold h.0 h.1) (pair_from pair)
+    else (if is_text (codes "store") name then option_map (λ h. Store h.0 h.1) (pair_from pair) else None)
+
+abbrev pub entry_from : List Data → Option Entry
+entry_from (name ∷ member ∷ from ∷ ssn ∷ to ∷ rsn ∷ []) = record_from name (member ∷ from ∷ ssn ∷ to ∷ rsn ∷ [])
+entry_from items = option_map Event (event_from items)
+
+-- an event of a dump of version 2
+abbrev pub entry_shape : Data → Option Entry
+entry_shape d = option_and_then entry_from (as_list d)
+
+-- whether the value is an event of an input of this kind
+abbrev pub is_event : InputKind → Data → Bool
+is_event kinds.Log d = is_some (entry_shape d)
+is_event kind d = is_some (event_shape d)
+
 -- whether the value may stand in the list at the key; what a command is depends on the version, and is said elsewhere
-abbrev pub is_item : Key → Data → Bool
-is_item keys.Start d = is_some (start_shape d)
-is_item keys.Events d = is_some (event_shape d)
-is_item keys.Held d = is_some (pair_shape d)
-is_item keys.Strike d = is_some (member_shape d)
-is_item key d = true
+abbrev pub is_item : InputKind → Key → Data → Bool
+is_item kind keys.Start d = is_some (start_shape d)
+is_item kind keys.Events d = is_event kind d
+is_item kind keys.Held d = is_some (pair_shape d)
+is_item kind keys.Strike d = is_some (member_shape d)
+is_item kind key d = true
 
 -- the keys that an input of this kind may have
 abbrev pub known_keys : InputKind → List Key
 known_keys kinds.Script = keys.Version ∷ keys.Members ∷ keys.F ∷ keys.Behaviour ∷ keys.Limit ∷ keys.Start ∷ keys.Commands ∷ []
 known_keys kinds.Dump = keys.Members ∷ keys.F ∷ keys.Events ∷ keys.Held ∷ keys.Strike ∷ []
+known_keys kinds.Log = keys.Version ∷ keys.Members ∷ keys.F ∷ keys.Events ∷ keys.Strike ∷ []
 
 -- the first key of the value that an input of this kind may not have
 abbrev pub unknown_key : InputKind → Data → Option (List ℕ)

@@ -37,6 +37,8 @@ run_fault (misfits.Config config.Memory breach) = faults.Memory
 run_fault (misfits.Config refusal breach) = faults.Config refusal
 run_fault (misfits.Dump dump.Memory breach) = faults.Memory
 run_fault (misfits.Dump refusal breach) = faults.Dump refusal
+run_fault (misfits.Log dump.Memory breach) = faults.Memory
+run_fault (misfits.Log refusal breach) = faults.Dump refusal
 run_fault misfits.Memory = faults.Memory
 
 -- what a function returned, seen by view, is what is asked, unless memory ran out
@@ -49,6 +51,7 @@ abbrev pub IsOfShape : Misfit → Type 0
 IsOfShape misfits.Read = ⊥
 IsOfShape (misfits.Config refusal breach) = ⊥
 IsOfShape (misfits.Dump refusal breach) = ⊥
+IsOfShape (misfits.Log refusal breach) = ⊥
 IsOfShape e = Unit {0}
 
 -- the value at the place of the list is the first that fails the test
@@ -100,8 +103,8 @@ is_second d = by_number (option_and_then count_shape (get (name_of keys.Version)
 -- blame, or a list of which the item at its place is the first such; what is wanted there; and which key is unknown
 abbrev pub IsMisfit : InputKind → Data → Misfit → Type 0
 IsMisfit kind d (misfits.MissingKey key unknown) = (get (name_of key) d ≡ None) × (option_map string_bytes unknown ≡ unknown_key kind d)
-IsMisfit kind d (misfits.BadValue key) = (is_some (get (name_of key) d) ≡ true) × AllPass (is_item key) (items_at key d)
-IsMisfit kind d (misfits.BadItem key place) = IsFirstOther (is_item key) (items_at key d) place
+IsMisfit kind d (misfits.BadValue key) = (is_some (get (name_of key) d) ≡ true) × AllPass (is_item kind key) (items_at key d)
+IsMisfit kind d (misfits.BadItem key place) = IsFirstOther (is_item kind key) (items_at key d) place
 IsMisfit kind d (misfits.BadCommand place wanted) =
     (place < 1024) × (option_map (wanted_form (is_second d)) (slice_get (items_at keys.Commands d) place) ≡ Some wanted)
 IsMisfit kind d (misfits.UnknownKey name) = unknown_key kind d ≡ Some (string_bytes name)

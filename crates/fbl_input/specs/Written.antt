@@ -22,14 +22,16 @@ part_at (misfits.BadItem key place) d = option_and_then (at place) (get (name_of
 part_at (misfits.BadCommand place wanted) d = option_and_then (at place) (get (name_of keys.Commands) d)
 part_at fault d = None
 
--- the kind of an input that has the list of one kind, commands or events, and not that of the other
+-- the kind of an input that has the list of one kind, commands or events, and not that of the other; of events, by whether it has a
+-- version
 abbrev pub kind_of : Json → Option InputKind
-kind_of d = by_lists (is_some (get (name_of keys.Commands) d)) (is_some (get (name_of keys.Events) d))
+kind_of d = by_keys (is_some (get (name_of keys.Commands) d)) (is_some (get (name_of keys.Events) d)) (is_some (get (name_of keys.Version) d))
   where
-    by_lists : Bool → Bool → Option InputKind
-    by_lists true false = Some kinds.Script
-    by_lists false true = Some kinds.Dump
-    by_lists commands events = None
+    by_keys : Bool → Bool → Bool → Option InputKind
+    by_keys true false version = Some kinds.Script
+    by_keys false true true = Some kinds.Log
+    by_keys false true false = Some kinds.Dump
+    by_keys commands events version = None
 
 -- what is told of the value is so: the text of that part, without spaces, or nothing where there is no such part; or its kind,
 -- where it is another than the one that is wanted

@@ -36,15 +36,18 @@ pub struct Explanation<'a> {
     detail: Detail,
 }
 
-/// The kind of an input that has the list of a script, commands, or that of a dump, events, and not both.
+/// The kind of an input that has the list of a script, commands, or that of a dump, events, and not both. A dump that has a version is
+/// one of version 2.
 fn kind_in(value: &Value<'_>) -> Option<InputKind>
     ensures { result ≡ kind_of (value_view value.now) }
 {
     let has_commands = value.get(Key::Commands.name()).is_some();
     let has_events = value.get(Key::Events.name()).is_some();
-    match (has_commands, has_events) {
-        (true, false) => Some(InputKind::Script),
-        (false, true) => Some(InputKind::Dump),
+    let has_version = value.get(Key::Version.name()).is_some();
+    match (has_commands, has_events, has_version) {
+        (true, false, _) => Some(InputKind::Script),
+        (false, true, true) => Some(InputKind::Log),
+        (false, true, false) => Some(InputKind::Dump),
         _ => None,
     }
 }
@@ -135,25 +138,35 @@ impl InputFault {
     }
 }
 
-/// Writes that the input is of this kind, and must be of the other.
-fn write_other_kind<W: fmt::Write>(f: &mut fmt::Formatter<W>, found: InputKind) -> fmt::Result {
-    let (name, readers, other, wanted) = match found {
-        InputKind::Script => ("script", "play and show", "dump", InputKind::Dump),
-        InputKind::Dump => ("dump", "audit, check and draw", "script", InputKind::Script),
+/// Writes that the input is of this kind, and must be of the other. A script may be meant as a dump of either version.
+fn write_other_kind<W: fmt::Write>(
+    f: &mut fmt::Formatter<W>,
+    found: InputKind,
+    wanted: InputKind,
+) -> fmt::Result {
+    let (name, readers) = match found {
+        InputKind::Script => ("script", "play and show"),
+        InputKind::Dump => ("dump", "audit, check and draw"),
+        InputKind::Log => ("dump of version 2", "audit, check and draw"),
+    };
+    let (other, keys) = match wanted {
+        InputKind::Script => ("script", InputKind::Script),
+        InputKind::Dump | InputKind::Log => ("dump", InputKind::Dump),
     };
     write!(
         f,
-        "the input is a {name}, which {readers} read, and must be a {other}: {wanted}"
+        "the input is a {name}, which {readers} read, and must be a {other}: {keys}"
     )
 }
 
 /// Writes which key is missing, and the first that is unknown.
 fn write_missing<W: fmt::Write>(
     f: &mut fmt::Formatter<W>,
+    kind: InputKind,
     key: Key,
     unknown: Option<&String>,
 ) -> fmt::Result {
-    let wanted = Misfit::wanted_at(key);
+    let wanted = kind.wanted_at(key);
     write!(f, "{key} is missing, and must be {wanted}")?;
     match unknown {
         Some(name) => write!(f, "; the key {name:?} is unknown"),
@@ -168,6 +181,7 @@ fn write_misfit<W: fmt::Write>(
     found: &str,
 ) -> fmt::Result {
     let found = ShownText(found);
+    let kind = fault.kind;
     match &fault.misfit {
         Misfit::TooLong => {
             f.write_str("the input has more than 1048576 bytes, and may have no more")
@@ -179,13 +193,13 @@ fn write_misfit<W: fmt::Write>(
             )
         }
         Misfit::NotObject => write!(f, "the input must be one JSON object, and is {found}"),
-        Misfit::MissingKey { key, unknown } => write_missing(f, *key, unknown.as_ref()),
+        Misfit::MissingKey { key, unknown } => write_missing(f, kind, *key, unknown.as_ref()),
         Misfit::BadValue(key) => {
-            let wanted = Misfit::wanted_at(*key);
+            let wanted = kind.wanted_at(*key);
             write!(f, "{key} is {found}, and must be {wanted}")
         }
         Misfit::BadItem { key, place } => {
-            let (name, wanted) = Misfit::wanted_item(*key);
+            let (name, wanted) = kind.wanted_item(*key);
             write!(f, "{name} {place} is {found}, and must be {wanted}")
         }
         Misfit::TooManyCommands => {
@@ -194,11 +208,9 @@ fn write_misfit<W: fmt::Write>(
         Misfit::BadCommand { place, wanted } => {
             write!(f, "command {place} is {found}, and must be {wanted}")
         }
-        Misfit::UnknownKey(name) => {
-            let kind = fault.kind;
-            write!(f, "the key {name:?} is unknown: {kind}")
-        }
+        Misfit::UnknownKey(name) => write!(f, "the key {name:?} is unknown: {kind}"),
         Misfit::Config(_, breach) | Misfit::Dump(_, breach) => write!(f, "{breach}"),
+        Misfit::Log(_, breach) => write!(f, "{breach}"),
         Misfit::Read | Misfit::Memory => write!(f, "{fault}"),
     }
 }
@@ -207,7 +219,7 @@ impl fmt::Display for Explanation<'_> {
     fn fmt<W: fmt::Write>(&self, f: &mut fmt::Formatter<W>) -> fmt::Result {
         match &self.detail {
             Detail::Nothing => write_misfit(f, self.fault, "another value"),
-            Detail::OtherKind(found) => write_other_kind(f, *found),
+            Detail::OtherKind(found) => write_other_kind(f, *found, self.fault.kind),
             Detail::Written(text) => write_misfit(f, self.fault, text.as_str()),
             Detail::NotJson(stop) => {
                 write_misfit(f, self.fault, "")?;

@@ -5,6 +5,7 @@ ghost use Rattle.fbl_input.specs.declared.misfit.Misfit.TheVariants.{Memory};
 
 use crate::fault::{Key, RunFault};
 use fbl_base::{Breach, ConfigRefusal, DumpRefusal};
+use fbl_moments::LogBreach;
 use serde_json::Error as JsonError;
 use std::alloc::{AllocError, AllocFailed};
 use thiserror::Error;
@@ -19,6 +20,8 @@ pub enum InputKind {
     Script,
     #[error("a dump has members, f, events, held and strike")]
     Dump,
+    #[error("a dump of version 2 has version, members, f, events and strike")]
+    Log,
 }
 
 impl InputKind {
@@ -39,6 +42,52 @@ impl InputKind {
                 Key::Commands,
             ],
             InputKind::Dump => &[Key::Members, Key::F, Key::Events, Key::Held, Key::Strike],
+            InputKind::Log => &[Key::Version, Key::Members, Key::F, Key::Events, Key::Strike],
+        }
+    }
+
+    /// What is wanted at the key.
+    pub fn wanted_at(self, key: Key) -> &'static str {
+        match (key, self) {
+            (Key::Version, InputKind::Log) => "2, or no such key",
+            (Key::Version, _) => "1 or 2",
+            (Key::Members, _) => "a number 2 to 16",
+            (Key::F, _) => "a number 1 to one less than members",
+            (Key::Behaviour, _) => "\"relay\" or \"mix\"",
+            (Key::Limit, _) => "a number 1 to 8192",
+            (Key::Start, _) => "a list of starts [from, to, value, hops]",
+            (Key::Commands, _) => "a list of commands",
+            (Key::Events, InputKind::Log) =>
+                "a list of events [\"send\", from, number, to], [\"receipt\", to, number, from, number of the send], [\"hold\", holder, from, number of the send, to, number of the receipt] and [\"store\", member, from, number of the send, to, number of the receipt]",
+            (Key::Events, _) =>
+                "a list of events [\"send\", from, number, to] and [\"receipt\", to, number, from, number of the send]",
+            (Key::Held, _) =>
+                "a list of pairs [holder, from, number of the send, to, number of the receipt]",
+            (Key::Strike, _) => "a list of members 0 to 15",
+        }
+    }
+
+    /// What an item of the list at the key is called, and what it has to be.
+    pub fn wanted_item(self, key: Key) -> (&'static str, &'static str) {
+        match (key, self) {
+            (Key::Start, _) => (
+                "start",
+                "[from, to, value, hops]: members 0 to 15, value 0 to 4294967295, hops 0 to 15",
+            ),
+            (Key::Events, InputKind::Log) => (
+                "event",
+                "[\"send\", from, number, to], [\"receipt\", to, number, from, number of the send], [\"hold\", holder, from, number of the send, to, number of the receipt] or [\"store\", member, from, number of the send, to, number of the receipt]: members 0 to 15, numbers 0 to 4294967295",
+            ),
+            (Key::Events, _) => (
+                "event",
+                "[\"send\", from, number, to] or [\"receipt\", to, number, from, number of the send]: members 0 to 15, numbers 0 to 4294967295",
+            ),
+            (Key::Held, _) => (
+                "held pair",
+                "[holder, from, number of the send, to, number of the receipt]: members 0 to 15, numbers 0 to 4294967295",
+            ),
+            (Key::Strike, _) => ("struck member", "a member 0 to 15"),
+            _ => (key.name(), self.wanted_at(key)),
         }
     }
 }
@@ -95,48 +144,10 @@ pub enum Misfit {
     Config(ConfigRefusal, Breach),
     /// The dump breaks a rule.
     Dump(DumpRefusal, Breach),
+    /// The dump of version 2 does.
+    Log(DumpRefusal, LogBreach),
     /// There is no memory.
     Memory,
-}
-
-impl Misfit {
-    /// What is wanted at the key.
-    pub fn wanted_at(key: Key) -> &'static str {
-        match key {
-            Key::Version => "1 or 2",
-            Key::Members => "a number 2 to 16",
-            Key::F => "a number 1 to one less than members",
-            Key::Behaviour => "\"relay\" or \"mix\"",
-            Key::Limit => "a number 1 to 8192",
-            Key::Start => "a list of starts [from, to, value, hops]",
-            Key::Commands => "a list of commands",
-            Key::Events =>
-                "a list of events [\"send\", from, number, to] and [\"receipt\", to, number, from, number of the send]",
-            Key::Held =>
-                "a list of pairs [holder, from, number of the send, to, number of the receipt]",
-            Key::Strike => "a list of members 0 to 15",
-        }
-    }
-
-    /// What an item of the list at the key is called, and what it has to be.
-    pub fn wanted_item(key: Key) -> (&'static str, &'static str) {
-        match key {
-            Key::Start => (
-                "start",
-                "[from, to, value, hops]: members 0 to 15, value 0 to 4294967295, hops 0 to 15",
-            ),
-            Key::Events => (
-                "event",
-                "[\"send\", from, number, to] or [\"receipt\", to, number, from, number of the send]: members 0 to 15, numbers 0 to 4294967295",
-            ),
-            Key::Held => (
-                "held pair",
-                "[holder, from, number of the send, to, number of the receipt]: members 0 to 15, numbers 0 to 4294967295",
-            ),
-            Key::Strike => ("struck member", "a member 0 to 15"),
-            _ => (key.name(), Misfit::wanted_at(key)),
-        }
-    }
 }
 
 impl Misfit {
@@ -160,6 +171,8 @@ impl Misfit {
             Misfit::Config(refusal, _) => RunFault::Config(*refusal),
             Misfit::Dump(DumpRefusal::Memory, _) => RunFault::Memory,
             Misfit::Dump(refusal, _) => RunFault::Dump(*refusal),
+            Misfit::Log(DumpRefusal::Memory, _) => RunFault::Memory,
+            Misfit::Log(refusal, _) => RunFault::Dump(*refusal),
             Misfit::Memory => RunFault::Memory,
         }
     }

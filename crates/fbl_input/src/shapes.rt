@@ -204,7 +204,7 @@ pub fn value_field<T: Copy, S: JsonShape<T>>(
     ensures exact { Gives (λ x. x) result (field key S.shape (view value.now)) }
     ensures faults { IfErr result IsOfShape }
     ensures field { IfErr result (IsOfField kind key (view value.now)) }
-    ensures misfit { ((d : Data) → is_item key d ≡ true) → IfErr result (IsMisfit kind (view value.now)) }
+    ensures misfit { ((d : Data) → is_item kind key d ≡ true) → IfErr result (IsMisfit kind (view value.now)) }
 {
     let found = value_at(alloc, kind, value, key)?;
     S::in_value(found).ok_or(Misfit::BadValue(key))
@@ -234,7 +234,7 @@ pub fn values_field<T: Copy, S: JsonShape<T>>(
     value: &Value,
     key: Key,
 ) -> Result<Vec<T>, Misfit>
-    requires { (d : Data) → is_item key d ≡ is_some (S.shape d) }
+    requires { (d : Data) → is_item kind key d ≡ is_some (S.shape d) }
     ensures exact { Gives (λ v. v.items) result (field key (list_of S.shape) (view value.now)) }
     ensures faults { IfErr result IsOfShape }
     ensures misfit { IfErr result (IsMisfit kind (view value.now)) }

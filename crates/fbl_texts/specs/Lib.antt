@@ -5,3 +5,6 @@ pub mod DumpLines
 pub mod Auditing
 pub mod Sets
 pub mod Lines
+pub mod Logs
+pub mod LogLines
+pub mod LogAuditing

@@ -5,6 +5,7 @@ use Rattle.std.specs.Ordering.{nat_cmp}
 use Rattle.std.specs.FinSet as set
 use Rattle.fbl_audit.specs.declared.checking.UnsafeReceipt.{UnsafeReceipt}
 use Rattle.fbl_base.specs.declared.trace.Determinant.{Determinant}
+use Rattle.fbl_moments.specs.declared.check.UnsafeMoment.{UnsafeMoment}
 use Rattle.fbl_texts.specs.Sets.{set_words}
 
 -- the pieces one after another, and the end of the line
@@ -31,3 +32,10 @@ abbrev pub unsafe_line : UnsafeReceipt → List ℕ
 unsafe_line u =
     line (codes "unsafe " ∷ decimal u.determinant.from ∷ codes " " ∷ decimal u.determinant.ssn ∷ codes " " ∷ decimal u.determinant.to ∷ codes " " ∷ decimal u.determinant.rsn
     ∷ codes " strike " ∷ set_words u.strike ∷ codes " orphans " ∷ set_words u.orphans ∷ [])
+
+-- a receipt that could be lost at a moment: its determinant, the place of the moment in its file with the words for that file, the
+-- members lost then, and the orphans that are left
+abbrev pub unsafe_moment_line : ℕ → List ℕ → UnsafeMoment → List ℕ
+unsafe_moment_line place file u =
+    line (codes "unsafe " ∷ decimal u.determinant.from ∷ codes " " ∷ decimal u.determinant.ssn ∷ codes " " ∷ decimal u.determinant.to ∷ codes " " ∷ decimal u.determinant.rsn
+    ∷ codes " at " ∷ decimal place ∷ file ∷ codes " strike " ∷ set_words u.strike ∷ codes " orphans " ∷ set_words u.orphans ∷ [])

@@ -1,10 +1,14 @@
 -- An input that has the form of a dump, whether or not it obeys the rules of one, or its first fault.
 use Rattle.std.specs.Prelude.{◌≡◌, ℕ, List, Ok}
-use Rattle.fbl_base.specs.Audit.{Parts, parts_of}
+use Rattle.fbl_base.specs.Audit.{Parts, RefusesDump, parts_of}
+use Rattle.fbl_base.specs.Breaches.{IsDumpBreach}
+use Rattle.fbl_base.specs.declared.fault.Breach.{Breach}
+use Rattle.fbl_base.specs.declared.refusal.DumpRefusal.{DumpRefusal}
 use Rattle.fbl_input.specs.declared.fault.RunFault.{RunFault}
 use Rattle.fbl_input.specs.declared.input_fault.InputFault.{InputFault}
 use Rattle.fbl_input.specs.declared.misfit.InputKind.TheVariants as kinds
 use Rattle.fbl_input.specs.declared.misfit.Misfit.{Misfit}
+use Rattle.fbl_input.specs.declared.misfit.Misfit.TheVariants as misfits
 use Rattle.fbl_input.specs.Misfits.{IsOfParts}
 use Rattle.fbl_input.specs.Faults.{IsFaultOf, IsFirstFault, IsReadFault}
 use Rattle.fbl_texts.specs.Dumps.{parts_of_input}
@@ -29,3 +33,11 @@ IsFormMisfit input = IsFaultOf kinds.Dump (parts_of_input input) RefusesNone IsO
 -- the fault of a reader of what has the form of a dump is so
 abbrev pub IsNoRawDump : List ℕ → InputFault → Type 0
 IsNoRawDump = IsReadFault kinds.Dump IsFormMisfit
+
+-- the fault is a refusal of what the input gives
+pub record IsRefusalOf (found : DumpInput) (fault : InputFault) : Type 0 where
+  pub refusal : DumpRefusal
+  pub breach : Breach
+  pub is : fault ≡ record { kind = kinds.Dump; misfit = misfits.Dump refusal breach; input = found.bytes }
+  pub refused : RefusesDump (parts_of found.raw) refusal
+  pub why : IsDumpBreach (parts_of found.raw) refusal breach

@@ -53,7 +53,11 @@ fn push_determinants(
 }
 
 /// The lines of an audit: how many receipts are lost, the determinant of each, and the orphans.
-fn lines_text(alloc: Global, lost: &[Determinant], orphans: MemberSet) -> Result<String, AllocError>
+pub(crate) fn lines_text(
+    alloc: Global,
+    lost: &[Determinant],
+    orphans: MemberSet,
+) -> Result<String, AllocError>
     ensures { IfOk result (λ text. string_bytes text ≡ audit_lines lost.now orphans) }
 {
     let count = lost.len();

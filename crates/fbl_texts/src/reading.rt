@@ -1,14 +1,14 @@
 //! Dumps as JSON.
 
-ghost use Rattle.std.specs.Prelude.{◌≡◌, map, Ok, IfOk, IfErr, IfSome};
+ghost use Rattle.std.specs.Prelude.{◌≡◌, [], ◌∷◌, map, Ok, IfOk, IfErr, IfSome};
 ghost use Rattle.serde_json.specs.Data.{Data};
 ghost use Rattle.serde_json.specs.View.{view};
-ghost use Rattle.fbl_base.specs.Audit.{parts_of};
-ghost use Rattle.fbl_input.specs.Items.{receipt_from, send_from};
+ghost use Rattle.fbl_base.specs.Audit.{IsDump, parts_of};
+ghost use Rattle.fbl_input.specs.Items.{event_from, pair_from, receipt_from, send_from};
 ghost use Rattle.fbl_input.specs.Misfits.{Gives, IsMisfit, IsOfShape};
 ghost use Rattle.fbl_input.specs.declared.misfit.InputKind.TheVariants as kinds;
 ghost use Rattle.fbl_texts.specs.Dumps.{IsDumpOf, IsNoDump, parts_of_data, parts_of_input};
-ghost use Rattle.fbl_texts.specs.RawDumps.{IsFormMisfit, IsNoRawDump, IsRawDumpOf};
+ghost use Rattle.fbl_texts.specs.RawDumps.{IsFormMisfit, IsNoRawDump, IsRawDumpOf, IsRefusalOf};
 
 use fbl_base::audit::{Dump, checked_dump};
 use fbl_base::{Determinant, Mark, Member, RawDump};
@@ -46,6 +46,16 @@ fn receipt_in(name: &Value, to: &Value, rsn: &Value, from: &Value, ssn: &Value) 
     Some(Mark::Receipt { to, rsn, from, ssn })
 }
 
+pub(crate) fn event_of(list: &[Value]) -> Option<Mark>
+    ensures { result ≡ event_from (map view list.now) }
+{
+    match list {
+        [name, from, ssn, to] => send_in(name, from, ssn, to),
+        [name, to, rsn, from, ssn] => receipt_in(name, to, rsn, from, ssn),
+        _ => None,
+    }
+}
+
 /// An event: a list that begins with its name.
 struct EventShape;
 
@@ -55,12 +65,26 @@ impl JsonShape<Mark> for EventShape {
     ghost shape = { event_shape };
 
     fn in_value(value: &Value) -> Option<Mark> {
-        match list_in(value)? {
-            [name, from, ssn, to] => send_in(name, from, ssn, to),
-            [name, to, rsn, from, ssn] => receipt_in(name, to, rsn, from, ssn),
-            _ => None,
-        }
+        event_of(list_in(value)?)
     }
+}
+
+/// A holder and the parts of the determinant.
+pub(crate) fn pair_in(
+    holder: &Value,
+    from: &Value,
+    ssn: &Value,
+    to: &Value,
+    rsn: &Value,
+) -> Option<(Member, Determinant)>
+    ensures { result ≡ pair_from (view holder.now ∷ view from.now ∷ view ssn.now ∷ view to.now ∷ view rsn.now ∷ []) }
+{
+    let holder = member_in(holder)?;
+    let from = member_in(from)?;
+    let ssn = count_in(ssn)?;
+    let to = member_in(to)?;
+    let rsn = count_in(rsn)?;
+    Some((holder, Determinant { from, ssn, to, rsn }))
 }
 
 /// A held pair: a list of the holder and the parts of the determinant.
@@ -73,14 +97,7 @@ impl JsonShape<(Member, Determinant)> for PairShape {
 
     fn in_value(value: &Value) -> Option<(Member, Determinant)> {
         match list_in(value)? {
-            [holder, from, ssn, to, rsn] => {
-                let holder = member_in(holder)?;
-                let from = member_in(from)?;
-                let ssn = count_in(ssn)?;
-                let to = member_in(to)?;
-                let rsn = count_in(rsn)?;
-                Some((holder, Determinant { from, ssn, to, rsn }))
-            }
+            [holder, from, ssn, to, rsn] => pair_in(holder, from, ssn, to, rsn),
             _ => None,
         }
     }
@@ -88,7 +105,7 @@ impl JsonShape<(Member, Determinant)> for PairShape {
 
 /// The dump that a value gives, its rules not yet checked.
 #[tactic(auto, unfolding(crate::specs::Dumps::parts_of_data))]
-fn raw_dump_of(alloc: Global, value: &Value) -> Result<RawDump, Misfit>
+pub(crate) fn raw_dump_of(alloc: Global, value: &Value) -> Result<RawDump, Misfit>
     ensures exact { Gives parts_of result (parts_of_data (view value.now)) }
     ensures faults { IfErr result IsOfShape }
     ensures misfit { IfErr result (IsMisfit kinds.Dump (view value.now)) }
@@ -148,13 +165,13 @@ pub fn read_raw_dump<R: Read>(alloc: Global, reader: &mut R) -> Result<DumpInput
     }
 }
 
-/// The dump that the reader has, as one JSON object, or the first fault of the input, with the place, what stands there and
-/// what is wanted there.
-pub fn read_dump<R: Read>(alloc: Global, reader: &mut R) -> Result<Dump, InputFault>
-    ensures dump { IfOk result (λ dump. IfSome (R.remaining reader.old) (λ input. IsDumpOf input dump)) }
-    ensures fault { IfErr result (λ fault. IfSome (R.remaining reader.old) (λ input. IsNoDump input fault)) }
+/// The dump that the input is, once its rules are checked, or the first fault.
+pub(crate) fn checked_input(alloc: Global, input: DumpInput) -> Result<Dump, InputFault>
+    ensures dump { IfOk result (λ dump. dump ≡ parts_of input.raw) }
+    ensures rules { IfOk result IsDump }
+    ensures fault { IfErr result (IsRefusalOf input) }
 {
-    let DumpInput { raw, bytes } = read_raw_dump(alloc, reader)?;
+    let DumpInput { raw, bytes } = input;
     match checked_dump(alloc, raw) {
         Ok(dump) => Ok(dump),
         Err((refusal, breach)) => Err(InputFault {
@@ -163,4 +180,13 @@ pub fn read_dump<R: Read>(alloc: Global, reader: &mut R) -> Result<Dump, InputFa
             input: bytes,
         }),
     }
+}
+
+/// The dump that the reader has, as one JSON object, or the first fault of the input, with the place, what stands there and
+/// what is wanted there.
+pub fn read_dump<R: Read>(alloc: Global, reader: &mut R) -> Result<Dump, InputFault>
+    ensures dump { IfOk result (λ dump. IfSome (R.remaining reader.old) (λ input. IsDumpOf input dump)) }
+    ensures fault { IfErr result (λ fault. IfSome (R.remaining reader.old) (λ input. IsNoDump input fault)) }
+{
+    checked_input(alloc, read_raw_dump(alloc, reader)?)
 }

@@ -15,7 +15,7 @@ use serde_json::{Value, json};
 use std::alloc::{AllocError, Global};
 
 /// How a value of a type is written as JSON, from which it is read back.
-trait Form<T> {
+pub(crate) trait Form<T> {
     ghost use Rattle.std.specs.Prelude.{◌≡◌, Option, Some, IfOk};
     ghost use Rattle.serde_json.specs.Data.{Data};
     ghost use Rattle.serde_json.specs.View.{view};
@@ -31,7 +31,7 @@ trait Form<T> {
 }
 
 /// An event as a list.
-struct EventForm;
+pub(crate) struct EventForm;
 
 impl Form<Mark> for EventForm {
     ghost use Rattle.fbl_texts.specs.Dumps.{event_shape};
@@ -97,7 +97,7 @@ impl Form<Member> for MemberForm {
 }
 
 /// The items as a list.
-fn list_value<T: Copy, F: Form<T>>(alloc: Global, items: &[T]) -> Result<Value, AllocError>
+pub(crate) fn list_value<T: Copy, F: Form<T>>(alloc: Global, items: &[T]) -> Result<Value, AllocError>
     ensures value { IfOk result (λ v. view v ≡ list_data (map F.form items.now)) }
     ensures reads_back { IfOk result (λ v. All (λ x. F.shape (F.form x) ≡ Some x) items.now) }
 {
@@ -109,7 +109,7 @@ fn list_value<T: Copy, F: Form<T>>(alloc: Global, items: &[T]) -> Result<Value, 
 }
 
 /// A set as the list of its members, rising.
-fn set_value(alloc: Global, set: MemberSet) -> Result<Value, AllocError>
+pub(crate) fn set_value(alloc: Global, set: MemberSet) -> Result<Value, AllocError>
     ensures value { IfOk result (λ v. view v ≡ list_data (map number_data (member_list set))) }
     ensures reads_back { IfOk result (λ v. All (λ m. member_shape (number_data m) ≡ Some m) (member_list set)) }
 {

@@ -1,0 +1,128 @@
+-- What an input records of a run, a dump or a log, or its first fault.
+use Rattle.std.specs.Prelude.{◌≡◌, ℕ, List, is_some, Result, Ok, Err, if◌then◌else◌}
+use Rattle.serde_json.specs.Data.{Data}
+use Rattle.serde_json.specs.Find.{as_object, get}
+use Rattle.fbl_base.specs.declared.refusal.DumpRefusal.TheVariants as dump
+use Rattle.fbl_base.specs.Audit.{IsDump, parts_of}
+use Rattle.fbl_input.specs.declared.fault.Key.TheVariants as keys
+use Rattle.fbl_input.specs.declared.fault.RunFault.{RunFault}
+use Rattle.fbl_input.specs.declared.fault.RunFault.TheVariants as faults
+use Rattle.fbl_input.specs.declared.input_fault.InputFault.{InputFault}
+use Rattle.fbl_input.specs.declared.misfit.InputKind.{InputKind}
+use Rattle.fbl_input.specs.declared.misfit.InputKind.TheVariants as kinds
+use Rattle.fbl_input.specs.declared.misfit.Misfit.{Misfit}
+use Rattle.fbl_input.specs.declared.misfit.Misfit.TheVariants as misfits
+use Rattle.fbl_input.specs.Faults.{HasInput, IsFaultOf}
+use Rattle.fbl_input.specs.Items.{entry_shape, unknown_key}
+use Rattle.fbl_input.specs.Misfits.{IsOfParts}
+use Rattle.fbl_input.specs.Shapes.{◌>>=◌, or_fault, byte_shape, field, list_of, name_of, number_within, set_shape, value_of_input}
+use Rattle.fbl_moments.specs.Logs.{IsLog, IsLogBreach, LogParts, RefusesLog, parts_of_log}
+use Rattle.fbl_texts.specs.declared.recorded.Checked.{Checked}
+use Rattle.fbl_texts.specs.declared.recorded.Checked.TheVariants as parts
+use Rattle.fbl_texts.specs.declared.recorded.Recorded.{Recorded}
+use Rattle.fbl_texts.specs.declared.recorded.Recorded.TheVariants as raws
+use Rattle.fbl_texts.specs.declared.recorded.RecordedInput.{RecordedInput}
+use Rattle.fbl_texts.specs.Dumps.{RefusesParts, parts_of_data}
+
+-- ---- what an input gives
+
+-- the version of a log
+abbrev pub log_version : Data → Option ℕ
+log_version = number_within 2 2
+
+-- the parts of a log that a value gives, or its first fault
+unfoldable pub log_of_data : Data → Result LogParts RunFault
+log_of_data d = do
+  object ← or_fault faults.NotObject (as_object d)
+  version ← field keys.Version log_version d
+  members ← field keys.Members byte_shape d
+  f ← field keys.F byte_shape d
+  entries ← field keys.Events (list_of entry_shape) d
+  strike ← field keys.Strike set_shape d
+  if is_some (unknown_key kinds.Log d) then Err faults.UnknownKey else Ok (record { members = members; f = f; entries = entries; strike = strike })
+
+-- what a value is read as: a log where it has a version, and else a dump
+abbrev pub recorded_kind : Data → InputKind
+recorded_kind d = if is_some (get (name_of keys.Version) d) then kinds.Log else kinds.Dump
+
+-- the parts of what a value of this kind records of a run, or its first fault
+abbrev pub recorded_as : InputKind → Data → Result Checked RunFault
+recorded_as kinds.Log d = log_of_data d >>= λ log. Ok (parts.Log log)
+recorded_as kind d = parts_of_data d >>= λ dump. Ok (parts.Dump dump)
+
+abbrev pub recorded_of_data : Data → Result Checked RunFault
+recorded_of_data d = recorded_as (recorded_kind d) d
+
+-- the parts of what an input records of a run, or its first fault
+abbrev pub recorded_of_input : List ℕ → Result Checked RunFault
+recorded_of_input input = value_of_input input >>= recorded_of_data
+
+-- ---- what a reader says of it
+
+-- the parts, whether or not they obey the rules
+abbrev pub recorded_parts : Recorded → Checked
+recorded_parts (raws.Dump raw) = parts.Dump (parts_of raw)
+recorded_parts (raws.Log raw) = parts.Log (parts_of_log raw)
+
+-- the input gives these parts, and has these bytes
+abbrev pub IsRecordedOf : List ℕ → RecordedInput → Type 0
+IsRecordedOf input found = (recorded_of_input input ≡ Ok (recorded_parts found.recorded)) × (found.bytes.items ≡ input)
+
+-- the parts obey the rules of their kind
+abbrev pub ObeysRules : Checked → Type 0
+ObeysRules (parts.Dump dump) = IsDump dump
+ObeysRules (parts.Log log) = IsLog log
+
+-- the input records this of a run, which obeys the rules
+abbrev pub IsCheckedOf : List ℕ → Checked → Type 0
+IsCheckedOf input found = (recorded_of_input input ≡ Ok found) × ObeysRules found
+
+-- the fault is a refusal of the log
+abbrev pub RefusesLogParts : LogParts → RunFault → Type 0
+RefusesLogParts log (faults.Dump dump.Memory) = ⊥
+RefusesLogParts log (faults.Dump e) = RefusesLog log e
+RefusesLogParts log e = ⊥
+
+-- the fault is a refusal of what is recorded
+abbrev pub RefusesRecorded : Checked → RunFault → Type 0
+RefusesRecorded (parts.Dump dump) e = RefusesParts dump e
+RefusesRecorded (parts.Log log) e = RefusesLogParts log e
+
+-- what the fault says of the log that was read is so
+abbrev pub IsOfLog : LogParts → Misfit → Type 0
+IsOfLog log (misfits.Log refusal breach) = IsLogBreach log refusal breach
+IsOfLog log (misfits.Dump refusal breach) = ⊥
+IsOfLog log fault = Unit {0}
+
+-- what the fault says of what was read is so
+abbrev pub IsOfRecorded : Checked → Misfit → Type 0
+IsOfRecorded (parts.Dump dump) fault = IsOfParts dump fault
+IsOfRecorded (parts.Log log) fault = IsOfLog log fault
+
+-- the kind is that of the value that the input is, where the fault is not one of reading or of memory
+abbrev pub HasKind : Misfit → List ℕ → InputKind → Type 0
+HasKind misfits.Read input kind = Unit {0}
+HasKind misfits.Memory input kind = Unit {0}
+HasKind fault input kind = (d : Data) → value_of_input input ≡ Ok d → kind ≡ recorded_kind d
+
+-- the fault is the first of the input, where this is how what it gives may be refused, and what it says of the input is so; the kind
+-- is the input's
+pub record IsMisfitOf (Refuses : Checked → RunFault → Type 0) (input : List ℕ) (kind : InputKind) (misfit : Misfit) : Type 0 where
+  pub fault : IsFaultOf kind (recorded_of_input input) Refuses IsOfRecorded input misfit
+  pub kind : HasKind misfit input kind
+
+-- the fault of a reader, where this is how what it gives may be refused, is so, and has the input's bytes
+abbrev pub IsFaultIn : (Checked → RunFault → Type 0) → List ℕ → InputFault → Type 0
+IsFaultIn Refuses input fault = IsMisfitOf Refuses input fault.kind fault.misfit × HasInput fault.misfit fault.input.items input
+
+-- what has the form of a dump or of a log is not refused
+abbrev pub RefusesNothing : Checked → RunFault → Type 0
+RefusesNothing found fault = ⊥
+
+-- the fault of a reader of what has the form of a dump or of a log is so
+abbrev pub IsNotRecorded : List ℕ → InputFault → Type 0
+IsNotRecorded = IsFaultIn RefusesNothing
+
+-- the fault of a reader of dumps and logs is so
+abbrev pub IsNotChecked : List ℕ → InputFault → Type 0
+IsNotChecked = IsFaultIn RefusesRecorded

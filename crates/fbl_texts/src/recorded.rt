@@ -1,0 +1,132 @@
+//! What an input records of a run: a dump, or a log, which is a dump of version 2.
+
+ghost use Rattle.std.specs.Prelude.{◌≡◌, ℕ, List, Ok, IfOk, IfErr, IfSome};
+ghost use Rattle.serde_json.specs.View.{view};
+ghost use Rattle.fbl_input.specs.Misfits.{Gives, IsMisfit, IsOfShape};
+ghost use Rattle.fbl_texts.specs.Logs.{IsCheckedOf, IsNotChecked, IsNotRecorded, IsMisfitOf, IsRecordedOf, ObeysRules, RefusesNothing, recorded_kind, recorded_of_data, recorded_of_input, recorded_parts};
+
+use crate::log_reading::raw_log_of;
+use crate::reading::{DumpInput, checked_input, raw_dump_of};
+use fbl_base::RawDump;
+use fbl_base::audit::Dump;
+use fbl_input::shapes::value_in;
+use fbl_input::{InputFault, InputKind, Key, Misfit, read_input};
+use fbl_moments::{RawLog, RunLog, checked_log};
+use serde_json::Value;
+use std::alloc::Global;
+use std::io::Read;
+
+/// What an input records of a run. It may break the rules of its kind.
+#[derive(Drop)]
+pub enum Recorded {
+    /// The run's end.
+    Dump(RawDump),
+    /// The run.
+    Log(RawLog),
+}
+
+/// An input that has the form of a dump or of a log.
+#[derive(Drop)]
+pub struct RecordedInput {
+    /// What it records.
+    pub recorded: Recorded,
+    /// The bytes of the input.
+    pub bytes: Vec<u8>,
+}
+
+/// What an input records of a run, which obeys the rules of its kind.
+#[derive(Drop)]
+pub enum Checked {
+    /// The run's end.
+    Dump(Dump),
+    /// The run.
+    Log(RunLog),
+}
+
+/// What the value is read as: a log where it has a version, and else a dump.
+fn kind_of(value: &Value) -> InputKind
+    ensures { result ≡ recorded_kind (view value.now) }
+{
+    match value.get(Key::Version.name()) {
+        Some(_) => InputKind::Log,
+        None => InputKind::Dump,
+    }
+}
+
+/// What the value records of a run, its rules not yet checked.
+fn recorded_of(alloc: Global, value: &Value) -> Result<Recorded, Misfit>
+    ensures exact { Gives recorded_parts result (recorded_of_data (view value.now)) }
+    ensures faults { IfErr result IsOfShape }
+    ensures misfit { IfErr result (IsMisfit (recorded_kind (view value.now)) (view value.now)) }
+{
+    match kind_of(value) {
+        InputKind::Log => Ok(Recorded::Log(raw_log_of(alloc, value)?)),
+        _ => Ok(Recorded::Dump(raw_dump_of(alloc, value)?)),
+    }
+}
+
+/// What the bytes spell as a record of a run, or what they are read as and the first fault of their form.
+fn recorded_in(alloc: Global, input: &[u8]) -> Result<Recorded, (InputKind, Misfit)>
+    ensures parts { IfOk result (λ found. recorded_of_input input.now ≡ Ok (recorded_parts found)) }
+    ensures fault { IfErr result (λ e. IsMisfitOf RefusesNothing input.now e.0 e.1) }
+{
+    match value_in(alloc, input) {
+        Ok(value) => match recorded_of(alloc, &value) {
+            Ok(recorded) => Ok(recorded),
+            Err(misfit) => Err((kind_of(&value), misfit)),
+        },
+        Err(misfit) => Err((InputKind::Dump, misfit)),
+    }
+}
+
+/// What the reader has, as one JSON object in the form of a log where it has the key `version`, and else in the form of a dump, or the
+/// first fault of that form.
+pub fn read_recorded<R: Read>(alloc: Global, reader: &mut R) -> Result<RecordedInput, InputFault>
+    ensures parts { IfOk result (λ found. IfSome (R.remaining reader.old) (λ input. IsRecordedOf input found)) }
+    ensures fault { IfErr result (λ fault. IfSome (R.remaining reader.old) (λ input. IsNotRecorded input fault)) }
+{
+    let bytes = read_input(alloc, reader).map_err(|misfit| InputFault {
+        kind: InputKind::Dump,
+        misfit,
+        input: Vec::new(alloc),
+    })?;
+    match recorded_in(alloc, bytes.as_slice()) {
+        Ok(recorded) => Ok(RecordedInput { recorded, bytes }),
+        Err((kind, misfit)) => Err(InputFault {
+            kind,
+            misfit,
+            input: bytes,
+        }),
+    }
+}
+
+/// What the input records, once its rules are checked, or the first fault.
+pub fn checked(alloc: Global, input: RecordedInput) -> Result<Checked, InputFault>
+    ensures parts { IfOk result (λ found. found ≡ recorded_parts input.recorded) }
+    ensures rules { IfOk result ObeysRules }
+    ensures fault { (bytes : List ℕ) → IsRecordedOf bytes input → IfErr result (IsNotChecked bytes) }
+{
+    let RecordedInput { recorded, bytes } = input;
+    match recorded {
+        Recorded::Dump(raw) => {
+            Ok(Checked::Dump(checked_input(alloc, DumpInput { raw, bytes })?))
+        }
+        Recorded::Log(raw) => match checked_log(alloc, raw) {
+            Ok(log) => Ok(Checked::Log(log)),
+            Err((refusal, breach)) => Err(InputFault {
+                kind: InputKind::Log,
+                misfit: Misfit::Log(refusal, breach),
+                input: bytes,
+            }),
+        },
+    }
+}
+
+/// What the reader has, as one JSON object, a dump or a log, or the first fault of the input, with the place, what stands there and
+/// what is wanted there.
+pub fn read_checked<R: Read>(alloc: Global, reader: &mut R) -> Result<Checked, InputFault>
+    ensures checked { IfOk result (λ found. IfSome (R.remaining reader.old) (λ input. IsCheckedOf input found)) }
+    ensures fault { IfErr result (λ fault. IfSome (R.remaining reader.old) (λ input. IsNotChecked input fault)) }
+{
+    checked(alloc, read_recorded(alloc, reader)?)
+}
