@@ -5,6 +5,7 @@ ghost use Rattle.fbl_moments.specs.Logs.{IsLog, IsLogBreach, RefusesLog, parts_o
 
 use crate::entry::Entry;
 use crate::fault::LogBreach;
+use crate::lawful::refusal;
 use fbl_base::{DumpRefusal, MemberSet};
 use std::alloc::Global;
 use std::marker::Model;
@@ -74,11 +75,14 @@ impl RunLog {
 /// of memory may come before any but the group's numbers.
 pub fn checked_log(alloc: Global, raw: RawLog) -> Result<RunLog, (DumpRefusal, LogBreach)>
     ensures log { IfOk result (λ log. log ≡ parts_of_log raw) }
+    ensures rules { IfOk result IsLog }
     ensures refused { IfErr result (λ e. RefusesLog (parts_of_log raw) e.0) }
     ensures breach { IfErr result (λ e. IsLogBreach (parts_of_log raw) e.0 e.1) }
 {
-    // to be written and proved
-    Err((DumpRefusal::Memory, LogBreach::Trace(fbl_base::Breach::Memory)))
+    match refusal(alloc, &raw) {
+        None => Ok(RunLog { raw }),
+        Some(refused) => Err(refused),
+    }
 }
 
 /// Where an entry of a log stands that was put together from several: the number of its log, from 0, and its place there.
