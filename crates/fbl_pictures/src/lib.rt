@@ -12,6 +12,7 @@ mod history_messages;
 mod history_picture;
 pub mod laws;
 mod lines;
+mod log_picture;
 mod look;
 mod marks;
 mod names;
@@ -22,3 +23,4 @@ mod words;
 
 pub use dump_picture::write_picture;
 pub use history_picture::show_text;
+pub use log_picture::write_log_picture;

@@ -1,7 +1,7 @@
 //! The texts of marks.
 
 ghost use Rattle.std.specs.Prelude.{◌≡◌, ◌<◌, IfOk, length, string_bytes};
-ghost use Rattle.fbl_pictures.specs.Marks.{drawn_checkpoint, cross, drawn_held_receipt, drawn_made_and_undone, number, drawn_receipt, receipt_words, drawn_recovery, drawn_send, drawn_strike, stroke};
+ghost use Rattle.fbl_pictures.specs.Marks.{drawn_checkpoint, cross, drawn_held_receipt, drawn_hold, drawn_made_and_undone, number, numbers, drawn_receipt, receipt_words, drawn_recovery, drawn_send, drawn_store, drawn_strike, stroke};
 
 use crate::places::{below, x, y};
 use crate::shape::Kind;
@@ -161,6 +161,74 @@ pub(crate) fn held_text(
     let number = number_text(alloc, x, y + 20, false, words.as_str())?;
     format!(in alloc;
         "<path class='{class}' d='M{x} {y}{outline}'>{title}, held by {holders}</title></path>\n{number}"
+    )
+}
+
+/// The numbers under a hold or a store: that of the receipt, and that of its receiver.
+#[tactic(auto, unfolding(crate::specs::Marks::numbers))]
+fn numbers_text(
+    alloc: Global,
+    column: usize,
+    member: Member,
+    determinant: &Determinant,
+) -> Result<String, AllocError>
+    ensures { IfOk result (λ text. string_bytes text ≡ numbers column member determinant.now) }
+{
+    let x = x(column);
+    let y = y(member.number());
+    let rsn = determinant.rsn;
+    let words = format!(in alloc; "{rsn}")?;
+    let mut text = number_text(alloc, x, y + 20, false, words.as_str())?;
+    let to = determinant.to.number();
+    let words = format!(in alloc; "of {to}")?;
+    let receiver = number_text(alloc, x, y + 32, false, words.as_str())?;
+    text.push_str(receiver.as_str())?;
+    Ok(text)
+}
+
+/// The text of a hold.
+#[tactic(auto, unfolding(crate::specs::Marks::drawn_hold))]
+pub(crate) fn hold_text(
+    alloc: Global,
+    column: usize,
+    member: Member,
+    determinant: &Determinant,
+) -> Result<String, AllocError>
+    ensures { IfOk result (λ text. string_bytes text ≡ drawn_hold column member determinant.now) }
+{
+    let x = x(column) - 5;
+    let y = y(member.number());
+    let numbers = numbers_text(alloc, column, member, determinant)?;
+    let member = member.number();
+    let rsn = determinant.rsn;
+    let to = determinant.to.number();
+    format!(in alloc;
+        "<path class='hold' d='M{x} {y}a5 5 0 0 0 10 0z'>\
+         <title>member {member} holds receipt {rsn} of member {to}</title></path>\n\
+         {numbers}"
+    )
+}
+
+/// The text of a store.
+#[tactic(auto, unfolding(crate::specs::Marks::drawn_store))]
+pub(crate) fn store_text(
+    alloc: Global,
+    column: usize,
+    member: Member,
+    determinant: &Determinant,
+) -> Result<String, AllocError>
+    ensures { IfOk result (λ text. string_bytes text ≡ drawn_store column member determinant.now) }
+{
+    let x = x(column) - 4;
+    let y = y(member.number()) - 4;
+    let numbers = numbers_text(alloc, column, member, determinant)?;
+    let member = member.number();
+    let rsn = determinant.rsn;
+    let to = determinant.to.number();
+    format!(in alloc;
+        "<rect class='store' x='{x}' y='{y}' width='8' height='8'>\
+         <title>member {member} stores receipt {rsn} of member {to}</title></rect>\n\
+         {numbers}"
     )
 }
 

@@ -3,11 +3,13 @@
 ghost use Rattle.std.specs.Prelude.{◌≡◌, ◌++◌, IfOk, OnOk, string_bytes};
 ghost use Rattle.fbl_pictures.specs.Pictures.{ending, opening, picture, text_of, text_of_mark, texts_of};
 
-use crate::lines::{arrow_text, in_flight_text, label_text, line_text, name_text};
-use crate::look::{entries, look};
+use crate::lines::{
+    arrow_text, down_from_text, in_flight_text, label_text, line_text, moment_text, name_text,
+};
+use crate::look::{entries, look, more_look};
 use crate::marks::{
-    checkpoint_text, held_text, made_and_undone_text, receipt_text, recovery_text, send_text,
-    strike_text,
+    checkpoint_text, held_text, hold_text, made_and_undone_text, receipt_text, recovery_text,
+    send_text, store_text, strike_text,
 };
 use crate::places::{height, width, y};
 use crate::shape::{Legend, Shape};
@@ -37,6 +39,16 @@ fn mark_text(alloc: Global, shape: Shape) -> Result<String, AllocError>
             kind,
             holders,
         } => held_text(alloc, column, &determinant, kind, holders),
+        Shape::Hold {
+            column,
+            member,
+            determinant,
+        } => hold_text(alloc, column, member, &determinant),
+        Shape::Store {
+            column,
+            member,
+            determinant,
+        } => store_text(alloc, column, member, &determinant),
         Shape::Strike { column, member } => strike_text(alloc, column, member),
         Shape::Recovery {
             column,
@@ -62,6 +74,16 @@ fn shape_text(alloc: Global, shape: Shape) -> Result<String, AllocError>
             end,
             kind,
         } => line_text(alloc, member, start, end, kind),
+        Shape::DownFrom {
+            member,
+            column,
+            end,
+        } => down_from_text(alloc, member, column, end),
+        Shape::Moment {
+            member,
+            column,
+            next,
+        } => moment_text(alloc, member, column, next),
         Shape::Arrow {
             from,
             sent,
@@ -92,15 +114,22 @@ fn push_shapes(text: &mut String, alloc: Global, shapes: &[Shape]) -> Result<(),
 
 /// The start of a picture, as wide and as high as this: its title, its look, the background and the heading.
 #[tactic(auto, unfolding(crate::specs::Pictures::opening))]
-fn opening_text(alloc: Global, title: &str, width: u128, height: u32) -> Result<String, AllocError>
-    ensures { IfOk result (λ text. string_bytes text ≡ opening title.now width height) }
+fn opening_text(
+    alloc: Global,
+    title: &str,
+    width: u128,
+    height: u32,
+    legend: Legend,
+) -> Result<String, AllocError>
+    ensures { IfOk result (λ text. string_bytes text ≡ opening title.now width height legend) }
 {
     let look = look();
+    let more = more_look(legend);
     format!(in alloc;
         "<svg class='fbl' xmlns='http://www.w3.org/2000/svg' viewBox='0 0 {width} {height}' \
          width='{width}' height='{height}' role='img'>\n\
          <title>{title}</title>\n\
-         {look}\
+         {look}{more}\
          <rect class='back' width='{width}' height='{height}'/>\n\
          <text class='head' x='16' y='28'>{title}</text>\n"
     )
@@ -132,7 +161,13 @@ pub(crate) fn picture_text(
 ) -> Result<String, AllocError>
     ensures { IfOk result (λ text. string_bytes text ≡ picture title.now members columns legend shapes.now) }
 {
-    let mut text = opening_text(alloc, title, width(columns), height(members))?;
+    let mut text = opening_text(
+        alloc,
+        title,
+        width(columns),
+        height(members, legend),
+        legend,
+    )?;
     push_shapes(&mut text, alloc, shapes)?;
     let ending = ending_text(alloc, members, legend)?;
     text.push_str(ending.as_str())?;

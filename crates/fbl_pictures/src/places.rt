@@ -1,8 +1,9 @@
 //! Where shapes stand, counted from the left and from the top, in pixels.
 
 ghost use Rattle.std.specs.Prelude.{◌≡◌, ◌≤◌, ◌<◌, ◌^◌, ◌⊎◌};
-ghost use Rattle.fbl_pictures.specs.Places.{height as height_of, left as left_of, below as below_of, towards as towards_of, width as width_of, x as x_of, y as y_of};
+ghost use Rattle.fbl_pictures.specs.Places.{before as before_of, height as height_of, left as left_of, below as below_of, towards as towards_of, width as width_of, x as x_of, y as y_of};
 
+use crate::shape::Legend;
 use fbl_base::Member;
 
 /// How far from the left a column stands.
@@ -12,6 +13,13 @@ pub(crate) fn x(column: usize) -> u128
 {
     let names = column / 24;
     190 + 46 * (column as u128) + 90 * (names as u128)
+}
+
+/// How far from the left a moment is that stands before a column: between it and the column before, or at the lines' left end.
+pub(crate) fn before(column: usize) -> u128
+    ensures { result ≡ before_of column }
+{
+    x(column) - 20
 }
 
 /// How far from the left a part of a line starts: at a column, or at the line's left end.
@@ -63,9 +71,12 @@ pub(crate) fn width(columns: usize) -> u128
     (x(columns) + 30).max(760)
 }
 
-/// How high a picture of so many members is.
-pub(crate) fn height(members: u8) -> u32
-    ensures { result ≡ height_of members }
+/// How high a picture of so many members is, by how many lines its legend has beyond three.
+pub(crate) fn height(members: u8, legend: Legend) -> u32
+    ensures { result ≡ height_of members legend }
 {
-    y(members) + 62
+    match legend {
+        Legend::UnsafeLog => y(members) + 84,
+        _ => y(members) + 62,
+    }
 }

@@ -41,10 +41,10 @@ pub enum ArrowKind {
     Path,
 }
 
-/// How safe a receipt of a dump is.
+/// How safe a receipt of a dump or a log is.
 #[derive(Clone, Copy)]
 pub enum Kind {
-    /// More than f members hold it, and one of them is not struck.
+    /// It is on stable storage, or more than f members hold it, and one of them is not struck.
     Stable,
     /// f members or fewer hold it, and one of them is not struck.
     Recorded,
@@ -59,6 +59,12 @@ pub enum Legend {
     History,
     /// That of a picture of a dump.
     Dump,
+    /// That of a picture of a dump that shows what a check finds.
+    UnsafeDump,
+    /// That of a picture of a log at its last moment.
+    Log,
+    /// That of a picture of a log at a moment at which a receipt is unsafe.
+    UnsafeLog,
 }
 
 /// A part of a picture. Columns count from 0, from the left; each member has a line, the first one at the top.
@@ -82,6 +88,22 @@ pub enum Shape {
         /// The column at which it ends.
         end: usize,
         kind: LineKind,
+    },
+    /// The line of a member that is struck at a moment: drawn through up to it, and dashed from there.
+    DownFrom {
+        member: Member,
+        /// The column before which the moment is.
+        column: usize,
+        /// The column at which the line ends.
+        end: usize,
+    },
+    /// A part of the line of a moment: across the member's line, and on to where it crosses the next member's.
+    Moment {
+        member: Member,
+        /// The column before which it crosses the member's line.
+        column: usize,
+        /// The column before which it crosses the next member's line, if there is one.
+        next: Option<usize>,
     },
     /// An arrow from where a message is sent to a receipt of it.
     Arrow {
@@ -121,13 +143,26 @@ pub enum Shape {
         /// Whether a recovery or a run took it out of the trace: it is crossed then.
         undone: bool,
     },
-    /// The mark of a receipt of a dump, and its number.
+    /// The mark of a receipt of a dump or a log, and its number.
     Held {
         column: usize,
         determinant: Determinant,
         kind: Kind,
         /// The members that hold its determinant, struck or not.
         holders: MemberSet,
+    },
+    /// The mark of a hold: from here on the member holds the receipt's determinant. Beside it are the receipt's number and its receiver's.
+    Hold {
+        column: usize,
+        member: Member,
+        determinant: Determinant,
+    },
+    /// The mark of a store: from here on the receipt's determinant is on stable storage. Beside it are the receipt's number and its
+    /// receiver's.
+    Store {
+        column: usize,
+        member: Member,
+        determinant: Determinant,
     },
     /// The mark of a strike, at a member that it strikes.
     Strike {
