@@ -4,9 +4,9 @@ ghost use Rattle.std.specs.Prelude.{◌≡◌, ◌<◌, ◌≤◌, IfSome, lengt
 ghost use Rattle.fbl_input.specs.Faults.{PutsOut};
 ghost use Rattle.fbl_texts.specs.Scripts.{outline};
 ghost use Rattle.fbl_texts.specs.DumpLines.{dump_line};
-ghost use Rattle.fblrun.specs.Orders.{DoesScript, EndsDump, EndsMerged, IsDumpAnswer, IsShown, Obeys};
+ghost use Rattle.fblrun.specs.Orders.{DoesScript, EndsLogs, EndsMerged, EndsRecorded, EndsWith, IsAnswer, IsDumpAnswer, IsLogAnswer, IsShown, Obeys};
 
-use crate::merging::merged;
+use crate::merging::{MergedLog, Parts, merged, merged_log};
 use crate::streams::Named;
 use crate::telling::{Teller, refuse_input, refuse_merge, tell_why};
 use crate::{DumpTask, Order, ScriptTask, Task, end};
@@ -14,10 +14,12 @@ use fbl_base::RawDump;
 use fbl_base::audit::Dump;
 use fbl_input::shapes::LONGEST;
 use fbl_input::{OutputFault, put};
-use fbl_pictures::{show_text, write_picture};
+use fbl_moments::{RawLog, RunLog};
+use fbl_pictures::{show_text, write_log_picture, write_picture};
 use fbl_play::{history_of_script, play_script};
 use fbl_texts::{
-    Script, Verdict, dump_text, read_dump, read_raw_dump, read_script, write_audit, write_check,
+    Checked, Recorded, Script, Sources, Verdict, dump_text, log_text, read_checked, read_recorded,
+    read_script, write_audit, write_check, write_log_audit, write_log_check,
 };
 use std::alloc::Global;
 use std::io::{Read, Write};
@@ -70,24 +72,26 @@ fn do_script<T: Eprint + Threads + Wait + Sync, W: Write>(
     }
 }
 
-/// Writes the dump as its line. A line that is longer than an input may be is told of on standard error.
-fn write_dump<T: Eprint, W: Write>(
-    rt: &T,
-    alloc: Global,
-    dump: &Dump,
-    writer: &mut W,
-) -> Result<(), OutputFault>
-    ensures { PutsOut (λ _ told. told ≡ dump_line dump.now) (W.contents writer.old) (W.contents writer.new) result }
+/// Writes the line of a dump or a log. One that is longer than an input may be is told of on standard error.
+fn write_line<T: Eprint, W: Write>(rt: &T, line: &str, writer: &mut W) -> Result<(), OutputFault>
+    ensures { PutsOut (λ _ told. told ≡ line.now) (W.contents writer.old) (W.contents writer.new) result }
 {
-    let text = dump_text(alloc, dump)?;
-    let length = text.len();
-    let done = put(writer, text.as_bytes());
+    let length = line.len();
+    let done = put(writer, line.as_bytes());
     if length > LONGEST && done.is_ok() {
         let _ = eprintln!(rt;
             "the dump has {length} bytes, and an input may have {LONGEST}: it can't be read again"
         );
     }
     done
+}
+
+/// Whether all is well after a check.
+fn is_safe(verdict: Verdict) -> bool {
+    match verdict {
+        Verdict::Safe => true,
+        Verdict::Unsafe => false,
+    }
 }
 
 /// Audits, checks, draws or writes the dump, and answers whether all is well.
@@ -105,37 +109,92 @@ fn do_dump<T: Eprint, W: Write>(
             write_audit(alloc, dump, writer)?;
             Ok(true)
         }
-        DumpTask::Check => match write_check(alloc, dump, writer)? {
-            Verdict::Safe => Ok(true),
-            Verdict::Unsafe => Ok(false),
-        },
+        DumpTask::Check => Ok(is_safe(write_check(alloc, dump, writer)?)),
         DumpTask::Draw => {
             write_picture(alloc, dump, writer)?;
             Ok(true)
         }
         DumpTask::Write => {
-            write_dump(rt, alloc, dump, writer)?;
+            let line = dump_text(alloc, dump)?;
+            write_line(rt, line.as_str(), writer)?;
             Ok(true)
         }
     }
 }
 
-/// Does what is asked for with the dump, and answers the exit status.
-fn end_dump<T: Eprint, W: Write>(
+/// Audits, checks, draws or writes the log, and answers whether all is well.
+fn do_log<T: Eprint, W: Write>(
+    rt: &T,
+    alloc: Global,
+    task: DumpTask,
+    log: &RunLog,
+    sources: &Sources<'_>,
+    writer: &mut W,
+) -> Result<bool, OutputFault>
+    ensures { PutsOut (IsLogAnswer task log.now sources.now) (W.contents writer.old) (W.contents writer.new) result }
+{
+    match task {
+        DumpTask::Audit => {
+            write_log_audit(alloc, log, writer)?;
+            Ok(true)
+        }
+        DumpTask::Check => Ok(is_safe(write_log_check(alloc, log, sources, writer)?)),
+        DumpTask::Draw => {
+            write_log_picture(alloc, log, writer)?;
+            Ok(true)
+        }
+        DumpTask::Write => {
+            let line = log_text(alloc, log)?;
+            write_line(rt, line.as_str(), writer)?;
+            Ok(true)
+        }
+    }
+}
+
+/// Audits, checks, draws or writes the dump or the log, and answers whether all is well.
+fn do_task<T: Eprint, W: Write>(
+    rt: &T,
+    alloc: Global,
+    task: DumpTask,
+    found: &Checked,
+    sources: &Sources<'_>,
+    writer: &mut W,
+) -> Result<bool, OutputFault>
+    ensures { PutsOut (IsAnswer task found.now sources.now) (W.contents writer.old) (W.contents writer.new) result }
+{
+    match found {
+        Checked::Dump(dump) => do_dump(rt, alloc, task, dump, writer),
+        Checked::Log(log) => do_log(rt, alloc, task, log, sources, writer),
+    }
+}
+
+/// Does what is asked for with the dump or the log, and answers the exit status.
+fn end_task<T: Eprint, W: Write>(
     rt: &T,
     alloc: Global,
     task: DumpTask,
     explain: bool,
-    dump: &Dump,
+    found: &Checked,
+    sources: &Sources<'_>,
     writer: &mut Named<'_, W>,
 ) -> u8
-    ensures { EndsDump task dump.now (W.contents writer.old.stream) (W.contents writer.new.stream) result }
+    ensures { EndsWith task found.now sources.now (W.contents writer.old.stream) (W.contents writer.new.stream) result }
 {
-    let done = do_dump(rt, alloc, task, dump, writer);
+    let done = do_task(rt, alloc, task, found, sources, writer);
     if explain && done.is_ok() {
-        tell_why(rt, alloc, task, dump);
+        tell_why(rt, alloc, task, found, sources);
     }
     end(rt, done, writer.failure())
+}
+
+/// The sources of what is in one file.
+fn one_file() -> Sources<'static>
+    ensures { result.origins.now ≡ [] }
+{
+    Sources {
+        origins: &[],
+        names: &[],
+    }
 }
 
 /// Merges the dumps, does what is asked for with what they are together, and answers the exit status. The names are those of their
@@ -153,8 +212,66 @@ pub(crate) fn end_merged<T: Eprint, W: Write>(
     ensures { EndsMerged task dumps.now (W.contents writer.old.stream) (W.contents writer.new.stream) result }
 {
     match merged(alloc, dumps) {
-        Ok(dump) => end_dump(rt, alloc, task, explain, &dump, writer),
-        Err(fault) => refuse_merge(rt, alloc, explain, &fault, dumps, names),
+        Ok(dump) => {
+            let found = Checked::Dump(dump);
+            end_task(rt, alloc, task, explain, &found, &one_file(), writer)
+        }
+        Err(fault) => {
+            let parts = Parts::of_dumps(alloc, names, dumps);
+            refuse_merge(rt, explain, &fault, parts)
+        }
+    }
+}
+
+/// The same of logs.
+pub(crate) fn end_merged_logs<T: Eprint, W: Write>(
+    rt: &T,
+    alloc: Global,
+    task: DumpTask,
+    explain: bool,
+    logs: &[RawLog],
+    names: &[&str],
+    writer: &mut Named<'_, W>,
+) -> u8
+    requires { 0 < length logs.now }
+    ensures { EndsLogs task logs.now names.now (W.contents writer.old.stream) (W.contents writer.new.stream) result }
+{
+    match merged_log(alloc, logs) {
+        Ok(MergedLog { log, origins }) => {
+            let found = Checked::Log(log);
+            let sources = Sources {
+                origins: origins.as_slice(),
+                names,
+            };
+            end_task(rt, alloc, task, explain, &found, &sources, writer)
+        }
+        Err(fault) => {
+            let parts = Parts::of_logs(alloc, names, logs);
+            refuse_merge(rt, explain, &fault, parts)
+        }
+    }
+}
+
+/// Puts the events of the one dump or log into an order, does what is asked for with it, and answers the exit status.
+fn end_recorded<T: Eprint, W: Write>(
+    rt: &T,
+    alloc: Global,
+    task: DumpTask,
+    explain: bool,
+    recorded: Recorded,
+    writer: &mut Named<'_, W>,
+) -> u8
+    ensures { EndsRecorded task recorded (W.contents writer.old.stream) (W.contents writer.new.stream) result }
+{
+    match recorded {
+        Recorded::Dump(raw) => {
+            let dumps = [raw];
+            end_merged(rt, alloc, task, explain, &dumps, &[], writer)
+        }
+        Recorded::Log(raw) => {
+            let logs = [raw];
+            end_merged_logs(rt, alloc, task, explain, &logs, &[], writer)
+        }
     }
 }
 
@@ -177,15 +294,12 @@ pub(crate) fn obey<T: Eprint + Threads + Wait + Sync, R: Read, W: Write>(
             }
             Err(fault) => refuse_input(rt, alloc, explain, &fault, reader.failure(), None),
         },
-        Task::Dump(task) => match read_dump(alloc, reader) {
-            Ok(dump) => end_dump(rt, alloc, task, explain, &dump, writer),
+        Task::Dump(task) => match read_checked(alloc, reader) {
+            Ok(found) => end_task(rt, alloc, task, explain, &found, &one_file(), writer),
             Err(fault) => refuse_input(rt, alloc, explain, &fault, reader.failure(), None),
         },
-        Task::Merged(task) => match read_raw_dump(alloc, reader) {
-            Ok(found) => {
-                let dumps = [found.raw];
-                end_merged(rt, alloc, task, explain, &dumps, &[], writer)
-            }
+        Task::Merged(task) => match read_recorded(alloc, reader) {
+            Ok(found) => end_recorded(rt, alloc, task, explain, found.recorded, writer),
             Err(fault) => refuse_input(rt, alloc, explain, &fault, reader.failure(), None),
         },
     }

@@ -4,13 +4,13 @@
 ghost use Rattle.std.specs.Prelude.{◌≡◌, ◌<◌};
 
 use crate::command_line::Request;
-use crate::doing::{end_merged, obey};
+use crate::doing::{end_merged, end_merged_logs, obey};
+use crate::merging::{Parts, Together, together};
 use crate::streams::{Failure, Named};
-use crate::telling::refuse_input;
+use crate::telling::{refuse_input, refuse_merge};
 use crate::{DumpTask, INPUT_FAULT, NOT_WELL, Order, Task, fail};
-use fbl_base::RawDump;
 use fbl_input::RunFault;
-use fbl_texts::read_raw_dump;
+use fbl_texts::{Recorded, read_recorded};
 use std::alloc::Global;
 use std::fs::{self, File, OpenFile, OpenOptions};
 use std::io::{self, ErrorKind, Read, Write};
@@ -141,38 +141,35 @@ fn settle<T: Eprint + Files>(rt: &T, beside: Beside<T::File>, name: &str, status
 enum Work<'a, R> {
     /// To obey the order over what a reader has.
     Reader(Order, Named<'a, R>),
-    /// To do this with the dumps of several files together.
+    /// To do this with what several files record together.
     Merge(Merge<'a>),
 }
 
-/// What is to be done with the dumps of several files together.
+/// What is to be done with what several files record together.
 #[derive(Drop)]
 struct Merge<'a> {
     task: DumpTask,
     explain: bool,
-    dumps: Vec<RawDump>,
+    files: Together,
     names: &'a [&'a str],
 }
 
-/// Merges the dumps, writes the text, and answers the exit status.
+/// Merges the dumps or the logs, writes the text, and answers the exit status.
 fn end_merge<T, W>(rt: &T, alloc: Global, merge: &Merge<'_>, writer: &mut Named<'_, W>) -> u8
 where
     T: Eprint,
     W: Write,
 {
-    let dumps = merge.dumps.as_slice();
-    if dumps.is_empty() {
-        return INPUT_FAULT;
+    let (task, explain, names) = (merge.task, merge.explain, merge.names);
+    match &merge.files {
+        Together::Dumps(dumps) if !dumps.is_empty() => {
+            end_merged(rt, alloc, task, explain, dumps.as_slice(), names, writer)
+        }
+        Together::Logs(logs) if !logs.is_empty() => {
+            end_merged_logs(rt, alloc, task, explain, logs.as_slice(), names, writer)
+        }
+        _ => INPUT_FAULT,
     }
-    end_merged(
-        rt,
-        alloc,
-        merge.task,
-        merge.explain,
-        dumps,
-        merge.names,
-        writer,
-    )
 }
 
 /// Does the work, writes the text, and answers the exit status.
@@ -250,17 +247,17 @@ where
     }
 }
 
-/// The dump that the reader has, its rules not yet checked, where it is one of several, with this name; or the exit status of its
+/// What the reader has of a run, its rules not yet checked, where it is one of several files, with this name; or the exit status of its
 /// fault, which is told.
-fn dump_of<T: Eprint, R: Read>(
+fn recorded_of<T: Eprint, R: Read>(
     rt: &T,
     alloc: Global,
     explain: bool,
     name: &str,
     reader: &mut Named<'_, R>,
-) -> Result<RawDump, u8> {
-    match read_raw_dump(alloc, reader) {
-        Ok(found) => Ok(found.raw),
+) -> Result<Recorded, u8> {
+    match read_recorded(alloc, reader) {
+        Ok(found) => Ok(found.recorded),
         Err(fault) => {
             Err(refuse_input(rt, alloc, explain, &fault, reader.failure(), Some(name)))
         }
@@ -268,7 +265,7 @@ fn dump_of<T: Eprint, R: Read>(
 }
 
 /// The same of the file with this name, or of standard input.
-fn dump_at<T>(rt: &T, alloc: Global, explain: bool, name: &str) -> Result<RawDump, u8>
+fn recorded_at<T>(rt: &T, alloc: Global, explain: bool, name: &str) -> Result<Recorded, u8>
 where
     T: Eprint + Input + Files,
 {
@@ -276,33 +273,36 @@ where
         Some(path) => match File::open(rt, path) {
             Ok(file) => {
                 let mut reader = Named::new(file, Some(path));
-                dump_of(rt, alloc, explain, name, &mut reader)
+                recorded_of(rt, alloc, explain, name, &mut reader)
             }
             Err(error) => Err(fail_on(rt, RunFault::Read, path, error)),
         },
         None => {
             let mut reader = Named::new(rt.reader(), None);
-            dump_of(rt, alloc, explain, name, &mut reader)
+            recorded_of(rt, alloc, explain, name, &mut reader)
         }
     }
 }
 
-/// The dumps of the files with these names, in their order, or the exit status of the first fault.
-fn dumps_at<T>(rt: &T, alloc: Global, explain: bool, names: &[&str]) -> Result<Vec<RawDump>, u8>
+/// What the files with these names record, in their order, all in one version, or the exit status of the first fault.
+fn files_at<T>(rt: &T, alloc: Global, explain: bool, names: &[&str]) -> Result<Together, u8>
 where
     T: Eprint + Input + Files,
 {
-    let mut dumps = Vec::new(alloc);
+    let mut files = Vec::new(alloc);
     for name in names {
-        let dump = dump_at(rt, alloc, explain, name)?;
-        if dumps.push(dump).is_err() {
+        let recorded = recorded_at(rt, alloc, explain, name)?;
+        if files.push(recorded).is_err() {
             return Err(fail(rt, RunFault::Memory, None));
         }
     }
-    Ok(dumps)
+    match together(alloc, files) {
+        Ok(files) => Ok(files),
+        Err(fault) => Err(refuse_merge(rt, explain, &fault, Ok(Parts::named(alloc, names)))),
+    }
 }
 
-/// Does this with the dumps of several files together. They are read before anything is done with what is written.
+/// Does this with what several files record together. They are read before anything is done with what is written.
 fn obey_several<T>(rt: &T, alloc: Global, request: &Request<'_>, task: DumpTask) -> u8
 where
     T: Eprint + Print + Input + Files + Threads + Wait + Sync,
@@ -313,12 +313,12 @@ where
         return INPUT_FAULT;
     }
     let explain = request.order.explain;
-    match dumps_at(rt, alloc, explain, names) {
-        Ok(dumps) => {
+    match files_at(rt, alloc, explain, names) {
+        Ok(files) => {
             let work: Work<'_, T::File> = Work::Merge(Merge {
                 task,
                 explain,
-                dumps,
+                files,
                 names,
             });
             end_at(rt, alloc, request.output, work)

@@ -1,23 +1,32 @@
-//! The dumps of several files as one: what they have together, with the events in an order that obeys the rules.
+//! What several files record of a run, as one: what they have together, with the events in an order that obeys the rules.
 
 ghost use Rattle.std.specs.Prelude.{◌≡◌, ◌<◌, IfErr, IfOk, length};
-ghost use Rattle.fblrun.specs.Merging.{IsMergeOf, RefusesMerge, merge_status};
+ghost use Rattle.fblrun.specs.Merging.{AreOfOneVersion, IsLogMergeOf, IsMergeOf, IsOtherVersion, RefusesLogMerge, RefusesMerge, merge_status};
 
 use crate::{INPUT_FAULT, MEMORY_FAULT};
 use fbl_base::audit::Dump;
-use fbl_base::{Breach, DumpRefusal, PairFault, RawDump};
-use fbl_order::{Obstacle, OrderFault, PartsFault, Stuck, order_dump, place_in_lists, united};
+use fbl_base::{Breach, DumpRefusal, MemberSet, PairFault, RawDump};
+use fbl_moments::{EntryOrigin, LogBreach, RawLog, RunLog};
+use fbl_order::{
+    LogOrderFault, Obstacle, OrderFault, OrderedLog, PartsFault, Stuck, UnitedLog, at_places,
+    order_dump, order_log, place_in_lists, united, united_logs,
+};
+use fbl_texts::Recorded;
 use std::alloc::{AllocError, Global};
 use std::convert::From;
 use std::fmt;
 
-/// Why the dumps of several files are none together.
+/// Why what several files record is no run together.
 #[derive(Drop, Debug)]
 pub(crate) enum MergeFault {
+    /// The file with this number, the first such, is of another version than the first file.
+    Version(usize),
     /// They differ in their members or in `f`, or memory runs out.
     Parts(PartsFault),
-    /// Their events have no order, or what they have together breaks another rule of dumps.
+    /// The events of dumps have no order, or what these have together breaks another rule of dumps.
     Order(OrderFault),
+    /// The same of logs.
+    Log(LogOrderFault),
 }
 
 impl From<PartsFault> for MergeFault {
@@ -40,6 +49,27 @@ impl From<OrderFault> for MergeFault {
     }
 }
 
+impl From<LogOrderFault> for MergeFault {
+    ghost use Rattle.fblrun.specs.declared.merging.MergeFault.TheVariants.{Log};
+
+    ghost from_gives = { λ fault e. e ≡ Log fault };
+
+    fn from(fault: LogOrderFault) -> MergeFault {
+        MergeFault::Log(fault)
+    }
+}
+
+impl From<AllocError> for MergeFault {
+    ghost use Rattle.fblrun.specs.declared.merging.MergeFault.TheVariants.{Parts};
+    ghost use Rattle.fbl_order.specs.declared.parts.PartsFault.TheVariants.{Memory};
+
+    ghost from_gives = { λ _ e. e ≡ Parts Memory };
+
+    fn from(_: AllocError) -> MergeFault {
+        MergeFault::Parts(PartsFault::Memory)
+    }
+}
+
 impl MergeFault {
     /// The exit status of the fault.
     pub(crate) fn status(&self) -> u8
@@ -47,9 +77,78 @@ impl MergeFault {
     {
         match self {
             MergeFault::Parts(PartsFault::Memory)
-            | MergeFault::Order(OrderFault::Dump(DumpRefusal::Memory, _)) => MEMORY_FAULT,
+            | MergeFault::Order(OrderFault::Dump(DumpRefusal::Memory, _))
+            | MergeFault::Log(LogOrderFault::Log(DumpRefusal::Memory, _)) => MEMORY_FAULT,
             _ => INPUT_FAULT,
         }
+    }
+
+    /// The number of the file that differs from the first one, if one does.
+    fn other_part(&self) -> Option<usize> {
+        match self {
+            MergeFault::Version(part)
+            | MergeFault::Parts(PartsFault::Members { part, .. } | PartsFault::F { part, .. }) =>
+                Some(*part),
+            _ => None,
+        }
+    }
+
+    /// The events that wait for one another, where there is no order.
+    fn chain(&self) -> Option<&[Stuck]> {
+        match self {
+            MergeFault::Order(OrderFault::NoOrder(chain))
+            | MergeFault::Log(LogOrderFault::NoOrder(chain)) => Some(chain.as_slice()),
+            _ => None,
+        }
+    }
+
+    /// The refusal of what the files have together, if it is refused, with the rule that it breaks: none for want of memory.
+    fn refusal(&self) -> Option<(DumpRefusal, LogBreach)> {
+        match self {
+            MergeFault::Order(OrderFault::Dump(refusal, breach)) => Some((
+                *refusal,
+                LogBreach::Trace(*breach),
+            )),
+            MergeFault::Log(LogOrderFault::Log(refusal, breach)) => Some((*refusal, *breach)),
+            _ => None,
+        }
+    }
+}
+
+/// What several files record of a run, all in one version.
+#[derive(Drop)]
+pub(crate) enum Together {
+    Dumps(Vec<RawDump>),
+    Logs(Vec<RawLog>),
+}
+
+/// What these files record, where they are of one version.
+pub(crate) fn together(alloc: Global, files: Vec<Recorded>) -> Result<Together, MergeFault>
+    ensures together { IfOk result (AreOfOneVersion files.items) }
+    ensures refused { IfErr result (IsOtherVersion files.items) }
+{
+    let mut dumps = Vec::new(alloc);
+    let mut logs = Vec::new(alloc);
+    for (part, recorded) in files.into_iter().enumerate() {
+        match recorded {
+            Recorded::Dump(raw) => {
+                if !logs.is_empty() {
+                    return Err(MergeFault::Version(part));
+                }
+                dumps.push(raw)?;
+            }
+            Recorded::Log(raw) => {
+                if !dumps.is_empty() {
+                    return Err(MergeFault::Version(part));
+                }
+                logs.push(raw)?;
+            }
+        }
+    }
+    if logs.is_empty() {
+        Ok(Together::Dumps(dumps))
+    } else {
+        Ok(Together::Logs(logs))
     }
 }
 
@@ -63,6 +162,26 @@ pub(crate) fn merged(alloc: Global, parts: &[RawDump]) -> Result<Dump, MergeFaul
     let whole = united(alloc, parts)?;
     let dump = order_dump(alloc, whole)?;
     Ok(dump)
+}
+
+/// The log of all parts together, and where each of its entries stands in its own part.
+#[derive(Drop)]
+pub(crate) struct MergedLog {
+    pub(crate) log: RunLog,
+    pub(crate) origins: Vec<EntryOrigin>,
+}
+
+/// The log of all parts together, its entries in an order in which each member's own stand as the parts have them, one part's
+/// behind another's.
+pub(crate) fn merged_log(alloc: Global, parts: &[RawLog]) -> Result<MergedLog, MergeFault>
+    requires { 0 < length parts.now }
+    ensures merged { IfOk result (IsLogMergeOf parts.now) }
+    ensures refused { IfErr result (RefusesLogMerge parts.now) }
+{
+    let UnitedLog { log, origins } = united_logs(alloc, parts)?;
+    let OrderedLog { log, places } = order_log(alloc, log)?;
+    let origins = at_places(alloc, origins.as_slice(), places.as_slice())?;
+    Ok(MergedLog { log, origins })
 }
 
 /// A place in the list of a file, and the file's name where there are several.
@@ -82,34 +201,54 @@ impl fmt::Display for Spot<'_> {
     }
 }
 
-/// The parts that are merged, with the names of their files, if they are several, and how many events and held pairs each has.
+/// The parts that are merged: the names of their files, if they are several, how many events and held pairs each has, and whom it
+/// strikes.
 #[derive(Drop)]
 pub(crate) struct Parts<'a> {
     names: &'a [&'a str],
-    raws: &'a [RawDump],
     events: Vec<usize>,
     held: Vec<usize>,
+    strikes: Vec<MemberSet>,
 }
 
 impl<'a> Parts<'a> {
-    /// The parts, with these names of their files, or with none where there is one.
-    pub(crate) fn of(
+    /// Files with these names, of which no more is told.
+    pub(crate) fn named(alloc: Global, names: &'a [&'a str]) -> Parts<'a> {
+        Parts {
+            names,
+            events: Vec::new(alloc),
+            held: Vec::new(alloc),
+            strikes: Vec::new(alloc),
+        }
+    }
+
+    /// Dumps in files with these names, or with none where there is one.
+    pub(crate) fn of_dumps(
         alloc: Global,
         names: &'a [&'a str],
-        raws: &'a [RawDump],
+        dumps: &[RawDump],
     ) -> Result<Parts<'a>, AllocError> {
-        let mut events = Vec::new(alloc);
-        let mut held = Vec::new(alloc);
-        for raw in raws {
-            events.push(raw.events.len())?;
-            held.push(raw.held.len())?;
+        let mut parts = Parts::named(alloc, names);
+        for dump in dumps {
+            parts.events.push(dump.events.len())?;
+            parts.held.push(dump.held.len())?;
+            parts.strikes.push(dump.strike)?;
         }
-        Ok(Parts {
-            names,
-            raws,
-            events,
-            held,
-        })
+        Ok(parts)
+    }
+
+    /// Logs in files with these names, or with none where there is one.
+    pub(crate) fn of_logs(
+        alloc: Global,
+        names: &'a [&'a str],
+        logs: &[RawLog],
+    ) -> Result<Parts<'a>, AllocError> {
+        let mut parts = Parts::named(alloc, names);
+        for log in logs {
+            parts.events.push(log.entries.len())?;
+            parts.strikes.push(log.strike)?;
+        }
+        Ok(parts)
     }
 
     /// The name of the file with this number, where there are several.
@@ -139,14 +278,14 @@ impl<'a> Parts<'a> {
     }
 
     /// The name of the first file that strikes a member outside the group, where there are several.
-    fn striking(&self, breach: Breach) -> Option<&'a str> {
-        let Breach::Strike(outsider) = breach else {
+    fn striking(&self, breach: LogBreach) -> Option<&'a str> {
+        let LogBreach::Trace(Breach::Strike(outsider)) = breach else {
             return None;
         };
         let file = self
-            .raws
+            .strikes
             .iter()
-            .position(|raw| raw.strike.has(outsider.member))?;
+            .position(|strike| strike.has(outsider.member))?;
         self.name(file)
     }
 }
@@ -169,6 +308,30 @@ impl MergeLine<'_> {
         write!(f, "{name} {place}")?;
         write_file(f, spot.file)
     }
+
+    /// Writes the refusal of what the files have together.
+    fn write_refusal<W: fmt::Write>(
+        &self,
+        f: &mut fmt::Formatter<W>,
+        refusal: DumpRefusal,
+        breach: LogBreach,
+    ) -> fmt::Result {
+        match refusal {
+            DumpRefusal::BadEvent(place) => {
+                MergeLine::write_at(f, "BadEvent", self.parts.event(place))
+            }
+            DumpRefusal::BadHeld(place) => MergeLine::write_at(
+                f,
+                "BadHeld",
+                self.parts.pair(place),
+            ),
+            DumpRefusal::Memory => f.write_str("memory"),
+            _ => {
+                write!(f, "{refusal}")?;
+                write_file(f, self.parts.striking(breach))
+            }
+        }
+    }
 }
 
 /// Writes in which file the fault is, if it is in one of several.
@@ -181,29 +344,18 @@ fn write_file<W: fmt::Write>(f: &mut fmt::Formatter<W>, file: Option<&str>) -> f
 
 impl fmt::Display for MergeLine<'_> {
     fn fmt<W: fmt::Write>(&self, f: &mut fmt::Formatter<W>) -> fmt::Result {
-        let parts = self.parts;
         f.write_str("fault: ")?;
-        match self.fault {
-            MergeFault::Parts(PartsFault::Members { part, .. } | PartsFault::F { part, .. }) => {
-                let name = parts.name(*part).unwrap_or("-");
-                write!(f, "BadParts {name:?}")
-            }
-            MergeFault::Order(OrderFault::NoOrder(chain)) => {
-                let place = chain.first().map_or(0, |stuck| stuck.place);
-                MergeLine::write_at(f, "BadEvent", parts.event(place))
-            }
-            MergeFault::Order(OrderFault::Dump(DumpRefusal::BadEvent(place), _)) => {
-                MergeLine::write_at(f, "BadEvent", parts.event(*place))
-            }
-            MergeFault::Order(OrderFault::Dump(DumpRefusal::BadHeld(place), _)) => {
-                MergeLine::write_at(f, "BadHeld", parts.pair(*place))
-            }
-            MergeFault::Parts(PartsFault::Memory)
-            | MergeFault::Order(OrderFault::Dump(DumpRefusal::Memory, _)) => f.write_str("memory"),
-            MergeFault::Order(OrderFault::Dump(refusal, breach)) => {
-                write!(f, "{refusal}")?;
-                write_file(f, parts.striking(*breach))
-            }
+        if let Some(part) = self.fault.other_part() {
+            let name = self.parts.name(part).unwrap_or("-");
+            return write!(f, "BadParts {name:?}");
+        }
+        if let Some(chain) = self.fault.chain() {
+            let place = chain.first().map_or(0, |stuck| stuck.place);
+            return MergeLine::write_at(f, "BadEvent", self.parts.event(place));
+        }
+        match self.fault.refusal() {
+            Some((refusal, breach)) => self.write_refusal(f, refusal, breach),
+            None => f.write_str("memory"),
         }
     }
 }
@@ -273,6 +425,17 @@ impl MergeExplanation<'_> {
         Ok(())
     }
 
+    /// Writes that a file is of another version than the first one. What has a version is a log, and the first file is one or
+    /// this one.
+    fn write_versions<W: fmt::Write>(&self, f: &mut fmt::Formatter<W>, part: usize) -> fmt::Result {
+        let name = self.parts.name(part).unwrap_or("-");
+        let first_name = self.parts.name(0).unwrap_or("-");
+        write!(
+            f,
+            "of {name:?} and {first_name:?} one has version 2, and the other is a dump that has none"
+        )
+    }
+
     /// Writes which rule the held pair breaks.
     fn write_pair<W: fmt::Write>(
         &self,
@@ -290,28 +453,47 @@ impl MergeExplanation<'_> {
             "held pair {spot} is [{holder},{from},{ssn},{to},{rsn}], and {rule}"
         )
     }
+
+    /// Writes which rule what the files have together breaks.
+    fn write_breach<W: fmt::Write>(
+        &self,
+        f: &mut fmt::Formatter<W>,
+        breach: LogBreach,
+    ) -> fmt::Result {
+        match breach {
+            LogBreach::Trace(Breach::Event(fault)) => {
+                let spot = self.parts.event(fault.place);
+                let (event, rule) = (fault.event, fault.rule);
+                write!(f, "event {spot} is {event}, and {rule}")
+            }
+            LogBreach::Record(fault) => {
+                let spot = self.parts.event(fault.place);
+                let (entry, rule) = (fault.entry, fault.rule);
+                write!(f, "event {spot} is {entry}, and {rule}")
+            }
+            LogBreach::Trace(Breach::Held(fault)) => self.write_pair(f, fault),
+            _ => write!(f, "{breach}"),
+        }
+    }
 }
 
 impl fmt::Display for MergeExplanation<'_> {
     fn fmt<W: fmt::Write>(&self, f: &mut fmt::Formatter<W>) -> fmt::Result {
+        if let Some(chain) = self.fault.chain() {
+            return self.write_chain(f, chain);
+        }
         match self.fault {
+            MergeFault::Version(part) => self.write_versions(f, *part),
             MergeFault::Parts(PartsFault::Members { part, first, other }) => {
                 self.write_values(f, "members", *part, *first, *other)
             }
             MergeFault::Parts(PartsFault::F { part, first, other }) => {
                 self.write_values(f, "f", *part, *first, *other)
             }
-            MergeFault::Parts(PartsFault::Memory) => f.write_str("out of memory"),
-            MergeFault::Order(OrderFault::NoOrder(chain)) => self.write_chain(f, chain.as_slice()),
-            MergeFault::Order(OrderFault::Dump(_, Breach::Event(fault))) => {
-                let spot = self.parts.event(fault.place);
-                let (event, rule) = (fault.event, fault.rule);
-                write!(f, "event {spot} is {event}, and {rule}")
-            }
-            MergeFault::Order(OrderFault::Dump(_, Breach::Held(fault))) => {
-                self.write_pair(f, *fault)
-            }
-            MergeFault::Order(OrderFault::Dump(_, breach)) => write!(f, "{breach}"),
+            _ => match self.fault.refusal() {
+                Some((_, breach)) => self.write_breach(f, breach),
+                None => f.write_str("out of memory"),
+            },
         }
     }
 }

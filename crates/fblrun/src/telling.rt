@@ -9,12 +9,15 @@ use crate::merging::{MergeExplanation, MergeFault, MergeLine, Parts};
 use crate::streams::Failure;
 use crate::{DumpTask, INPUT_FAULT, fail, status_of};
 use fbl_base::audit::Dump;
-use fbl_base::{Behaviour, Note, RawDump};
+use fbl_base::{Behaviour, Note};
 use fbl_group::Group;
 use fbl_input::{InputFault, RunFault};
+use fbl_moments::RunLog;
 use fbl_play::{Account, Answer, Observer, Transcribed};
-use fbl_texts::{Command, why_lost, why_unsafe};
-use std::alloc::Global;
+use fbl_texts::{
+    Checked, Command, Sources, why_lost, why_lost_in_log, why_unsafe, why_unsafe_in_log,
+};
+use std::alloc::{AllocError, Global};
 use std::fmt;
 
 /// The line of a fault.
@@ -111,17 +114,57 @@ impl<R: Eprint> Observer for Teller<'_, R> {
     }
 }
 
-/// Tells on standard error why receipts of the dump are lost, after an audit, or could be, after a check. Where memory runs out
-/// for it that is left out.
-pub(crate) fn tell_why<R: Eprint>(rt: &R, alloc: Global, task: DumpTask, dump: &Dump) {
+/// Tells on standard error why receipts of the dump are lost, after an audit, or could be, after a check.
+fn tell_why_of_dump<R: Eprint>(
+    rt: &R,
+    alloc: Global,
+    task: DumpTask,
+    dump: &Dump,
+) -> Result<(), AllocError> {
     let why = match task {
-        DumpTask::Audit => why_lost(alloc, dump),
-        DumpTask::Check => why_unsafe(alloc, dump),
-        DumpTask::Draw | DumpTask::Write => return,
+        DumpTask::Audit => why_lost(alloc, dump)?,
+        DumpTask::Check => why_unsafe(alloc, dump)?,
+        DumpTask::Draw | DumpTask::Write => return Ok(()),
     };
-    if let Ok(why) = why {
-        let _ = eprint!(rt; "{why}");
+    let _ = eprint!(rt; "{why}");
+    Ok(())
+}
+
+/// The same of a log.
+fn tell_why_of_log<R: Eprint>(
+    rt: &R,
+    alloc: Global,
+    task: DumpTask,
+    log: &RunLog,
+    sources: &Sources<'_>,
+) -> Result<(), AllocError> {
+    match task {
+        DumpTask::Audit => {
+            let why = why_lost_in_log(alloc, log)?;
+            let _ = eprint!(rt; "{why}");
+        }
+        DumpTask::Check => {
+            let why = why_unsafe_in_log(alloc, log, sources)?;
+            let _ = eprint!(rt; "{why}");
+        }
+        DumpTask::Draw | DumpTask::Write => (),
     }
+    Ok(())
+}
+
+/// Tells on standard error why receipts are lost, after an audit, or could be, after a check. Where memory runs out for it that is left
+/// out.
+pub(crate) fn tell_why<R: Eprint>(
+    rt: &R,
+    alloc: Global,
+    task: DumpTask,
+    found: &Checked,
+    sources: &Sources<'_>,
+) {
+    let _ = match found {
+        Checked::Dump(dump) => tell_why_of_dump(rt, alloc, task, dump),
+        Checked::Log(log) => tell_why_of_log(rt, alloc, task, log, sources),
+    };
 }
 
 /// Prints the line of the input's fault, and answers its exit status. Where that is asked for the fault is explained in a line
@@ -153,20 +196,17 @@ pub(crate) fn refuse_input<R: Eprint>(
     status
 }
 
-/// Prints the line of the fault of these dumps together, and answers its exit status. Where that is asked for the fault is explained
-/// in a line behind it. Where memory runs out for the line, that is the fault. The names are those of the dumps' files, or none
-/// where there is one dump.
+/// Prints the line of the fault of what several files have together, and answers its exit status. Where that is asked for the fault is
+/// explained in a line behind it. Where there is no memory for what is told of the files, that is the fault.
 pub(crate) fn refuse_merge<'a, R: Eprint>(
     rt: &R,
-    alloc: Global,
     explain: bool,
     fault: &'a MergeFault,
-    dumps: &'a [RawDump],
-    names: &'a [&'a str],
+    parts: Result<Parts<'a>, AllocError>,
 ) -> u8
     ensures { (result ≡ merge_status fault.now) ⊎ (result ≡ 4) }
 {
-    let Ok(parts) = Parts::of(alloc, names, dumps) else {
+    let Ok(parts) = parts else {
         return fail(rt, RunFault::Memory, None);
     };
     let parts = &parts;
