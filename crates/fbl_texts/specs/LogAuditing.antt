@@ -2,12 +2,13 @@
 use Rattle.std.specs.Prelude.{◌≡◌, ℕ, List, [], ◌∷◌, ◌++◌, codes, Option, Some, None, IfSome, map, option_and_then, slice_get}
 use Rattle.std.specs.List.{AllZip, concat}
 use Rattle.std.specs.Fmt.{debug_str, ◌++?◌}
-use Rattle.fbl_base.specs.Audit.{Parts}
 use Rattle.fbl_moments.specs.Entries.{receipts_in}
+use Rattle.fbl_moments.specs.LastMoments.{IsLogAudit, dump_of}
 use Rattle.fbl_moments.specs.Logs.{LogParts, run_of}
 use Rattle.fbl_moments.specs.Runs.{AlwaysSafe}
 use Rattle.fbl_moments.specs.Unsafe.{SaysUnsafe}
 use Rattle.fbl_moments.specs.declared.check.UnsafeMoment.{UnsafeMoment}
+use Rattle.fbl_moments.specs.declared.last.LogAudit.{LogAudit}
 use Rattle.fbl_moments.specs.declared.log.EntryOrigin.{EntryOrigin}
 use Rattle.fbl_texts.specs.Auditing.{IsLossReason}
 use Rattle.fbl_texts.specs.Lines.{audit_lines, line, unsafe_moment_line}
@@ -67,11 +68,7 @@ IsLogChecked log sources verdict text =
 
 -- ---- reasons
 
--- a reason is told of each receipt that is lost at the last moment with the strike set, in their order, by the dump of that moment
-abbrev pub TellsLostInLog : LogParts → Parts → List LossReason → Type 0
-TellsLostInLog log dump reasons =
-    (dump ≡ dump_of log) × ((found : LogAudit) × IsLogAudit log found × AllZip (λ d. IsLossReason dump d dump.strike) found.lost.items reasons)
-
--- a reason is told of each unsafe receipt, in their order
-abbrev pub TellsUnsafeInLog : LogParts → List MomentReason → Type 0
-TellsUnsafeInLog log reasons = (said : List UnsafeMoment) × SaysUnsafe log (receipts_in log.entries) said × AllZip (IsMomentReason log) said reasons
+-- a reason is told of each receipt that is lost at the last moment with the strike set, in their order
+abbrev pub TellsLostInLog : LogParts → List LossReason → Type 0
+TellsLostInLog log reasons =
+    let dump = dump_of log in (found : LogAudit) × IsLogAudit log found × AllZip (λ d. IsLossReason dump d dump.strike) found.lost.items reasons

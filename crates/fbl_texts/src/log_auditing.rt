@@ -51,7 +51,10 @@ fn unsafe_moment_text(
     let strike = set_text(alloc, moment.strike)?;
     let orphans = set_text(alloc, moment.orphans)?;
     let mut text = format!(in alloc; "unsafe {from} {ssn} {to} {rsn}")?;
-    write!(text, " at {place}{file} strike {strike} orphans {orphans}\n")?;
+    write!(
+        text,
+        " at {place}{file} strike {strike} orphans {orphans}\n"
+    )?;
     Ok(text)
 }
 

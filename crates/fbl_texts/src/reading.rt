@@ -166,7 +166,7 @@ pub fn read_raw_dump<R: Read>(alloc: Global, reader: &mut R) -> Result<DumpInput
 }
 
 /// The dump that the input is, once its rules are checked, or the first fault.
-pub(crate) fn checked_input(alloc: Global, input: DumpInput) -> Result<Dump, InputFault>
+pub(crate) fn dump_of_input(alloc: Global, input: DumpInput) -> Result<Dump, InputFault>
     ensures dump { IfOk result (λ dump. dump ≡ parts_of input.raw) }
     ensures rules { IfOk result IsDump }
     ensures fault { IfErr result (IsRefusalOf input) }
@@ -188,5 +188,5 @@ pub fn read_dump<R: Read>(alloc: Global, reader: &mut R) -> Result<Dump, InputFa
     ensures dump { IfOk result (λ dump. IfSome (R.remaining reader.old) (λ input. IsDumpOf input dump)) }
     ensures fault { IfErr result (λ fault. IfSome (R.remaining reader.old) (λ input. IsNoDump input fault)) }
 {
-    checked_input(alloc, read_raw_dump(alloc, reader)?)
+    dump_of_input(alloc, read_raw_dump(alloc, reader)?)
 }

@@ -6,7 +6,7 @@ ghost use Rattle.fbl_input.specs.Misfits.{Gives, IsMisfit, IsOfShape};
 ghost use Rattle.fbl_texts.specs.Logs.{IsCheckedOf, IsNotChecked, IsNotRecorded, IsMisfitOf, IsRecordedOf, ObeysRules, RefusesNothing, recorded_kind, recorded_of_data, recorded_of_input, recorded_parts};
 
 use crate::log_reading::raw_log_of;
-use crate::reading::{DumpInput, checked_input, raw_dump_of};
+use crate::reading::{DumpInput, dump_of_input, raw_dump_of};
 use fbl_base::RawDump;
 use fbl_base::audit::Dump;
 use fbl_input::shapes::value_in;
@@ -101,7 +101,7 @@ pub fn read_recorded<R: Read>(alloc: Global, reader: &mut R) -> Result<RecordedI
 }
 
 /// What the input records, once its rules are checked, or the first fault.
-pub fn checked(alloc: Global, input: RecordedInput) -> Result<Checked, InputFault>
+pub fn checked_input(alloc: Global, input: RecordedInput) -> Result<Checked, InputFault>
     ensures parts { IfOk result (λ found. found ≡ recorded_parts input.recorded) }
     ensures rules { IfOk result ObeysRules }
     ensures fault { (bytes : List ℕ) → IsRecordedOf bytes input → IfErr result (IsNotChecked bytes) }
@@ -109,7 +109,7 @@ pub fn checked(alloc: Global, input: RecordedInput) -> Result<Checked, InputFaul
     let RecordedInput { recorded, bytes } = input;
     match recorded {
         Recorded::Dump(raw) => {
-            Ok(Checked::Dump(checked_input(alloc, DumpInput { raw, bytes })?))
+            Ok(Checked::Dump(dump_of_input(alloc, DumpInput { raw, bytes })?))
         }
         Recorded::Log(raw) => match checked_log(alloc, raw) {
             Ok(log) => Ok(Checked::Log(log)),
@@ -128,5 +128,5 @@ pub fn read_checked<R: Read>(alloc: Global, reader: &mut R) -> Result<Checked, I
     ensures checked { IfOk result (λ found. IfSome (R.remaining reader.old) (λ input. IsCheckedOf input found)) }
     ensures fault { IfErr result (λ fault. IfSome (R.remaining reader.old) (λ input. IsNotChecked input fault)) }
 {
-    checked(alloc, read_recorded(alloc, reader)?)
+    checked_input(alloc, read_recorded(alloc, reader)?)
 }

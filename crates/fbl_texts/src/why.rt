@@ -1,6 +1,7 @@
 //! Why receipts are lost, or could be: who holds them, and by which paths members that are left depend on them.
 
 ghost use Rattle.std.specs.Prelude.{◌≡◌, IfOk, MatchOption};
+ghost use Rattle.std.specs.List.{AllZip};
 ghost use Rattle.fbl_base.specs.Events.{At, receipt_of};
 ghost use Rattle.fbl_base.specs.Precedence.{Has};
 ghost use Rattle.fbl_texts.specs.Auditing.{ArePathsFrom, IsLossReason, TellsLost, TellsUnsafe};
@@ -95,6 +96,22 @@ fn loss_reason(
     })
 }
 
+/// Why the strike loses each of these receipts.
+pub(crate) fn loss_reasons(
+    alloc: Global,
+    audit: &Audit,
+    lost: &[Determinant],
+    strike: MemberSet,
+) -> Result<Vec<LossReason>, AllocError>
+    ensures { IfOk result (λ reasons. AllZip (λ d. IsLossReason audit.now d strike) lost.now reasons.items) }
+{
+    let mut reasons = Vec::new(alloc);
+    for determinant in lost {
+        reasons.push(loss_reason(alloc, audit, determinant, strike)?)?;
+    }
+    Ok(reasons)
+}
+
 /// Why each lost receipt of the dump is lost, and a path from it to each orphan that depends on it. The time taken is that of
 /// a pass over the events for each lost receipt. `Err` comes only where there is no memory for the paths.
 pub fn why_lost<'a>(alloc: Global, dump: &'a Dump) -> Result<Why<'a>, AllocError>
@@ -103,11 +120,7 @@ pub fn why_lost<'a>(alloc: Global, dump: &'a Dump) -> Result<Why<'a>, AllocError
 {
     let audit = Audit::of(alloc, dump)?;
     let lost = audit.lost(alloc)?;
-    let strike = dump.strike();
-    let mut receipts = Vec::new(alloc);
-    for determinant in &lost {
-        receipts.push(loss_reason(alloc, &audit, determinant, strike)?)?;
-    }
+    let receipts = loss_reasons(alloc, &audit, lost.as_slice(), dump.strike())?;
     Ok(Why { dump, receipts })
 }
 
@@ -127,29 +140,46 @@ pub fn why_unsafe<'a>(alloc: Global, dump: &'a Dump) -> Result<Why<'a>, AllocErr
     Ok(Why { dump, receipts })
 }
 
-/// Writes who holds the receipt.
-fn write_holders<W: fmt::Write>(f: &mut fmt::Formatter<W>, reason: &LossReason) -> fmt::Result {
-    let Determinant { from, ssn, to, rsn } = reason.determinant;
+/// Writes who holds the receipt, and when, where that is said.
+pub(crate) fn write_holders<W: fmt::Write>(
+    f: &mut fmt::Formatter<W>,
+    determinant: &Determinant,
+    holders: MemberSet,
+    strike: MemberSet,
+    when: &str,
+) -> fmt::Result {
+    let Determinant { from, ssn, to, rsn } = *determinant;
     write!(f, "determinant {from} {ssn} {to} {rsn} is held by ")?;
-    if reason.holders.is_empty() {
-        return f.write_str("nobody");
+    if holders.is_empty() {
+        return write!(f, "nobody{when}");
     }
-    let holders = reason.holders;
-    let strike = reason.strike;
-    write!(f, "{holders}, and a strike of {strike} loses it")
+    write!(f, "{holders}{when}, and a strike of {strike} loses it")
+}
+
+/// What a list has at a place of a path.
+pub(crate) trait OnPath {
+    /// The send or receipt, if it is one.
+    fn event(&self) -> Option<Mark>;
+}
+
+impl OnPath for Mark {
+    fn event(&self) -> Option<Mark> {
+        Some(*self)
+    }
 }
 
 /// Writes the orphan, and the events of the path to it, as in `orphan 2 depends on it: receipt 1 of member 1, send 1 of member 1`.
-fn write_path<W: fmt::Write>(
+/// The places are those in the list.
+pub(crate) fn write_path<W: fmt::Write, E: OnPath>(
     f: &mut fmt::Formatter<W>,
-    events: &[Mark],
-    path: &OrphanPath,
+    orphan: Member,
+    list: &[E],
+    places: &[usize],
 ) -> fmt::Result {
-    let orphan = path.orphan;
     write!(f, "orphan {orphan} depends on it")?;
     let mut before = ":";
-    for place in &path.places {
-        match events.get(*place) {
+    for place in places {
+        match list.get(*place).and_then(|item| item.event()) {
             Some(Mark::Send { from, ssn, .. }) => {
                 write!(f, "{before} send {ssn} of member {from}")?;
             }
@@ -163,19 +193,27 @@ fn write_path<W: fmt::Write>(
     f.write_str("\n")
 }
 
+/// Writes the reasons, where these are the events of the dump.
+pub(crate) fn write_losses<W: fmt::Write>(
+    f: &mut fmt::Formatter<W>,
+    events: &[Mark],
+    reasons: &[LossReason],
+) -> fmt::Result {
+    for reason in reasons {
+        write_holders(f, &reason.determinant, reason.holders, reason.strike, "")?;
+        if reason.orphans.is_empty() {
+            f.write_str("; nobody else depends on it")?;
+        }
+        f.write_str("\n")?;
+        for path in &reason.orphans {
+            write_path(f, path.orphan, events, path.places.as_slice())?;
+        }
+    }
+    Ok(())
+}
+
 impl fmt::Display for Why<'_> {
     fn fmt<W: fmt::Write>(&self, f: &mut fmt::Formatter<W>) -> fmt::Result {
-        let events = self.dump.events();
-        for reason in &self.receipts {
-            write_holders(f, reason)?;
-            if reason.orphans.is_empty() {
-                f.write_str("; nobody else depends on it")?;
-            }
-            f.write_str("\n")?;
-            for path in &reason.orphans {
-                write_path(f, events, path)?;
-            }
-        }
-        Ok(())
+        write_losses(f, self.dump.events(), self.receipts.as_slice())
     }
 }

@@ -97,7 +97,10 @@ impl Form<Member> for MemberForm {
 }
 
 /// The items as a list.
-pub(crate) fn list_value<T: Copy, F: Form<T>>(alloc: Global, items: &[T]) -> Result<Value, AllocError>
+pub(crate) fn list_value<T: Copy, F: Form<T>>(
+    alloc: Global,
+    items: &[T],
+) -> Result<Value, AllocError>
     ensures value { IfOk result (λ v. view v ≡ list_data (map F.form items.now)) }
     ensures reads_back { IfOk result (λ v. All (λ x. F.shape (F.form x) ≡ Some x) items.now) }
 {
