@@ -44,6 +44,8 @@ class Player:
         self.count, self.f, self.behaviour = script["members"], script["f"], script["behaviour"]
         self.members = [Member() for _ in range(self.count)]
         self.channels, self.marks, self.made, self.lost = {}, [], 0, 0
+        # what is told of each strike
+        self.told = []
         # for each mark of an event that stands, its event
         self.standing = {}
         self.plans = [dict((at, members) for at, members in command[1]) for command in script["commands"] if command[0] == "run"]
@@ -106,11 +108,14 @@ class Player:
             for determinant, holders in table.items():
                 gathered.setdefault(determinant, set()).update(holders | set(down))
         self.channels = {ends: flight for ends, flight in self.channels.items() if not set(ends) & set(down)}
+        before = self.lost
         for member in down:
             self.restore(member, gathered)
-        for member in down:
-            self.mark("recovery", None, f"member {member} is recovered, {plural(len(self.members[member].received), 'receipt')} replayed")
-        self.send_again(down)
+        replayed = [len(self.members[member].received) for member in down]
+        for member, count in zip(down, replayed):
+            self.mark("recovery", None, f"member {member} is recovered, {plural(count, 'receipt')} replayed")
+        lost, again = self.lost - before, self.send_again(down)
+        self.told.append(f"strike {down} at receipt {self.made}: receipts lost {lost}, replayed {sum(replayed)}, undone {lost}; messages sent again {again}")
 
     def restore(self, member, gathered):
         """Undoes the member's receipts that nobody holds, with what it did after the first one, and makes the others again."""
@@ -139,12 +144,15 @@ class Player:
             mark[0], mark[1] = f"{sort} undone", f"{mark[1]}, undone"
 
     def send_again(self, down):
-        """What the logs of senders have and nobody has received goes again, from and to the restored members."""
+        """What the logs of senders have and nobody has received goes again, from and to the restored members: so many messages."""
+        count = 0
         for source in range(self.count):
             for ssn, (to, _) in enumerate(self.members[source].sent, 1):
                 if source in down or to in down:
                     if (source, ssn) not in [taken[:2] for taken in self.members[to].received]:
                         self.put(source, ssn)
+                        count += 1
+        return count
 
     def heading(self):
         return f"{self.count} members, f {self.f}, {self.behaviour}: {plural(self.made, 'receipt')} made, {self.lost} undone"
@@ -165,27 +173,28 @@ def played(script, marks):
     for sort, title in marks:
         if sort.startswith("receipt"):
             words = title.replace(":", "").replace(",", "").split()
-            player.deliver(int(words[1]), int(words[6]))
+            player.deliver(int(words[1]), int(words[7]))
     return player
 
 
 def explained(told):
-    """What the explanation of a run counts: its strikes, and the receipts made and undone."""
-    strikes = [line for line in told.splitlines() if line.startswith("at receipt ")]
+    """What the explanation of a run tells of each strike, and how many receipts were made and undone."""
+    strikes = [line.split(", ", 1)[1].replace(" ", "") for line in told.splitlines() if " at receipt " in line]
     made, undone = told.split("receipts made ")[1].split(";")[0].split(", undone ")
-    return len(strikes), int(made), int(undone)
+    return strikes, int(made), int(undone)
 
 
 def judge_run(case):
+    """Whether the picture, its heading and what is explained are those of the player."""
     script, workers = case
     ran = run(["show", "--explain", "--workers", str(workers)], json.dumps(script).encode())
     picture = Picture(ran.text)
     marks = picture.titled()
     player = played(script, marks)
-    strikes = len({at for plan in [script["commands"][0][1]] for at, _ in plan if at <= player.made})
+    wanted = [line.replace(" ", "") for line in player.told], player.made, player.lost
     yield ran.status == 0 and marks == [tuple(mark) for mark in player.marks], f"the run of {script} by {workers}: {marks} and not {player.marks}"
     yield picture.heading == player.heading(), f"the run of {script} by {workers}: {picture.heading} and not {player.heading()}"
-    yield explained(ran.fault) == (strikes, player.made, player.lost), f"the run of {script} by {workers}: {ran.fault}"
+    yield explained(ran.fault) == wanted, f"the run of {script} by {workers}: {ran.fault}, and not {wanted}"
     yield not any(player.channels.values()), f"the run of {script} by {workers}: {player.channels} are in flight"
 
 

@@ -1,5 +1,5 @@
--- What comes of several dumps: one dump of all their events, in an order.
-use Rattle.std.specs.Prelude.{◌≡◌, ℕ, List}
+-- What comes of several dumps, or of several logs: one of all their events, in an order.
+use Rattle.std.specs.Prelude.{◌≡◌, ℕ, ◌<◌, List, Some, map, slice_get}
 use Rattle.fbl_base.specs.declared.raw_dump.RawDump.{RawDump}
 use Rattle.fbl_base.specs.declared.refusal.DumpRefusal.TheVariants as dump
 use Rattle.fbl_base.specs.declared.trace.Mark.{Mark}
@@ -10,8 +10,16 @@ use Rattle.fbl_order.specs.declared.parts.PartsFault.TheVariants as parts
 use Rattle.fbl_order.specs.Faults.{RefusesUnordered}
 use Rattle.fbl_order.specs.Orders.{SameAnswers, with_events, IsOrder}
 use Rattle.fbl_order.specs.Parts.{IsUnited, RefusesParts}
+use Rattle.fbl_moments.specs.Logs.{LogParts}
+use Rattle.fbl_moments.specs.declared.log.RawLog.{RawLog}
+use Rattle.fbl_order.specs.declared.fault.LogOrderFault.TheVariants as log_orders
+use Rattle.fbl_texts.specs.declared.recorded.Recorded.{Recorded}
+use Rattle.fbl_texts.specs.declared.recorded.Recorded.TheVariants as raws
 use Rattle.fblrun.specs.declared.merging.MergeFault.{MergeFault}
 use Rattle.fblrun.specs.declared.merging.MergeFault.TheVariants as faults
+use Rattle.fblrun.specs.declared.merging.MergedLog.{MergedLog}
+use Rattle.fblrun.specs.declared.merging.Together.{Together}
+use Rattle.fblrun.specs.declared.merging.Together.TheVariants.{Dumps, Logs}
 
 -- the dump is the whole, but for its events, which stand in an order; where they obeyed the rules, they stand as they did; and in
 -- whichever order they stand, an audit and a check answer the same
@@ -30,9 +38,11 @@ IsMergeOf dumps dump = (whole : Parts) × IsUnited dumps whole × IsMerged whole
 abbrev pub RefusesMerge : {A : Type 0} → List (RawDump A) → MergeFault → Type 0
 RefusesMerge dumps (faults.Parts fault) = RefusesParts dumps fault
 RefusesMerge dumps (faults.Order fault) = (whole : Parts) × IsUnited dumps whole × RefusesUnordered whole fault
+RefusesMerge dumps fault = ⊥
 
 -- 4 where memory ran out, and else 2
 abbrev pub merge_status : MergeFault → ℕ
 merge_status (faults.Parts parts.Memory) = 4
 merge_status (faults.Order (orders.Dump dump.Memory breach)) = 4
+merge_status (faults.Log (log_orders.Log dump.Memory breach)) = 4
 merge_status fault = 2
