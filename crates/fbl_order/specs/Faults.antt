@@ -3,7 +3,7 @@ use Rattle.std.specs.Prelude.{ℕ, ◌≡◌, ◌≢◌, ◌≤◌, ◌+◌, ◌
 use Rattle.fbl_base.specs.declared.fault.Breach.{Breach}
 use Rattle.fbl_base.specs.declared.fault.Breach.TheVariants as breach
 use Rattle.fbl_base.specs.declared.refusal.DumpRefusal.{DumpRefusal}
-use Rattle.fbl_base.specs.declared.refusal.DumpRefusal.TheVariants.{BadEvent, Memory}
+use Rattle.fbl_base.specs.declared.refusal.DumpRefusal.TheVariants.{BadEvent, BadF, BadMembers, Memory}
 use Rattle.fbl_base.specs.declared.fault.EventRule.TheVariants.{TooMany, NothingInFlight}
 use Rattle.fbl_base.specs.declared.trace.Mark.{Mark}
 use Rattle.fbl_base.specs.Audit.{Parts, RefusesDump}
@@ -62,15 +62,31 @@ pub record IsChain (n : ℕ) (events run : List Mark) (chain : List Stuck) : Typ
   pub closed : (s : Stuck) (place : ℕ) → slice_get chain (length chain - 1) ≡ Some s → s.obstacle ≡ Waits place → StandsIn chain place
 
 -- no order obeys the rules, since the first of the chain, the first of the events that no part of an order has, waits in vain
-abbrev pub RefusesOrder : {A : Type 0} → ℕ → List Mark → OrderFault A → Type 0
-RefusesOrder n events (NoOrder chain) =
-    HasNoOrder n events
-    × ((run : List Mark) × IsFurthest n events run × IsChain n events run chain.items)
-    × ((first : ℕ) × StartsAt chain.items first × IsFirstBreach (CanCome n events) first)
-RefusesOrder n events (Dump (BadEvent place) (breach.Event fault)) =
+pub record ShowsNoOrder (n : ℕ) (events : List Mark) (chain : List Stuck) : Type 0 where
+  pub none : HasNoOrder n events
+  pub run : List Mark
+  pub furthest : IsFurthest n events run
+  pub waits : IsChain n events run chain
+  pub place : ℕ
+  pub starts : StartsAt chain place
+  pub first : IsFirstBreach (CanCome n events) place
+
+-- there are too many events for any order; or memory ran out
+abbrev pub RefusesEvents : ℕ → List Mark → DumpRefusal → Breach → Type 0
+RefusesEvents n events (BadEvent place) (breach.Event fault) =
     HasNoOrder n events × (place ≡ 8192) × (fault.place ≡ place) × At events place fault.event × (fault.rule ≡ TooMany)
-RefusesOrder n events (Dump Memory breach.Memory) = Unit {0}
-RefusesOrder n events (Dump _ _) = ⊥
+RefusesEvents n events Memory breach.Memory = Unit {0}
+RefusesEvents n events _ _ = ⊥
+
+abbrev pub RefusesOrder : {A : Type 0} → ℕ → List Mark → OrderFault A → Type 0
+RefusesOrder n events (NoOrder chain) = ShowsNoOrder n events chain.items
+RefusesOrder n events (Dump refusal broken) = RefusesEvents n events refusal broken
+
+-- no group has these numbers, for this reason
+abbrev pub RefusesGroup : ℕ → ℕ → DumpRefusal → Breach → Type 0
+RefusesGroup members f BadMembers (breach.Members other) = ¬ (MembersAllowed members) × (other ≡ members)
+RefusesGroup members f BadF (breach.F given of) = MembersAllowed members × ¬ (FAllowed members f) × (given ≡ f) × (of ≡ members)
+RefusesGroup members f _ _ = ⊥
 
 -- the members and f are allowed, and the events have no order; or the dump is refused in whichever order they are
 abbrev pub RefusesUnordered : {A : Type 0} → Parts → OrderFault A → Type 0

@@ -1,43 +1,90 @@
--- Dumps in several parts.
-use Rattle.std.specs.Prelude.{ℕ, ◌≡◌, ◌≢◌, ◌<◌, ◌+◌, ◌⊎◌, List, Some, flat_map, slice_get, slice_index, sum, take}
+-- What is recorded of a run in several parts: dumps, or logs.
+use Rattle.std.specs.Prelude.{ℕ, ◌≡◌, ◌≢◌, ◌<◌, ◌+◌, ◌⊎◌, List, Some, flat_map, length, slice_get, slice_index, sum, take}
 use Rattle.std.specs.List.{list_any}
 use Rattle.std.specs.FinSet as set
 use Rattle.fbl_base.specs.declared.raw_dump.RawDump.{RawDump}
 use Rattle.fbl_base.specs.Audit.{Parts}
 use Rattle.fbl_base.specs.Configs.{IsFirstBreach}
+use Rattle.fbl_moments.specs.declared.entry.Entry.{Entry}
+use Rattle.fbl_moments.specs.declared.log.EntryOrigin.{EntryOrigin}
+use Rattle.fbl_moments.specs.declared.log.RawLog.{RawLog}
+use Rattle.fbl_moments.specs.Logs.{LogParts}
+use Rattle.fbl_order.specs.declared.parts.Group.{Group}
 use Rattle.fbl_order.specs.declared.parts.PartsFault.{PartsFault}
 use Rattle.fbl_order.specs.declared.parts.PartsFault.TheVariants.{Members, F, Memory}
 
--- the part has the members and the f of the first one
-abbrev pub Agrees : {A : Type 0} → RawDump A → RawDump A → Type 0
-Agrees first part = (part.members ≡ first.members) × (part.f ≡ first.f)
+-- ---- what the parts say of the group
+
+-- what a dump says of it
+abbrev pub dump_group : {A : Type 0} → RawDump A → Group
+dump_group part = record { members = part.members; f = part.f; strike = part.strike }
+
+-- what a log says of it
+abbrev pub log_group : RawLog → Group
+log_group part = record { members = part.members; f = part.f; strike = part.strike }
+
+-- the group has the members and the f of the first one
+abbrev pub Agrees : Group → Group → Type 0
+Agrees first group = (group.members ≡ first.members) × (group.f ≡ first.f)
 
 -- the part at the place, if there is one, agrees with the first one
-abbrev pub AgreesAt : {A : Type 0} → List (RawDump A) → ℕ → Type 0
-AgreesAt {A} parts i = (first part : RawDump A) → slice_get parts 0 ≡ Some first → slice_get parts i ≡ Some part → Agrees first part
+abbrev pub AgreesAt : {P : Type 0} → (P → Group) → List P → ℕ → Type 0
+AgreesAt {P} group_of parts i =
+    (first part : P) → slice_get parts 0 ≡ Some first → slice_get parts i ≡ Some part → Agrees (group_of first) (group_of part)
 
--- the whole has what the parts agree on, their events and pairs in their order, and the members that some part strikes
-pub record IsUnited {A : Type 0} (parts : List (RawDump A)) (whole : Parts) : Type 0 where
-  pub agree : (i : ℕ) (part : RawDump A) → slice_get parts i ≡ Some part → (part.members ≡ whole.members) × (part.f ≡ whole.f)
-  pub events : whole.events ≡ flat_map (λ part. part.events.items) parts
-  pub held : whole.held ≡ flat_map (λ part. part.held.items) parts
-  pub strike : (q : ℕ) → set.contains whole.strike q ≡ list_any (λ part. set.contains part.strike q) parts
+-- the group has what the parts agree on, and the members that some part strikes
+pub record IsUnion {P : Type 0} (group_of : P → Group) (parts : List P) (group : Group) : Type 0 where
+  pub agree : (i : ℕ) (part : P) → slice_get parts i ≡ Some part → Agrees group (group_of part)
+  pub strike : (q : ℕ) → set.contains group.strike q ≡ list_any (λ part. set.contains (group_of part).strike q) parts
 
 -- the fault has what the part at the place and the first one do not agree on
-abbrev pub Differs : {A : Type 0} → ℕ → RawDump A → RawDump A → PartsFault → Type 0
+abbrev pub Differs : ℕ → Group → Group → PartsFault → Type 0
 Differs i a b (Members part first other) = (part ≡ i) × (first ≡ a.members) × (other ≡ b.members) × (other ≢ first)
 Differs i a b (F part first other) = (part ≡ i) × (b.members ≡ a.members) × (first ≡ a.f) × (other ≡ b.f) × (other ≢ first)
 Differs i a b Memory = ⊥
 
 -- the fault is of the first part that does not agree with the first one
-abbrev pub IsFirstOther : {A : Type 0} → List (RawDump A) → PartsFault → Type 0
-IsFirstOther {A} parts fault =
-    (i : ℕ) × IsFirstBreach (AgreesAt parts) i
-    × ((first : RawDump A) × (other : RawDump A) × (slice_get parts 0 ≡ Some first) × (slice_get parts i ≡ Some other) × Differs i first other fault)
+abbrev pub IsFirstOther : {P : Type 0} → (P → Group) → List P → PartsFault → Type 0
+IsFirstOther {P} group_of parts fault =
+    (i : ℕ) × IsFirstBreach (AgreesAt group_of parts) i
+    × ((first : P) × (other : P) × (slice_get parts 0 ≡ Some first) × (slice_get parts i ≡ Some other) × Differs i (group_of first) (group_of other) fault)
 
-abbrev pub RefusesParts : {A : Type 0} → List (RawDump A) → PartsFault → Type 0
-RefusesParts parts fault = (fault ≡ Memory) ⊎ IsFirstOther parts fault
+abbrev pub RefusesParts : {P : Type 0} → (P → Group) → List P → PartsFault → Type 0
+RefusesParts group_of parts fault = (fault ≡ Memory) ⊎ IsFirstOther group_of parts fault
+
+-- ---- dumps
+
+-- the whole has the group of the parts, and their events and pairs in their order
+pub record IsUnited {A : Type 0} (parts : List (RawDump A)) (whole : Parts) : Type 0 where
+  pub group : IsUnion dump_group parts (record { members = whole.members; f = whole.f; strike = whole.strike })
+  pub events : whole.events ≡ flat_map (λ part. part.events.items) parts
+  pub held : whole.held ≡ flat_map (λ part. part.held.items) parts
 
 -- the place stands in the list that is named first, at the place that is named second
 abbrev pub IsPlaceIn : List ℕ → ℕ → ℕ × ℕ → Type 0
 IsPlaceIn lengths place at = (at.1 < slice_index lengths at.0) × (sum (take at.0 lengths) + at.1 ≡ place)
+
+-- ---- logs
+
+-- their entries, in their order
+abbrev pub entries_of : List RawLog → List Entry
+entries_of parts = flat_map (λ part. part.entries.items) parts
+
+-- the whole has the group of the parts, and their entries
+pub record IsUnitedLog (parts : List RawLog) (whole : LogParts) : Type 0 where
+  pub group : IsUnion log_group parts (record { members = whole.members; f = whole.f; strike = whole.strike })
+  pub entries : whole.entries ≡ entries_of parts
+
+-- the part and the place in it are those of the entry that stands at the place among all of them
+pub record IsOriginOf (parts : List RawLog) (place : ℕ) (origin : EntryOrigin) : Type 0 where
+  pub part : RawLog
+  pub log : slice_get parts origin.log ≡ Some part
+  pub entry : Entry
+  pub here : slice_get part.entries.items origin.place ≡ Some entry
+  pub there : slice_get (entries_of parts) place ≡ Some entry
+  pub before : length (entries_of (take origin.log parts)) + origin.place ≡ place
+
+-- for each entry, at its place, where it stands in its part
+pub record AreOrigins (parts : List RawLog) (origins : List EntryOrigin) : Type 0 where
+  pub count : length origins ≡ length (entries_of parts)
+  pub each : (place : ℕ) (origin : EntryOrigin) → slice_get origins place ≡ Some origin → IsOriginOf parts place origin

@@ -1,6 +1,7 @@
 //! Why the events of a run have no order.
 
 use fbl_base::{Breach, DumpRefusal, EventRule, Mark};
+use fbl_moments::LogBreach;
 use std::alloc::{AllocError, Allocator, Global};
 use std::convert::From;
 use thiserror::Error;
@@ -54,5 +55,28 @@ impl<A: Allocator> From<AllocError> for OrderFault<A> {
 
     fn from(_: AllocError) -> OrderFault<A> {
         OrderFault::Dump(DumpRefusal::Memory, Breach::Memory)
+    }
+}
+
+/// Why the entries of a log, or a log of them, are refused.
+#[derive(Drop, Debug)]
+pub enum LogOrderFault {
+    /// No order of the sends and receipts obeys the rules, for the reason that `OrderFault` has. Places are those among all entries.
+    NoOrder(Vec<Stuck>),
+    /// A log of the entries, in whichever order, is refused, for this. Places are those at which the entries were given.
+    Log(DumpRefusal, LogBreach),
+}
+
+impl From<AllocError> for LogOrderFault {
+    ghost use Rattle.std.specs.Prelude.{◌≡◌};
+    ghost use Rattle.fbl_base.specs.declared.fault.Breach.TheVariants as breach;
+    ghost use Rattle.fbl_base.specs.declared.refusal.DumpRefusal.TheVariants.{Memory};
+    ghost use Rattle.fbl_moments.specs.declared.fault.LogBreach.TheVariants.{Trace};
+    ghost use Rattle.fbl_order.specs.declared.fault.LogOrderFault.TheVariants.{Log};
+
+    ghost from_gives = { λ _ e. e ≡ Log Memory (Trace breach.Memory) };
+
+    fn from(_: AllocError) -> LogOrderFault {
+        LogOrderFault::Log(DumpRefusal::Memory, LogBreach::Trace(Breach::Memory))
     }
 }

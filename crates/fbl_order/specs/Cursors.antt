@@ -1,0 +1,30 @@
+-- Where the members' next items stand in a list in which those of different members are mixed: events, or entries.
+use Rattle.std.specs.Prelude.{ℕ, ◌≡◌, ◌==◌, ◌<◌, ◌≤◌, Bool, true, false, List, Option, Some, None, length, slice_get, slice_index_or, take}
+use Rattle.std.specs.List.{filter}
+
+-- the member's own items, in order
+abbrev pub own : {X : Type 0} → (X → ℕ) → ℕ → List X → List X
+own of member items = filter (λ x. of x == member) items
+
+-- an item of the member stands at the place, if there is one
+abbrev pub IsNextOf : {X : Type 0} → (X → ℕ) → List X → ℕ → ℕ → Type 0
+IsNextOf {X} of items member place = (place ≤ length items) × ((x : X) → slice_get items place ≡ Some x → of x ≡ member)
+
+-- the member's first item from the start on stands at the place, if there is one
+pub record IsFirstFrom {X : Type 0} (of : X → ℕ) (items : List X) (start member place : ℕ) : Type 0 where
+  pub later : start ≤ place
+  pub next : IsNextOf of items member place
+  pub skips : own of member (take place items) ≡ own of member (take start items)
+
+-- of the members' cursors, the least at whose place something may come
+abbrev pub IsLeastCursor : (ℕ → Type 0) → (ℕ → ℕ) → Option ℕ → Type 0
+IsLeastCursor MayCome cursor None = (member : ℕ) → ¬ (MayCome (cursor member))
+IsLeastCursor MayCome cursor (Some place) =
+    MayCome place × ((member : ℕ) × (cursor member ≡ place)) × ((member : ℕ) → MayCome (cursor member) → place ≤ cursor member)
+
+-- of the cursors before the end, the least for which the answer is yes
+abbrev pub IsLeastGiven : (ℕ → Bool → Type 0) → List ℕ → ℕ → Option ℕ → Type 0
+IsLeastGiven Gives cursors end None = (member : ℕ) → slice_index_or cursors member end < end → Gives (slice_index_or cursors member end) false
+IsLeastGiven Gives cursors end (Some place) =
+    (place < end) × Gives place true × ((member : ℕ) × (slice_index_or cursors member end ≡ place))
+    × ((member : ℕ) → slice_index_or cursors member end < place → Gives (slice_index_or cursors member end) false)
