@@ -5,7 +5,7 @@ ghost use Rattle.std.specs.Prelude.{◌≡◌, ◌<◌};
 
 use crate::command_line::Request;
 use crate::doing::{end_merged, end_merged_logs, obey};
-use crate::merging::{Parts, Together, together};
+use crate::merging::{Parts, Together, in_one_version};
 use crate::streams::{Failure, Named};
 use crate::telling::{refuse_input, refuse_merge};
 use crate::{DumpTask, INPUT_FAULT, NOT_WELL, Order, Task, fail};
@@ -296,7 +296,7 @@ where
             return Err(fail(rt, RunFault::Memory, None));
         }
     }
-    match together(alloc, files) {
+    match in_one_version(alloc, files) {
         Ok(files) => Ok(files),
         Err(fault) => Err(refuse_merge(rt, explain, &fault, Ok(Parts::named(alloc, names)))),
     }

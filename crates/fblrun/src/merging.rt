@@ -12,7 +12,7 @@ use fbl_order::{
     order_dump, order_log, place_in_lists, united, united_logs,
 };
 use fbl_texts::Recorded;
-use std::alloc::{AllocError, Global};
+use std::alloc::{AllocError, AllocFailed, Global};
 use std::convert::From;
 use std::fmt;
 
@@ -70,6 +70,17 @@ impl From<AllocError> for MergeFault {
     }
 }
 
+impl<T: Drop> From<AllocFailed<T>> for MergeFault {
+    ghost use Rattle.fblrun.specs.declared.merging.MergeFault.TheVariants.{Parts};
+    ghost use Rattle.fbl_order.specs.declared.parts.PartsFault.TheVariants.{Memory};
+
+    ghost from_gives = { λ _ e. e ≡ Parts Memory };
+
+    fn from(_: AllocFailed<T>) -> MergeFault {
+        MergeFault::Parts(PartsFault::Memory)
+    }
+}
+
 impl MergeFault {
     /// The exit status of the fault.
     pub(crate) fn status(&self) -> u8
@@ -123,7 +134,7 @@ pub(crate) enum Together {
 }
 
 /// What these files record, where they are of one version.
-pub(crate) fn together(alloc: Global, files: Vec<Recorded>) -> Result<Together, MergeFault>
+pub(crate) fn in_one_version(alloc: Global, files: Vec<Recorded>) -> Result<Together, MergeFault>
     ensures together { IfOk result (AreOfOneVersion files.items) }
     ensures refused { IfErr result (IsOtherVersion files.items) }
 {
