@@ -3,7 +3,8 @@
 ghost use Rattle.std.specs.Prelude.{◌≡◌, ℕ, List, Ok, IfOk, IfErr, IfSome};
 ghost use Rattle.serde_json.specs.View.{view};
 ghost use Rattle.fbl_input.specs.Misfits.{Gives, IsMisfit, IsOfShape};
-ghost use Rattle.fbl_texts.specs.Logs.{IsCheckedOf, IsNotChecked, IsNotRecorded, IsMisfitOf, IsRecordedOf, ObeysRules, RefusesNothing, recorded_kind, recorded_of_data, recorded_of_input, recorded_parts};
+ghost use Rattle.fbl_texts.specs.RawDumps.{RefusesNone};
+ghost use Rattle.fbl_texts.specs.Logs.{IsCheckedOf, IsNotChecked, IsNotRecorded, IsMisfitOf, IsRecordedOf, ObeysRules, recorded_kind, recorded_of_data, recorded_of_input, recorded_parts};
 
 use crate::log_reading::raw_log_of;
 use crate::reading::{DumpInput, dump_of_input, raw_dump_of};
@@ -68,7 +69,7 @@ fn recorded_of(alloc: Global, value: &Value) -> Result<Recorded, Misfit>
 /// What the bytes spell as a record of a run, or what they are read as and the first fault of their form.
 fn recorded_in(alloc: Global, input: &[u8]) -> Result<Recorded, (InputKind, Misfit)>
     ensures parts { IfOk result (λ found. recorded_of_input input.now ≡ Ok (recorded_parts found)) }
-    ensures fault { IfErr result (λ e. IsMisfitOf RefusesNothing input.now e.0 e.1) }
+    ensures fault { IfErr result (λ e. IsMisfitOf RefusesNone input.now e.0 e.1) }
 {
     match value_in(alloc, input) {
         Ok(value) => match recorded_of(alloc, &value) {
