@@ -11,7 +11,7 @@ loop-moment-preserved c =
     let line = string_bytes c.in_ok-line.line in (
       before.0 ++ line ∷ [],
       reasons_more (IsUnsafeMomentLine c.args.sources.now) c.args.moments.now _ c.moment-item.result before.0 line c.loop-moment-test.true
-      c.moment-item.is before.1 c.in_ok-line.ensures,
+          c.moment-item.is before.1 c.in_ok-line.ensures,
       c.in_ok-push_str.ensures.bytes ∙ ap (λ front. front ++ c.as_str.result.now) before.2 ∙ ap (λ end. concat before.0 ++ end) (c.as_str.ensures.value ∙ sym (append-nil line))
           ∙ sym (concat-append before.0 (line ∷ [])),
     )
