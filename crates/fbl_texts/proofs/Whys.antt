@@ -1,6 +1,6 @@
 -- How the paths from a receipt to its orphans are gathered, and reasons told.
 use Rattle.fbl_texts.proofs.Common.{ℕ, ◌≡◌, ◌<◌, ◌≤◌, ◌+◌, inl, inr, List, [], ◌∷◌, ◌++◌, length, take, arith, get_or, cases_eq, append-nil, append_assoc}
-use Rattle.fbl_texts.proofs.Common.{take_more, AllZip, Members, Determinant, Parts, WellFormed, Has-last, IsLeftOrphan, member_within, LossReason, OrphanPath}
+use Rattle.fbl_texts.proofs.Common.{take_more, AllZip, Members, Determinant, Parts, WellFormed, Has-last, IsLeftOrphan, member_within, OrphanPath}
 use Rattle.fbl_texts.proofs.Common.{ArePathsFrom, IsPathFrom}
 
 -- ---- one receipt
@@ -39,11 +39,11 @@ module _ (dump : Parts) (d : Determinant) (members : Members) where
 -- ---- all receipts
 
 -- one more receipt with its reason
-pub reasons_more : {X : Type 0} (IsReason : X → LossReason → Type 0) (xs : List X) (i : ℕ) (x : X) (reasons : List LossReason) (r : LossReason) → i < length xs → x ≡ get_or xs i x
+pub reasons_more : {X R : Type 0} (IsReason : X → R → Type 0) (xs : List X) (i : ℕ) (x : X) (reasons : List R) (r : R) → i < length xs → x ≡ get_or xs i x
     → AllZip IsReason (take i xs) reasons → IsReason x r → AllZip IsReason (take (i + 1) xs) (reasons ++ r ∷ [])
-reasons_more {X} IsReason xs i x reasons r below is told reason = rw (take_more xs i x below, ← is) (push (take i xs) reasons told)
+reasons_more {X} {R} IsReason xs i x reasons r below is told reason = rw (take_more xs i x below, ← is) (push (take i xs) reasons told)
   where
-    push : (xs : List X) (rs : List LossReason) → AllZip IsReason xs rs → AllZip IsReason (xs ++ x ∷ []) (rs ++ r ∷ [])
+    push : (xs : List X) (rs : List R) → AllZip IsReason xs rs → AllZip IsReason (xs ++ x ∷ []) (rs ++ r ∷ [])
     push [] [] told = (reason, tt)
     push [] (r' ∷ rs) told = absurd told
     push (x' ∷ xs) [] told = absurd told

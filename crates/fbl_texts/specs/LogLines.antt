@@ -15,13 +15,13 @@ use Rattle.fbl_texts.specs.Logs.{recorded_of_input}
 
 -- `[name, member, from, ssn, to, rsn]`
 abbrev pub record_data : List ℕ → ℕ → Determinant → Data
-record_data name member d = list_data (string name ∷ number_data member ∷ number_data d.from ∷ number_data d.ssn ∷ number_data d.to ∷ number_data d.rsn ∷ [])
+record_data name q d = list_data (string name ∷ number_data q ∷ number_data d.from ∷ number_data d.ssn ∷ number_data d.to ∷ number_data d.rsn ∷ [])
 
 -- an event as in a dump, `["hold", holder, from, ssn, to, rsn]` or `["store", member, from, ssn, to, rsn]`
 abbrev pub entry_data : Entry → Data
 entry_data (Event e) = event_data e
 entry_data (Hold holder d) = record_data (codes "hold") holder d
-entry_data (Store member d) = record_data (codes "store") member d
+entry_data (Store q d) = record_data (codes "store") q d
 
 -- an object with the keys of a log, in the order of their letters
 abbrev pub log_object : ℕ → ℕ → Data → Data → Data

@@ -1,5 +1,5 @@
 -- What an input records of a run, a dump or a log, or its first fault.
-use Rattle.std.specs.Prelude.{◌≡◌, ℕ, List, is_some, Result, Ok, Err, if◌then◌else◌}
+use Rattle.std.specs.Prelude.{◌≡◌, ℕ, List, Option, is_some, option_and_then, Result, Ok, Err, if◌then◌else◌}
 use Rattle.serde_json.specs.Data.{Data}
 use Rattle.serde_json.specs.Find.{as_object, get}
 use Rattle.fbl_base.specs.declared.refusal.DumpRefusal.TheVariants as dump
@@ -23,6 +23,7 @@ use Rattle.fbl_texts.specs.declared.recorded.Recorded.{Recorded}
 use Rattle.fbl_texts.specs.declared.recorded.Recorded.TheVariants as raws
 use Rattle.fbl_texts.specs.declared.recorded.RecordedInput.{RecordedInput}
 use Rattle.fbl_texts.specs.Dumps.{RefusesParts, parts_of_data}
+use Rattle.fbl_texts.specs.RawDumps.{RefusesNone}
 
 -- ---- what an input gives
 
@@ -41,9 +42,9 @@ log_of_data d = do
   strike ← field keys.Strike set_shape d
   if is_some (unknown_key kinds.Log d) then Err faults.UnknownKey else Ok (record { members = members; f = f; entries = entries; strike = strike })
 
--- what a value is read as: a log where it has a version, and else a dump
+-- what a value is read as: a log where its version is 2, and else a dump
 abbrev pub recorded_kind : Data → InputKind
-recorded_kind d = if is_some (get (name_of keys.Version) d) then kinds.Log else kinds.Dump
+recorded_kind d = if is_some (option_and_then log_version (get (name_of keys.Version) d)) then kinds.Log else kinds.Dump
 
 -- the parts of what a value of this kind records of a run, or its first fault
 abbrev pub recorded_as : InputKind → Data → Result Checked RunFault
@@ -109,19 +110,15 @@ HasKind fault input kind = (d : Data) → value_of_input input ≡ Ok d → kind
 -- is the input's
 pub record IsMisfitOf (Refuses : Checked → RunFault → Type 0) (input : List ℕ) (kind : InputKind) (misfit : Misfit) : Type 0 where
   pub fault : IsFaultOf kind (recorded_of_input input) Refuses IsOfRecorded input misfit
-  pub kind : HasKind misfit input kind
+  pub of_kind : HasKind misfit input kind
 
 -- the fault of a reader, where this is how what it gives may be refused, is so, and has the input's bytes
 abbrev pub IsFaultIn : (Checked → RunFault → Type 0) → List ℕ → InputFault → Type 0
 IsFaultIn Refuses input fault = IsMisfitOf Refuses input fault.kind fault.misfit × HasInput fault.misfit fault.input.items input
 
--- what has the form of a dump or of a log is not refused
-abbrev pub RefusesNothing : Checked → RunFault → Type 0
-RefusesNothing found fault = ⊥
-
 -- the fault of a reader of what has the form of a dump or of a log is so
 abbrev pub IsNotRecorded : List ℕ → InputFault → Type 0
-IsNotRecorded = IsFaultIn RefusesNothing
+IsNotRecorded = IsFaultIn RefusesNone
 
 -- the fault of a reader of dumps and logs is so
 abbrev pub IsNotChecked : List ℕ → InputFault → Type 0

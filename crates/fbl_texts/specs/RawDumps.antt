@@ -1,6 +1,6 @@
 -- An input that has the form of a dump, whether or not it obeys the rules of one, or its first fault.
 use Rattle.std.specs.Prelude.{◌≡◌, ℕ, List, Ok}
-use Rattle.fbl_base.specs.Audit.{Parts, RefusesDump, parts_of}
+use Rattle.fbl_base.specs.Audit.{RefusesDump, parts_of}
 use Rattle.fbl_base.specs.Breaches.{IsDumpBreach}
 use Rattle.fbl_base.specs.declared.fault.Breach.{Breach}
 use Rattle.fbl_base.specs.declared.refusal.DumpRefusal.{DumpRefusal}
@@ -18,8 +18,8 @@ use Rattle.fbl_texts.specs.declared.reading.DumpInput.{DumpInput}
 abbrev pub IsRawDumpOf : List ℕ → DumpInput → Type 0
 IsRawDumpOf input found = (parts_of_input input ≡ Ok (parts_of found.raw)) × (found.bytes.items ≡ input)
 
--- what has the form of a dump is not refused
-abbrev pub RefusesNone : Parts → RunFault → Type 0
+-- what has the form that is asked for is not refused
+abbrev pub RefusesNone : {A : Type 0} → A → RunFault → Type 0
 RefusesNone parts fault = ⊥
 
 -- the fault is the first of the input's form

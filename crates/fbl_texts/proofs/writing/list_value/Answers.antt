@@ -1,5 +1,5 @@
 use Rattle.fbl_texts.proofs.Common.{◌≡◌, ap, ◌∙◌, Some, map, take_all, array, view, items_of, view-Array}
-use Rattle.fbl_texts.proofs.DumpValues.{next_value, next_read}
+use Rattle.fbl_texts.proofs.Values.{next_value, next_read}
 use Rattle.fbl_texts.proofs.writing.list_value.Goals as goal
 
 pub loop-item-preserved : goal.loop-item-preserved
