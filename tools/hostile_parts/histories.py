@@ -92,16 +92,15 @@ def tells_history(example, marks):
 
 
 def heads_history(picture):
-    """Whether the heading counts the receipts that are marked and those that have no column, and there is an arrow for each mark and a
-    stub for each message in flight."""
+    """Whether the heading counts the receipts that are marked, and there is an arrow for each mark and a stub for each message in
+    flight."""
     marks = picture.titled()
     sorts = [sort for sort, _ in marks]
     marked, crossed = sorts.count("receipt") + sorts.count("receipt undone"), sorts.count("receipt undone")
-    unmarked = sum(int(title.split()[0]) for sort, title in marks if sort == "at")
     arrows = picture.arrows()
     dotted = [line for line in arrows if "undone" in sorts_of(line)]
     well = len(arrows) == marked and len(dotted) == crossed and len(picture.stubs()) == sorts.count("send") - sorts.count("receipt")
-    return heading_counts(picture, marked + unmarked, crossed + unmarked) and well
+    return heading_counts(picture, marked, crossed) and well
 
 
 def heading_counts(picture, made, undone):

@@ -253,7 +253,10 @@ def try_logs_without_memory(refuser, _, tally):
     """Of several files the whole is written, or their fault, or nothing where a request for memory is refused."""
     logs = [EXAMPLES / "logs" / f"member-{member}.json" for member in range(3)]
     late = [EXAMPLES / "logs/member-0-send-last.json", *logs[1:]]
-    for words in (["merge", *logs], ["audit", *logs], ["check", "--explain", *logs], ["draw", *logs], ["merge", *late], ["merge", "--explain", *late]):
+    moments = [EXAMPLES / "moments" / f"member-{member}.json" for member in range(3)]
+    for words in (["merge", *logs], ["audit", *logs], ["check", "--explain", *logs], ["draw", *logs], ["merge", *late], ["merge", "--explain", *late],
+                  ["merge", *moments], ["audit", "--explain", *moments], ["check", "--explain", *moments], ["draw", *moments],
+                  ["check", *moments[1:]], ["check", *moments[1:], *logs[:1]]):
         wanted, refused = run(words), 0
         for variable in ("REFUSE_AT", "REFUSE_FROM"):
             for number, ran, met in refuser.refuse_each(words, variable=variable):
