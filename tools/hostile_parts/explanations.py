@@ -21,7 +21,8 @@ def tells_in_turn(example, text):
         if not begun.startswith(f"command {place}: ") or not text.startswith(lines):
             return False
         text = text[len(lines):]
-        if text.startswith(f"command {place}, "):
+        # of a run each strike has a line of its own
+        while text.startswith(f"command {place}, "):
             text = text.partition("\n")[2]
     return text == ""
 
