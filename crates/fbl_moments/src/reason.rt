@@ -1,6 +1,6 @@
 //! Why a receipt is unsafe at a moment.
 
-ghost use Rattle.std.specs.Prelude.{◌≡◌, ◌<◌, ℕ, IfOk, MatchOption, Some, length, slice_get};
+ghost use Rattle.std.specs.Prelude.{◌≡◌, ◌<◌, ℕ, IfOk, MatchOption, Some, length, map, slice_get, slice_index};
 ghost use Rattle.fbl_base.specs.Events.{At, receipt_of};
 ghost use Rattle.fbl_base.specs.Precedence.{Has};
 ghost use Rattle.fbl_moments.specs.Clocks.{cut_of};
@@ -94,12 +94,11 @@ fn event_path(
     Ok(path.unwrap_or(Vec::new(alloc)))
 }
 
-/// The path whose places among the sends and receipts are these.
-fn among_entries(
-    alloc: Global,
-    places: &[usize],
-    path: &[usize],
-) -> Result<Vec<usize>, AllocError> {
+/// The path whose places among the sends and receipts are these, where those stand at these places.
+fn among_entries(alloc: Global, places: &[usize], path: &[usize]) -> Result<Vec<usize>, AllocError>
+    requires { (k event : ℕ) → slice_get path.now k ≡ Some event → event < length places.now }
+    ensures { IfOk result (λ v. v.items ≡ map (slice_index places.now) path.now) }
+{
     let mut among = Vec::new(alloc);
     for event in path {
         among.push(places[*event])?;
