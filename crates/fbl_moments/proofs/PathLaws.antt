@@ -96,11 +96,22 @@ leads entries k l p q is_p is_q step =
     let b = step.1 in
     let at_a = event_position entries k p a is_p step.3 in
     let at_b = event_position entries l q b is_q step.4 in
-    let rise = places_rise entries k l p q is_p is_q step.2 in
-    (at (member_of a) (seen entries p (member_of a)), at (member_of b) (seen entries q (member_of b)), at_a.0, at_b.0, (Event a, Event b, at_a.1, at_b.1, elim step.5 [
-      | inl own ↦ inl (own, (let later = seen-later entries p q (member_of a) (Event a) (event_at entries k p a is_p step.3) refl rise in subst (λ (m : ℕ). seen entries p (member_of a) < seen entries q m) own later))
-      | inr takes ↦ inr (a, b, refl, refl, takes)
-    ]))
+    let rise = places_rise entries k l p q is_p is_q step.2 in (
+      at (member_of a) (seen entries p (member_of a)),
+      at (member_of b) (seen entries q (member_of b)),
+      at_a.0,
+      at_b.0,
+      (
+        Event a,
+        Event b,
+        at_a.1,
+        at_b.1,
+        elim step.5 [
+          | inl own ↦ inl (own, (let later = seen-later entries p q (member_of a) (Event a) (event_at entries k p a is_p step.3) refl rise in subst (λ (m : ℕ). seen entries p (member_of a) < seen entries q m) own later))
+          | inr takes ↦ inr (a, b, refl, refl, takes)
+        ],
+      ),
+    )
 
 module _ (entries : List Entry) (place : ℕ → ℕ) (are : (k : ℕ) → k < length (marks entries) → IsEventPlace entries k (place k)) where
   among : {i j : ℕ} {path : List ℕ} → audit.IsPath (marks entries) i j path → IsPath entries (place i) (place j) (map place path)
@@ -174,21 +185,21 @@ module _ (log : LogParts) (is : IsLog log) (said : UnsafeMoment) (says : IsSaidO
         | inr (inr above) ↦ absurd (earlier i l at_i first above)
       ] in
       (receipt_of r.0, r.1, same)
-      where
-        earlier : (i l : ℕ) → At (marks es) i (receipt_of d) → audit.IsFirstDependent (marks es) i j.member l → l < events_before es said.place → ⊥
-        earlier i l at_i first below =
-            let r = said_receipt in
-            let depends = says.dependent.depends in
-            let b = first.own.0 in
-            let p = some_place es l b first.own.1 in
-            let at_b = event_position es l p.0 b p.1 first.own.1 in
-            let rise = places_rise es l (events_before es said.place) p.0 said.place p.1 (receipt_of r.0, r.1, refl) below in
-            let path = from_marks log.members es is.lawful.events depends.0 _ depends.1 at_b.1 (events-from_places (marks es) i l (receipt_of d) b at_i first.own.1 first.depends) in
-            let later = seen-later es p.0 said.place (member_of b) (Event b) (event_at es l p.0 b p.1 first.own.1) refl rise in
-            let stands = says.shows.stands in
-            let P : ℕ → Type 0 = λ m. Precedes (log_of es) depends.0 (at m (seen es p.0 m)) × (seen es p.0 m < seen es said.place m) in
-            let own = subst P first.own.2 (path, later) in
-            says.dependent.first (seen es p.0 j.member) (let lt = own.1 in let n = stands.3 in omega (arith, lt, n)) (depends.0, depends.1, own.0)
+    where
+      earlier : (i l : ℕ) → At (marks es) i (receipt_of d) → audit.IsFirstDependent (marks es) i j.member l → l < events_before es said.place → ⊥
+      earlier i l at_i first below =
+          let r = said_receipt in
+          let depends = says.dependent.depends in
+          let b = first.own.0 in
+          let p = some_place es l b first.own.1 in
+          let at_b = event_position es l p.0 b p.1 first.own.1 in
+          let rise = places_rise es l (events_before es said.place) p.0 said.place p.1 (receipt_of r.0, r.1, refl) below in
+          let path = from_marks log.members es is.lawful.events depends.0 _ depends.1 at_b.1 (events-from_places (marks es) i l (receipt_of d) b at_i first.own.1 first.depends) in
+          let later = seen-later es p.0 said.place (member_of b) (Event b) (event_at es l p.0 b p.1 first.own.1) refl rise in
+          let stands = says.shows.stands in
+          let P : ℕ → Type 0 = λ m. Precedes (log_of es) depends.0 (at m (seen es p.0 m)) × (seen es p.0 m < seen es said.place m) in
+          let own = subst P first.own.2 (path, later) in
+          says.dependent.first (seen es p.0 j.member) (let lt = own.1 in let n = stands.3 in omega (arith, lt, n)) (depends.0, depends.1, own.0)
 
   -- the path that is found to the member is one to what is said, and there is one
   pub found_path : (i : ℕ) → At (marks es) i (receipt_of d) → (member : ℕ) → member ≡ j.member → (found : Option (Vec ℕ Global))
