@@ -154,7 +154,7 @@ module _ (log : LogParts) (is : IsLog log) (said : UnsafeMoment) (says : IsSaidO
   j = says.shows.position
 
   -- the orphan's first entry that depends on the receipt is a receipt
-  said_receipt : (r : Determinant) × (slice_get es said.place ≡ Some (Event (receipt_of r))) × (member_of (receipt_of r) ≡ j.member) × IsReceiptAt (log_of es) r j
+  pub said_receipt : (r : Determinant) × (slice_get es said.place ≡ Some (Event (receipt_of r))) × (member_of (receipt_of r) ≡ j.member) × IsReceiptAt (log_of es) r j
   said_receipt =
       let r = first_is_receipt (log_of es) d j says.dependent in
       let stands = says.shows.stands in
