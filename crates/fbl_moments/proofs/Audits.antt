@@ -96,9 +96,9 @@ same_dependents log p e members here not are q = (
   λ h. (let r = (are q).0 h in (r.0, r.1, (let below = r.2 in omega (arith, below)), r.3, r.4, r.5)),
   λ h. elim (cases_eq h.0 p) [
     | inl at_p ↦ absurd (
-      let there : slice_get log.entries p ≡ Some (Event (receipt_of h.1)) = subst (λ (i : ℕ). slice_get log.entries i ≡ Some (Event (receipt_of h.1))) at_p h.3 in
-      let same : e ≡ Event (receipt_of h.1) = (let some : Some e ≡ Some (Event (receipt_of h.1)) = sym here ∙ there in cc) in
-      not h.1 (ap receipt_in same) h.4)
+        let there : slice_get log.entries p ≡ Some (Event (receipt_of h.1)) = subst (λ (i : ℕ). slice_get log.entries i ≡ Some (Event (receipt_of h.1))) at_p h.3 in
+        let same : e ≡ Event (receipt_of h.1) = (let some : Some e ≡ Some (Event (receipt_of h.1)) = sym here ∙ there in cc) in
+        not h.1 (ap receipt_in same) h.4)
     | inr other ↦ (are q).1 (h.0, h.1, (let below = h.2 in omega (arith, below, other)), h.3, h.4, h.5)
   ],
 )
@@ -114,9 +114,9 @@ more_dependents log p e d members more all here receipt lost depend union are q 
   ],
   λ h. (contains-union members more q).1 (elim (cases_eq h.0 p) [
     | inl at_p ↦ inr ((depend q).1 (
-      let there : slice_get log.entries p ≡ Some (Event (receipt_of h.1)) = subst (λ (i : ℕ). slice_get log.entries i ≡ Some (Event (receipt_of h.1))) at_p h.3 in
-      let same : Event (receipt_of h.1) ≡ Event (receipt_of d) = (let some : Some (Event (receipt_of h.1)) ≡ Some (Event (receipt_of d)) = sym there ∙ here ∙ ap Some (receipt_is e d receipt) in cc) in
-      subst (λ (d : Determinant). DependsAt (log_of log.entries) (last_of log.entries) d q) (one_receipt h.1 d same) h.5))
+        let there : slice_get log.entries p ≡ Some (Event (receipt_of h.1)) = subst (λ (i : ℕ). slice_get log.entries i ≡ Some (Event (receipt_of h.1))) at_p h.3 in
+        let same : Event (receipt_of h.1) ≡ Event (receipt_of d) = (let some : Some (Event (receipt_of h.1)) ≡ Some (Event (receipt_of d)) = sym there ∙ here ∙ ap Some (receipt_is e d receipt) in cc) in
+        subst (λ (d : Determinant). DependsAt (log_of log.entries) (last_of log.entries) d q) (one_receipt h.1 d same) h.5))
     | inr other ↦ inl ((are q).1 (h.0, h.1, (let below = h.2 in omega (arith, below, other)), h.3, h.4, h.5))
   ]),
 )

@@ -23,7 +23,7 @@ loop-entry-preserved c rest says =
     let es = c.args.history.now.entries in
     let k = c.loop-entry.entry-index in
     let here : slice_get es k ≡ Some c.entry-item.result = subst (λ (es : List Entry). slice_get es k ≡ Some c.entry-item.result) (listed (goal.at.loop-entry-preserved c).After-entries-entry-items)
-        (slice_get_read c.entries-entry-items.result.now (length c.entries-entry-items.result.now) k c.entry-item.result refl c.loop-entry-test.true c.entry-item.is) in
+    (slice_get_read c.entries-entry-items.result.now (length c.entries-entry-items.result.now) k c.entry-item.result refl c.loop-entry-test.true c.entry-item.is) in
     let next = drop_next es k c.entry-item.result here in
     let so_far = (rw next at c.loop-entry.invariant) in
     elim c.match-receipt.branch [

@@ -32,7 +32,7 @@ loop-place-preserved c =
     let k = c.loop-place.place in
     let e = c.entry-item.result in
     let here : slice_get log.entries k ≡ Some e = subst (λ (es : List Entry). slice_get es k ≡ Some e) (listed c2)
-        (slice_get_read c.entries-entry-items.result.now (length c.entries-entry-items.result.now) k e refl c.loop-place-test.true c.entry-item.is) in
+    (slice_get_read c.entries-entry-items.result.now (length c.entries-entry-items.result.now) k e refl c.loop-place-test.true c.entry-item.is) in
     let next = drop_next log.entries k e here in
     let so_far = (rw next at c.loop-place.invariant.lost) in
     elim c.match-receipt.branch [
@@ -41,7 +41,7 @@ loop-place-preserved c =
           let lost : LosesAt (run_of log) (last_of log.entries) log.strike d = subst (λ (cut : Cut). LosesAt (run_of log) cut log.strike d) (last c2) (w.loses.ensures.0 w.if-loses.true) in
           let receipt = receipt_at log.entries k e d w.number.result here (sym w.in-Some.ensures) w.number.ensures in
           let depend = dependents_at log (rules c2).lawful (rules c2).strike d (at d.to w.number.result) receipt (last_of log.entries) w.reached-reached.result
-              (subst (λ (cut : Cut). (q : ℕ) → (set.contains w.reached-reached.result q ≡ true) ↔ PrecedesSome (log_of log.entries) (at d.to w.number.result) q (cut q)) (last c2) w.reached-reached.ensures) in
+          (subst (λ (cut : Cut). (q : ℕ) → (set.contains w.reached-reached.result q ≡ true) ↔ PrecedesSome (log_of log.entries) (at d.to w.number.result) q (cut q)) (last c2) w.reached-reached.ensures) in
           record {
             lost = λ rest are. rw (w.lost-is, w.in_ok-push.ensures.items, append_assoc) (so_far (d ∷ rest) (rw (← w.in-Some.ensures) (inr (lost, (rest, refl, are)))));
             dependents = rw w.dependents-is (more_dependents log k e d c.loop-place.dependents w.reached-reached.result w.union-dependents.result here (sym w.in-Some.ensures) lost depend w.union-dependents.ensures c.loop-place.invariant.dependents);
@@ -53,8 +53,8 @@ loop-place-preserved c =
           record {
             lost = λ rest are. rw w.lost-is (so_far rest (rw (← w.in-Some.ensures) (inl (safe, are))));
             dependents = rw w.dependents-is (same_dependents log k e c.loop-place.dependents here (λ d' is lost. (
-              let same : d ≡ d' = (let some : Some d ≡ Some d' = w.in-Some.ensures ∙ is in cc) in
-              safe (subst (λ (d : Determinant). LosesAt (run_of log) (last_of log.entries) log.strike d) (sym same) lost))) c.loop-place.invariant.dependents);
+                let same : d ≡ d' = (let some : Some d ≡ Some d' = w.in-Some.ensures ∙ is in cc) in
+                safe (subst (λ (d : Determinant). LosesAt (run_of log) (last_of log.entries) log.strike d) (sym same) lost))) c.loop-place.invariant.dependents);
           }
       | in_default w ↦ record {
         lost = λ rest are. rw w.lost-is (so_far rest (rw (← w.in_default.ensures) are));

@@ -15,8 +15,8 @@ returns-then-not-is_stored c =
     let none = none_left c.holders-holders.result c.args.history.now.strike (HoldsAt (log_of c.args.history.now.entries) (cut_of c.args.moment.now) d) held c.is_empty.result is in (
       λ h. (
         λ stored. false≢true (
-          sym c.if-not-is_stored.true ∙ c.is_stored.ensures.1 (subst (λ (es : List Entry). IsStoredAt (log_of es) (cut_of c.args.moment.now) d) (sym c.index-index.ensures) stored)
-        ),
+            sym c.if-not-is_stored.true ∙ c.is_stored.ensures.1 (subst (λ (es : List Entry). IsStoredAt (log_of es) (cut_of c.args.moment.now) d) (sym c.index-index.ensures) stored)
+            ),
         none.0 h,
       ),
       λ h. none.1 h.1,
