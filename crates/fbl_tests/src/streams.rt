@@ -1,9 +1,9 @@
-//! Plays and audits over readers and writers that stumble.
+//! Plays, audits and checks over readers and writers that stumble.
 
 use fbl_fixtures::{FailedWrite, UnsteadyReader, UnsteadyWriter};
 use fbl_input::RunFault;
 use fbl_play::play;
-use fbl_texts::audit;
+use fbl_texts::{Checked, Sources, audit, read_checked, write_check, write_log_check};
 use std::alloc::Global;
 use std::io::{self, Read, Write};
 use std::process::Abort;
@@ -23,20 +23,43 @@ const LOST: &str =
 
 const LOST_TEXT: &str = "lost 1\ndeterminant 0 1 1 1\norphans 0,2\n";
 
+/// The same message in a log: what it brings member 2 comes to be held a moment too late.
+const LATE: &str =
+    r#"{"version":2,"members":3,"f":1,"events":[["send",0,1,1],["receipt",1,1,0,1],["hold",1,0,1,1,1],["send",1,1,2],["receipt",2,1,1,1],["hold",2,1,1,2,1],["send",2,1,0],["hold",2,0,1,1,1]],"strike":[]}"#;
+
+const LATE_TEXT: &str = "unsafe 0 1 1 1 at 4 strike 1 orphans 2\n";
+
 /// An engine of the program, with an input and its text.
 #[derive(Clone, Copy, Debug)]
 enum Engine {
     Play,
     Audit,
+    Check,
 }
 
-const ENGINES: &[Engine] = &[Engine::Play, Engine::Audit];
+const ENGINES: &[Engine] = &[Engine::Play, Engine::Audit, Engine::Check];
+
+/// Checks the dump or the log that the reader has.
+fn check<R: Read, W: Write>(alloc: Global, reader: &mut R, writer: &mut W) -> Result<(), RunFault> {
+    match read_checked(alloc, reader)? {
+        Checked::Dump(dump) => write_check(alloc, &dump, writer)?,
+        Checked::Log(log) => {
+            let sources = Sources {
+                origins: &[],
+                names: &[],
+            };
+            write_log_check(alloc, &log, &sources, writer)?
+        }
+    };
+    Ok(())
+}
 
 impl Engine {
     fn input(self) -> &'static [u8] {
         match self {
             Engine::Play => TWO_STRIKES.0.as_bytes(),
             Engine::Audit => LOST.as_bytes(),
+            Engine::Check => LATE.as_bytes(),
         }
     }
 
@@ -44,6 +67,7 @@ impl Engine {
         match self {
             Engine::Play => TWO_STRIKES.1.as_bytes(),
             Engine::Audit => LOST_TEXT.as_bytes(),
+            Engine::Check => LATE_TEXT.as_bytes(),
         }
     }
 
@@ -57,6 +81,7 @@ impl Engine {
         match self {
             Engine::Play => play(rt, alloc, reader, writer, 2),
             Engine::Audit => audit(alloc, reader, writer),
+            Engine::Check => check(alloc, reader, writer),
         }
     }
 }

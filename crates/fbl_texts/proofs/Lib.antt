@@ -2,6 +2,8 @@ pub mod Versions
 pub mod Common
 pub mod Newlines
 pub mod Refusals
+pub mod Records
+pub mod Verdicts
 pub mod Values
 pub mod DumpValues
 pub mod LogValues

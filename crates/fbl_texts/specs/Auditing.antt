@@ -28,10 +28,14 @@ IsAuditText dump text =
 abbrev pub Audits : List ℕ → Option (List ℕ) → Option (List ℕ) → Result (Unit {0}) RunFault → Type 0
 Audits input before after = OverInput (IsDumpOf input) (IsDumpFault input) (λ dump. PutsOut (λ _. IsAuditText dump) before after) before after
 
--- the verdict on the dump: whichever members may be lost, no orphan is left, or not so
+-- the verdict that this is so, or not so
+abbrev pub IsVerdictThat : Type 0 → Verdict → Type 0
+IsVerdictThat Holds Safe = Holds
+IsVerdictThat Holds Unsafe = ¬ Holds
+
+-- the verdict on the dump: whichever members may be lost, no orphan is left
 abbrev pub IsVerdict : Parts → Verdict → Type 0
-IsVerdict dump Safe = IsSafe dump
-IsVerdict dump Unsafe = ¬ (IsSafe dump)
+IsVerdict dump = IsVerdictThat (IsSafe dump)
 
 -- a line for each receipt
 abbrev pub unsafe_lines : List UnsafeReceipt → List ℕ

@@ -10,10 +10,9 @@ use Rattle.fbl_moments.specs.Unsafe.{SaysUnsafe}
 use Rattle.fbl_moments.specs.declared.check.UnsafeMoment.{UnsafeMoment}
 use Rattle.fbl_moments.specs.declared.last.LogAudit.{LogAudit}
 use Rattle.fbl_moments.specs.declared.log.EntryOrigin.{EntryOrigin}
-use Rattle.fbl_texts.specs.Auditing.{IsLossReason}
+use Rattle.fbl_texts.specs.Auditing.{IsLossReason, IsVerdictThat}
 use Rattle.fbl_texts.specs.Lines.{audit_lines, line, unsafe_moment_line}
 use Rattle.fbl_texts.specs.declared.auditing.Verdict.{Verdict}
-use Rattle.fbl_texts.specs.declared.auditing.Verdict.TheVariants.{Safe, Unsafe}
 use Rattle.fbl_texts.specs.declared.sources.Sources.{Sources}
 use Rattle.fbl_texts.specs.declared.why.LossReason.{LossReason}
 
@@ -42,10 +41,9 @@ file_words (Some name) = Some (codes " in ") ++? debug_str name
 
 -- ---- the check
 
--- the verdict on the log: at each moment, whichever members may be lost, no orphan is left, or not so
+-- the verdict on the log: at each moment, whichever members may be lost, no orphan is left
 abbrev pub IsLogVerdict : LogParts → Verdict → Type 0
-IsLogVerdict log Safe = AlwaysSafe (run_of log)
-IsLogVerdict log Unsafe = ¬ (AlwaysSafe (run_of log))
+IsLogVerdict log = IsVerdictThat (AlwaysSafe (run_of log))
 
 -- the line of an unsafe receipt, with some words for the file of its moment: those of file_words, where it has any
 abbrev pub IsUnsafeMomentLine : Sources → UnsafeMoment → List ℕ → Type 0

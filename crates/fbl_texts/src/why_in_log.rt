@@ -100,7 +100,7 @@ impl WhyUnsafeInLog<'_> {
                 write!(f, "; the next to hold it is {holder}, at {spot}")
             }
             Some(Entry::Store { member, .. }) => {
-                write!(f, "; it is stored by {member}, at {spot}")
+                write!(f, "; it is stored by {member} at {spot}")
             }
             _ => Ok(()),
         }
