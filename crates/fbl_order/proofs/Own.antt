@@ -3,8 +3,16 @@ use Rattle.fbl_order.proofs.Common.{Bool, List, ℕ, zero, suc, [], ◌∷◌, �
 use Rattle.fbl_order.proofs.Common.{cond, refl, sym, ap, subst, length, length-set, take, arith, add-one, take-more, eqb-self, eqb-true, false≢true, get_or, nat_tests, append-nil}
 use Rattle.fbl_order.proofs.Common.{filter, filter-append, take-append-drop, drop, IsPermutation, IsPermutation-cons, IsPermutation-middle, IsPermutation-refl}
 use Rattle.fbl_order.proofs.Common.{IsPermutation-sym, IsPermutation-trans, slice_get, slice_get_within, inl, inr, cases_eq, cases_lt, ◌⊎◌, Begins}
+use Rattle.fbl_order.proofs.Common.{length-append}
 use Rattle.std.proofs.Common.{get_or-set_other, get_or-set_same, set}
-use Rattle.fbl_order.specs.Cursors.{IsFirstFrom, IsLeastCursor, IsLeastGiven, IsNextOf, own}
+use Rattle.std.proofs.lemmas.List.{take-take, get_or_default}
+use Rattle.fbl_order.specs.Cursors.{AreCursors, IsFirstFrom, IsInStep, IsLeastCursor, IsLeastGiven, IsNextOf, cursor_in, own}
+
+-- what stands before the end of a list
+pub At-some : {X : Type 0} (xs : List X) (i : ℕ) → i < length xs → (x : X) × (slice_get xs i ≡ Some x)
+At-some [] i below = absurd (omega arith)
+At-some (x ∷ xs) zero below = (x, refl)
+At-some (x ∷ xs) (suc i) below = At-some xs i (omega arith)
 
 module _ {X : Type 0} (of : X → ℕ) where
   -- a member's items with one item more
@@ -98,6 +106,101 @@ module _ {X : Type 0} (of : X → ℕ) where
         record { later = omega (arith, old.later); next = old.next; skips = old.skips ∙ own-take_other q items place x at (λ is. other (sym is ∙ mine)) }
         )
   ]
+
+-- the cursor of a member, as it is read
+pub cursor_at : {X : Type 0} (items : List X) (cursors : List ℕ) → length cursors ≡ 16 → (k q : ℕ) → k < 16 → k ≡ q
+    → get_or cursors k 0 ≡ cursor_in items cursors q
+cursor_at items cursors room k q below is = get_or_default cursors k 0 (length items) (omega (arith, room, below)) ∙ ap (cursor_in items cursors) is
+
+-- before the first item
+pub none_passed : {X : Type 0} (of : X → ℕ) (items : List X) (cursors : List ℕ) → ((q : ℕ) → IsFirstFrom of items 0 q (cursor_in items cursors q))
+    → length cursors ≡ 16 → AreCursors of items [] cursors
+none_passed of items cursors firsts room = record { logs = λ q. sym (firsts q).skips; next = λ q. (firsts q).next; room = room }
+
+-- where a run is in step, the next item is that of its member's cursor
+pub here_in_step : {X : Type 0} (of : X → ℕ) (items run : List X) (cursors : List ℕ) (x : X) → AreCursors of items run cursors → IsInStep items run cursors
+    → slice_get items (length run) ≡ Some x → cursor_in items cursors (of x) ≡ length run
+here_in_step {X} of items run cursors x are step at = elim (cases_lt (length run) c) [
+  | inl more ↦
+      let front = own-front of q (length run + 1) (take c items) in
+      let cut : take (length run + 1) (take c items) ≡ take (length run + 1) items = (let within : length run + 1 ≤ c = omega arith in rw take-take refl) in
+      let longer = ap (λ (xs : List X). length (own of q xs)) cut ∙ ap length (own-take of q items (length run) x at refl) in
+      let same = ap length (sym (are.logs q) ∙ ap (own of q) step.front) in
+      absurd (omega (arith, ap length front.1, longer, same, length-append {A = X}))
+  | inr less ↦ omega (arith, less, step.ahead q)
+] where
+  q : ℕ
+  q = of x
+
+  c : ℕ
+  c = cursor_in items cursors (of x)
+
+-- and the least cursor, if it may come
+pub least_in_step : {X : Type 0} (MayCome : ℕ → Type 0) (of : X → ℕ) (items run : List X) (cursors : List ℕ) (place : ℕ) → AreCursors of items run cursors
+    → IsInStep items run cursors → place < length items → IsLeastCursor MayCome (cursor_in items cursors) (Some place) → MayCome (length run)
+    → place ≡ length run
+least_in_step MayCome of items run cursors place are step within least may = elim (cases_lt (length run) place) [
+  | inl more ↦
+      let x = At-some items (length run) (omega (arith, more, within)) in
+      let here = here_in_step of items run cursors x.0 are step x.1 in
+      absurd (omega (arith, more, here, least.2 (of x.0) (rw here may)))
+  | inr less ↦ omega (arith, less, step.ahead least.1.0, least.1.1)
+]
+
+-- an item at a cursor is passed
+module _ {X : Type 0} (of : X → ℕ) (items run : List X) (cursors : List ℕ) (place number next : ℕ) (x : X) (are : AreCursors of items run cursors)
+    (here : (q : ℕ) × (cursor_in items cursors q ≡ place)) (at : slice_get items place ≡ Some x) (mine : of x ≡ number) (room : number < 16)
+    (first : IsFirstFrom of items (place + 1) number next) where
+  was : cursor_in items cursors number ≡ place
+  was =
+      let there : slice_get items (cursor_in items cursors here.0) ≡ Some x = rw here.1 at in
+      let is : number ≡ here.0 = sym mine ∙ (are.next here.0).1 x there in
+      ap (cursor_in items cursors) is ∙ here.1
+
+  cursor_own : cursor_in items (set cursors number next) number ≡ next
+  cursor_own = (let within : number < length cursors = omega (arith, are.room, room) in rw get_or-set_same refl)
+
+  cursor_other : (q : ℕ) → q ≢ number → cursor_in items (set cursors number next) q ≡ cursor_in items cursors q
+  cursor_other q other = rw get_or-set_other refl
+
+  logs : (q : ℕ) → own of q (run ++ x ∷ []) ≡ own of q (take (cursor_in items (set cursors number next) q) items)
+  logs q = elim (cases_eq q number) [
+    | inl is ↦
+        own-push of q run x (mine ∙ sym is)
+        ∙ ap (λ (xs : List X). xs ++ x ∷ []) (are.logs q ∙ ap (λ (k : ℕ). own of q (take k items)) (ap (cursor_in items cursors) is ∙ was))
+        ∙ sym (own-take of q items place x at (mine ∙ sym is))
+        ∙ (rw (← is) at (sym first.skips))
+        ∙ ap (λ (k : ℕ). own of q (take k items)) (sym (ap (cursor_in items (set cursors number next)) is ∙ cursor_own))
+    | inr other ↦
+        own-push_other of q run x (λ is. other (sym is ∙ mine))
+        ∙ are.logs q
+        ∙ ap (λ (k : ℕ). own of q (take k items)) (sym (cursor_other q other))
+  ]
+
+  nexts : (q : ℕ) → IsNextOf of items q (cursor_in items (set cursors number next) q)
+  nexts q = elim (cases_eq q number) [
+    | inl is ↦ subst (λ (k : ℕ). IsNextOf of items q k) (sym (ap (cursor_in items (set cursors number next)) is ∙ cursor_own)) (rw is first.next)
+    | inr other ↦ subst (λ (k : ℕ). IsNextOf of items q k) (sym (cursor_other q other)) (are.next q)
+  ]
+
+  pub passed : AreCursors of items (run ++ x ∷ []) (set cursors number next)
+  passed = record { logs = logs; next = nexts; room = rw length-set are.room }
+
+  pub passed_in_step : IsInStep items run cursors → place ≡ length run → IsInStep items (run ++ x ∷ []) (set cursors number next)
+  passed_in_step step is =
+      let longer : length (run ++ x ∷ []) ≡ place + 1 = omega (arith, is, length-append run (x ∷ [])) in
+      record {
+        front =
+            ap (λ (xs : List X). xs ++ x ∷ []) (step.front ∙ ap (λ (k : ℕ). take k items) (sym is))
+            ∙ sym (take-more items place x at)
+            ∙ ap (λ (k : ℕ). take k items) (sym (longer ∙ add-one place));
+        ahead = λ q. elim (cases_eq q number) [
+          | inl own ↦ omega (arith, longer, first.later, ap (cursor_in items (set cursors number next)) own, cursor_own)
+          | inr other ↦
+              let differs : cursor_in items cursors q ≢ place = λ same. other (sym ((are.next q).1 x (rw same at)) ∙ mine) in
+              omega (arith, longer, is, step.ahead q, differs, cursor_other q other)
+        ];
+      }
 
 -- ---- the least cursor
 

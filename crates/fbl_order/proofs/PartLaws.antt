@@ -21,12 +21,6 @@ At-behind : {X : Type 0} (xs ys : List X) (i : ℕ) (x : X) → slice_get ys i �
 At-behind [] ys i x at = (let is : 0 + i ≡ i = omega arith in rw is at)
 At-behind (z ∷ xs) ys i x at = (let is : length (z ∷ xs) + i ≡ suc (length xs + i) = omega arith in rw is (At-behind xs ys i x at))
 
--- what stands before the end of a list
-pub At-some : {X : Type 0} (xs : List X) (i : ℕ) → i < length xs → (x : X) × (slice_get xs i ≡ Some x)
-At-some [] i below = absurd (omega arith)
-At-some (x ∷ xs) zero below = (x, refl)
-At-some (x ∷ xs) (suc i) below = At-some xs i (omega arith)
-
 -- an entry of a part, among all of them
 pub origin_at : (parts : List RawLog) (log place : ℕ) (part : RawLog) (entry : Entry) → slice_get parts log ≡ Some part
     → slice_get part.entries.items place ≡ Some entry
