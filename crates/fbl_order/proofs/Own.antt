@@ -6,6 +6,7 @@ use Rattle.fbl_order.proofs.Common.{IsPermutation-sym, IsPermutation-trans, slic
 use Rattle.fbl_order.proofs.Common.{length-append}
 use Rattle.std.proofs.Common.{get_or-set_other, get_or-set_same, set}
 use Rattle.std.proofs.lemmas.List.{take-take, get_or_default}
+use Rattle.std.proofs.lemmas.List.Sorted.{length_permutation}
 use Rattle.fbl_order.specs.Cursors.{AreCursors, IsFirstFrom, IsInStep, IsLeastCursor, IsLeastGiven, IsNextOf, cursor_in, own}
 
 -- what stands before the end of a list
@@ -81,6 +82,14 @@ module _ {X : Type 0} (of : X → ℕ) where
       let none = no_items r.0 r.2 in
       (rw (none, append-nil) at r.1)
 
+  pub same_own-length : (s t : List X) → ((q : ℕ) → own of q s ≡ own of q t) → length s ≡ length t
+  same_own-length s t same = sym (length_permutation s t (same_own-permutation s t same))
+
+  pub own-begin-length : (s t : List X) → ((q : ℕ) → Begins (own of q s) (own of q t)) → length s ≤ length t
+  own-begin-length s t begin =
+      let r = beyond s t (λ q. (begin q).0) (λ q. (begin q).1) in
+      omega (arith, length_permutation (s ++ r.0) t r.1, length-append s r.0)
+
   -- ---- where the members' next items stand
 
   -- from the end on there is none
@@ -117,6 +126,11 @@ pub none_passed : {X : Type 0} (of : X → ℕ) (items : List X) (cursors : List
     → length cursors ≡ 16 → AreCursors of items [] cursors
 none_passed of items cursors firsts room = record { logs = λ q. sym (firsts q).skips; next = λ q. (firsts q).next; room = room }
 
+-- the run has no more than the items
+pub few_passed : {X : Type 0} (of : X → ℕ) (items run : List X) (cursors : List ℕ) → AreCursors of items run cursors → length run ≤ length items
+few_passed of items run cursors are = own-begin-length of run items
+    (λ q. (let front = own-front of q (cursor_in items cursors q) items in rw (are.logs q) front))
+
 -- where a run is in step, the next item is that of its member's cursor
 pub here_in_step : {X : Type 0} (of : X → ℕ) (items run : List X) (cursors : List ℕ) (x : X) → AreCursors of items run cursors → IsInStep items run cursors
     → slice_get items (length run) ≡ Some x → cursor_in items cursors (of x) ≡ length run
@@ -137,13 +151,13 @@ here_in_step {X} of items run cursors x are step at = elim (cases_lt (length run
 
 -- and the least cursor, if it may come
 pub least_in_step : {X : Type 0} (MayCome : ℕ → Type 0) (of : X → ℕ) (items run : List X) (cursors : List ℕ) (place : ℕ) → AreCursors of items run cursors
-    → IsInStep items run cursors → place < length items → IsLeastCursor MayCome (cursor_in items cursors) (Some place) → MayCome (length run)
-    → place ≡ length run
+    → IsInStep items run cursors → place < length items → IsLeastCursor MayCome (cursor_in items cursors) (Some place)
+    → ((x : X) → slice_get items (length run) ≡ Some x → MayCome (length run)) → place ≡ length run
 least_in_step MayCome of items run cursors place are step within least may = elim (cases_lt (length run) place) [
   | inl more ↦
       let x = At-some items (length run) (omega (arith, more, within)) in
       let here = here_in_step of items run cursors x.0 are step x.1 in
-      absurd (omega (arith, more, here, least.2 (of x.0) (rw here may)))
+      absurd (omega (arith, more, here, least.2 (of x.0) (rw here (may x.0 x.1))))
   | inr less ↦ omega (arith, less, step.ahead least.1.0, least.1.1)
 ]
 
@@ -151,7 +165,7 @@ least_in_step MayCome of items run cursors place are step within least may = eli
 module _ {X : Type 0} (of : X → ℕ) (items run : List X) (cursors : List ℕ) (place number next : ℕ) (x : X) (are : AreCursors of items run cursors)
     (here : (q : ℕ) × (cursor_in items cursors q ≡ place)) (at : slice_get items place ≡ Some x) (mine : of x ≡ number) (room : number < 16)
     (first : IsFirstFrom of items (place + 1) number next) where
-  was : cursor_in items cursors number ≡ place
+  pub was : cursor_in items cursors number ≡ place
   was =
       let there : slice_get items (cursor_in items cursors here.0) ≡ Some x = rw here.1 at in
       let is : number ≡ here.0 = sym mine ∙ (are.next here.0).1 x there in

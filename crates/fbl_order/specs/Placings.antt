@@ -20,7 +20,7 @@ placed_of entries placing = items_at entries placing.places.items
 pub record IsPlacing (entries : List Entry) (ordered : List Mark) (placing : Placing) : Type 0 where
   pub places : ArePlaces entries (placed_of entries placing) placing.places.items
   pub cursors : AreCursors entry_member entries (placed_of entries placing) placing.cursors
-  pub marks : marks (placed_of entries placing) ≡ take placing.events ordered
+  pub order : marks (placed_of entries placing) ≡ take placing.events ordered
   pub count : length (marks (placed_of entries placing)) ≡ placing.events
   pub in_step : ordered ≡ marks entries → IsInStep entries (placed_of entries placing) placing.cursors
 

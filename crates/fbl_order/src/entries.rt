@@ -1,6 +1,7 @@
 //! An order of the entries of a log, from one of its sends and receipts.
 
 ghost use Rattle.std.specs.Prelude.{◌≡◌, ◌<◌, ◌+◌, ◌↔◌, true, IfOk, OnOk, List, Some, length, vec_len};
+ghost use Rattle.fbl_base.specs.Events.{At};
 ghost use Rattle.fbl_base.specs.declared.trace.Mark.{Mark};
 ghost use Rattle.fbl_moments.specs.Entries.{marks};
 ghost use Rattle.fbl_order.specs.LogFaults.{AreEventPlaces};
@@ -54,6 +55,16 @@ pub fn at_places<T: Copy>(
     Ok(chosen)
 }
 
+/// Whether the event stands at the place.
+fn has_at(events: &[Mark], place: usize, event: Mark) -> bool
+    ensures { (result ≡ true) ↔ At events.now place event }
+{
+    match events.get(place) {
+        Some(here) => *here == event,
+        None => false,
+    }
+}
+
 /// A walk over the entries of a log in an order of its sends and receipts.
 #[derive(Drop)]
 pub(crate) struct Placing {
@@ -83,7 +94,7 @@ impl Placing {
         ensures { (result ≡ true) ↔ MayComeNext entries.now ordered.now self.now place }
     {
         match entries[place].event() {
-            Some(event) => ordered.get(self.events) == Some(&event),
+            Some(event) => has_at(ordered, self.events, event),
             None => true,
         }
     }
@@ -110,12 +121,11 @@ impl Placing {
         ensures placing { OnOk result (IsPlacing entries.now ordered.now self.new) }
         ensures longer { OnOk result (vec_len self.new.places ≡ vec_len self.old.places + 1) }
     {
-        let entry = entries[place];
         self.places.push(place)?;
-        if entry.event().is_some() {
+        if entries[place].event().is_some() {
             self.events += 1;
         }
-        let member = entry.member();
+        let member = entries[place].member();
         self.cursors[member.number() as usize] = next_of(entries, member, place + 1);
         Ok(())
     }
