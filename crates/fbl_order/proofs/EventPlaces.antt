@@ -1,7 +1,8 @@
 -- The places of the sends and receipts among the entries of a log.
+use Rattle.fbl_order.proofs.Common.{At, drop, take-append-drop}
 use Rattle.fbl_order.proofs.Common.{List, Mark, ℕ, None, Some, [], ◌∷◌, ◌++◌, ◌+◌, ◌<◌, ◌≤◌, ◌≡◌, ◌∙◌, ap, append-nil, arith, At-front, At-push, filter_map-append, inl, inr, length}
 use Rattle.fbl_order.proofs.Common.{length-append, refl, slice_get, slice_get_within, sym, take, take_all}
-use Rattle.fbl_base.proofs.Gets.{At-seam}
+use Rattle.fbl_base.proofs.Gets.{At-seam, drop_next}
 use Rattle.std.proofs.lemmas.List.{take-append-le}
 use Rattle.fbl_moments.specs.declared.entry.Entry.{Entry}
 use Rattle.fbl_moments.specs.declared.entry.Entry.TheVariants.{Event, Hold, Store}
@@ -15,6 +16,16 @@ marks-event es e m is = filter_map-append mark_in es (e ∷ []) ∙ (rw is refl)
 
 pub marks-record : (es : List Entry) (e : Entry) → mark_in e ≡ None → marks (es ++ e ∷ []) ≡ marks es
 marks-record es e is = filter_map-append mark_in es (e ∷ []) ∙ (rw (is, append-nil) refl)
+
+-- the one at a place among them is that with so many before it
+pub mark_at : (entries : List Entry) (k : ℕ) (e : Entry) (m : Mark) → slice_get entries k ≡ Some e → mark_in e ≡ Some m
+    → At (marks entries) (length (marks (take k entries))) m
+mark_at entries k e m at is =
+    let head : marks (e ∷ drop (k + 1) entries) ≡ m ∷ marks (drop (k + 1) entries) = rw is refl in
+    let split : marks entries ≡ marks (take k entries) ++ m ∷ marks (drop (k + 1) entries) =
+    ap marks (sym (take-append-drop k entries)) ∙ filter_map-append mark_in (take k entries) (drop k entries)
+    ∙ ap (λ (xs : List Entry). marks (take k entries) ++ marks xs) (drop_next entries k e at) ∙ ap (λ (xs : List Mark). marks (take k entries) ++ xs) head in
+    rw split (At-seam (marks (take k entries)) m (marks (drop (k + 1) entries)))
 
 -- a place among the first entries is one among all
 place-later : (es rest : List Entry) (event p : ℕ) → IsEventPlace es event p → IsEventPlace (es ++ rest) event p

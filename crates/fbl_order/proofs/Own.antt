@@ -255,8 +255,8 @@ pub least_may : (Gives : ℕ → Bool → Type 0) (MayCome : ℕ → Type 0) (cu
     → IsLeastCursor MayCome (λ q. get_or cursors q end) r
 least_may Gives MayCome cursors end None given told within =
     λ q may. (
-      let below = within _ may in
-      absurd (false≢true ((told _ false below (given.none refl q below)).1 may))
+    let below = within _ may in
+    absurd (false≢true ((told _ false below (given.none refl q below)).1 may))
     )
 least_may Gives MayCome cursors end (Some p) given told within =
     let some = given.some p refl in (

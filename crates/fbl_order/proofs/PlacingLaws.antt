@@ -13,6 +13,7 @@ use Rattle.fbl_order.specs.Cursors.{AreCursors, IsFirstFrom, IsInStep, cursor_in
 use Rattle.fbl_order.specs.LogOrders.{ArePlaces, SameEntryLogs, items_at}
 use Rattle.fbl_order.specs.Placings.{IsLeastNextEntry, IsPlacing, MayComeNext, placed_of}
 use Rattle.fbl_order.specs.declared.entries.Placing.{Placing}
+use Rattle.fbl_order.proofs.EventPlaces.{mark_at}
 use Rattle.fbl_order.proofs.Own.{At-some, least_in_step, passed, passed_in_step, same_own-length, was}
 
 -- ---- sends and receipts among entries
@@ -83,16 +84,6 @@ no_mark (Event m) es q m' mine is has =
 no_mark (Hold holder d) es q m mine is has = cc
 no_mark (Store member d) es q m mine is has = cc
 
--- the one at a place among them is that with so many before it
-mark_at : (entries : List Entry) (k : ℕ) (e : Entry) (m : Mark) → slice_get entries k ≡ Some e → mark_in e ≡ Some m
-    → At (marks entries) (length (marks (take k entries))) m
-mark_at entries k e m at is =
-    let head : marks (e ∷ drop (k + 1) entries) ≡ m ∷ marks (drop (k + 1) entries) = rw is refl in
-    let split : marks entries ≡ marks (take k entries) ++ m ∷ marks (drop (k + 1) entries) =
-    ap marks (sym (take-append-drop k entries)) ∙ filter_map-append mark_in (take k entries) (drop k entries)
-    ∙ ap (λ (xs : List Entry). marks (take k entries) ++ marks xs) (drop_next entries k e at) ∙ ap (λ (xs : List Mark). marks (take k entries) ++ xs) head in
-    rw split (At-seam (marks (take k entries)) m (marks (drop (k + 1) entries)))
-
 -- ---- places
 
 pub items_at-push : {X : Type 0} (items : List X) (places : List ℕ) (place : ℕ) (x : X) → slice_get items place ≡ Some x
@@ -112,8 +103,7 @@ places-push entries items places place e are at same = record {
         (was.0, At-front items (e ∷ []) k was.0 was.1, was.2, (rw (take-append-le k items (e ∷ []) within) was.3))
     | inr new ↦
         let here : k ≡ length items = new.0 ∙ are.count in
-        let front : take (length items) (items ++ e ∷ []) ≡ items = take-append-le (length items) items (e ∷ []) (omega arith) ∙ take_all (length items) items (omega arith) in
-        (
+        let front : take (length items) (items ++ e ∷ []) ≡ items = take-append-le (length items) items (e ∷ []) (omega arith) ∙ take_all (length items) items (omega arith) in (
           e,
           (rw here (At-seam items e [])),
           (rw (← new.1) at),
@@ -160,10 +150,10 @@ module _ (entries : List Entry) (ordered : List Mark) (old new : Placing) (place
         x,
         there,
         λ m has. (
-          let number : old.events ≡ length (marks (take (length (placed_of entries old)) entries)) = sym placing.count
-          ∙ ap (λ (xs : List Entry). length (marks xs)) step.front in
-          rw (is, number) (mark_at entries (length (placed_of entries old)) x m there has)
-        ),
+            let number : old.events ≡ length (marks (take (length (placed_of entries old)) entries)) = sym placing.count
+            ∙ ap (λ (xs : List Entry). length (marks xs)) step.front in
+            rw (is, number) (mark_at entries (length (placed_of entries old)) x m there has)
+            ),
       )) in
       passed_in_step entry_member entries (placed_of entries old) old.cursors place number next e placing.cursors least.1 at mine room first step here
 
@@ -234,8 +224,8 @@ module _ (entries : List Entry) (ordered : List Mark) (placing : Placing) (is : 
               let e = At-some entries c within in
               let first : own member_of q (marks (e.0 ∷ drop (c + 1) entries)) ≡ x ∷ xs = rw (drop_next entries c e.0 e.1) at begins in
               at_cursor q e.0 e.1 (λ m has. (
-                let is_next : m ≡ x = first_mark e.0 (drop (c + 1) entries) q x xs m ((is.cursors.next q).1 e.0 e.1) first has in
-                rw is_next here
+              let is_next : m ≡ x = first_mark e.0 (drop (c + 1) entries) q x xs m ((is.cursors.next q).1 e.0 e.1) first has in
+              rw is_next here
               ))
           | inr past ↦ (let none_left : [] ≡ x ∷ xs = rw (drop_all c entries past) at begins in cc)
         ]

@@ -110,12 +110,7 @@ impl Placing {
     }
 
     /// Places the entry at the place, the least of those that may come next.
-    fn take(
-        &mut self,
-        entries: &[Entry],
-        ordered: &[Mark],
-        place: usize,
-    ) -> Result<(), AllocError>
+    fn take(&mut self, entries: &[Entry], ordered: &[Mark], place: usize) -> Result<(), AllocError>
         requires placing { IsPlacing entries.now ordered.now self.old }
         requires least { IsLeastNextEntry entries.now ordered.now self.old (Some place) }
         ensures placing { OnOk result (IsPlacing entries.now ordered.now self.new) }
