@@ -1,7 +1,7 @@
-//! Why entries are not those of a run.
+//! Why a log is refused.
 
 use crate::entry::Entry;
-use fbl_base::{Breach, DumpRefusal, Outsider};
+use fbl_base::{Breach, Outsider};
 use thiserror::Error;
 
 /// Which rule a hold or a store breaks behind the entries before it. Of several the first in this order is named.
@@ -28,20 +28,6 @@ pub struct RecordFault {
     pub entry: Entry,
     /// The rule.
     pub rule: RecordRule,
-}
-
-/// Why entries are not those of a run.
-#[derive(Clone, Copy, PartialEq, Eq, Debug, Error)]
-pub enum RunFault {
-    /// The group's numbers, the strike set, or the sends and receipts are refused, for this. A place is that among the sends and receipts.
-    #[error("{1}")]
-    Trace(DumpRefusal, Breach),
-    /// A hold or a store is refused.
-    #[error("{0}")]
-    Record(RecordFault),
-    /// There is no memory for what the check keeps.
-    #[error("out of memory")]
-    Memory,
 }
 
 /// What a log is refused for, with the numbers that were given. Places are those among all entries.

@@ -1,86 +1,114 @@
 //! Which entries of a run precede which.
 
-ghost use Rattle.std.specs.Prelude.{◌≡◌, ◌<◌, ◌+◌, ◌≤◌, ◌↔◌, ℕ, true, IfOk, IfSome, MatchOption, None, length};
+ghost use Rattle.std.specs.Prelude.{◌≡◌, ◌<◌, ◌+◌, ◌≤◌, ◌↔◌, ℕ, true, IfOk, MatchOption, Some, length, slice_get};
 ghost use Rattle.std.specs.FinSet as set;
-ghost use Rattle.fbl_moments.specs.Clocks.{IsClock, IsLawful, PrecedesSome, cut_of};
-ghost use Rattle.fbl_moments.specs.Entries.{log_of};
+ghost use Rattle.fbl_moments.specs.Clocks.{IsClock, PrecedesSome, StandsAt, cut_of};
+ghost use Rattle.fbl_moments.specs.Entries.{entry_member, log_of};
 ghost use Rattle.fbl_moments.specs.HappenedBefore.{Precedes, at};
 ghost use Rattle.fbl_moments.specs.Histories.{IsFirstAfter, IsLeastMomentOfReceipt};
 
 use crate::clock::Clock;
-use crate::clocks::Clocks;
-use crate::entry::Entry;
+use crate::clocks::{Advance, Clocks};
 use crate::index::Index;
+use crate::log::RunLog;
 use fbl_base::{Member, MemberSet};
 use std::alloc::{AllocError, Global};
 use std::marker::Model;
 
-/// The entries of a run with their index and their clocks. Contracts see the entries.
+/// A log with the index of its entries and with their clocks. Contracts see the log.
 #[derive(Drop)]
 pub(crate) struct History<'a> {
+    log: &'a RunLog,
     index: Index<'a>,
-    /// For each entry, at its place, the clock of its member's entries up to it.
-    clocks: Vec<Clock>,
+    /// The clock at which nothing has come.
+    none: Clock,
+    /// For each entry, at its place, what a pass over them knows of it.
+    advances: Vec<Advance>,
 }
 
 impl<'a> Model for History<'a> {
-    ghost use Rattle.std.specs.Prelude.{List, length};
-    ghost use Rattle.fbl_moments.specs.declared.entry.Entry.{Entry};
-    ghost use Rattle.fbl_moments.specs.Clocks.{AreClocks};
+    ghost use Rattle.fbl_moments.specs.Histories.{AreOf};
+    ghost use Rattle.fbl_moments.specs.Logs.{LogParts};
 
-    ghost Value = { List Entry };
+    ghost Value = { LogParts };
 
-    ghost view = { λ h. h.index };
+    ghost use Rattle.std.specs.Coded.{codes, coded_ℕ};
+    ghost use Rattle.std.specs.Ordering.{nat_cmp};
+    ghost use Rattle.std.specs.FinSet as set;
+    ghost use Rattle.fbl_moments.specs.contracts.entry.Entry as entry;
 
-    ghost invariant = { λ h. AreClocks h.index (length h.index) h.clocks.items };
+    ghost coded = { Prim.hlevel (codes, entry.the_row.coded, set.code {R = nat_cmp} coded_ℕ) };
+
+    ghost view = { λ h. h.log.now };
+
+    ghost invariant = { λ h. AreOf h.log.now.entries h.index h.none h.advances.items };
 }
 
 impl<'a> History<'a> {
-    pub(crate) fn of(alloc: Global, entries: &'a [Entry]) -> Result<History<'a>, AllocError>
-        requires { IsLawful entries.now }
-        ensures { IfOk result (λ history. history ≡ entries.now) }
+    pub(crate) fn of(alloc: Global, log: &'a RunLog) -> Result<History<'a>, AllocError>
+        ensures { IfOk result (λ history. history ≡ log.now) }
     {
+        let entries = log.entries();
         let index = Index::of(alloc, entries)?;
         let mut pass = Clocks::new(alloc);
-        let mut clocks = Vec::new(alloc);
+        let mut advances = Vec::new(alloc);
         for place in 0..entries.len() {
-            let advance = pass.add(entries, place)?;
-            clocks.push(advance.with)?;
+            advances.push(pass.add(entries, place)?)?;
         }
-        Ok(History { index, clocks })
+        Ok(History {
+            log,
+            index,
+            none: Clock::none(),
+            advances,
+        })
+    }
+
+    /// The log.
+    pub(crate) fn log(&self) -> &'a RunLog
+        ensures { result.now ≡ self.now }
+    {
+        self.log
+    }
+
+    /// The number of the entry at the place in its member's log.
+    pub(crate) fn number(&self, place: usize) -> usize
+        requires { place < length self.now.entries }
+        ensures { (e : _) → slice_get self.now.entries place ≡ Some e → StandsAt self.now.entries place (at (entry_member e) result) }
+    {
+        self.advances[place].number
     }
 
     /// The entries' index.
     pub(crate) fn index(&self) -> &Index<'a>
-        ensures { result.now ≡ self.now }
+        ensures { result.now ≡ self.now.entries }
     {
         &self.index
     }
 
     /// The clock of the member's first entries, this many.
-    fn clock(&self, member: Member, count: usize) -> Clock
-        requires { count ≤ length (log_of self.now member) }
-        ensures { IsClock (log_of self.now) member count (cut_of result) }
+    fn clock(&self, member: Member, count: usize) -> &Clock
+        requires { count ≤ length (log_of self.now.entries member) }
+        ensures { IsClock (log_of self.now.entries) member count (cut_of result.now) }
     {
         if count == 0 {
-            return Clock::none();
+            return &self.none;
         }
-        self.clocks[self.index.place(member, count - 1)]
+        &self.advances[self.index.place(member, count - 1)].with
     }
 
     /// Whether the source's entry with the number precedes one of the member's first entries, this many.
     fn precedes(&self, source: Member, number: usize, member: Member, count: usize) -> bool
-        requires { count ≤ length (log_of self.now member) }
-        ensures { (result ≡ true) ↔ PrecedesSome (log_of self.now) (at source number) member count }
+        requires { count ≤ length (log_of self.now.entries member) }
+        ensures { (result ≡ true) ↔ PrecedesSome (log_of self.now.entries) (at source number) member count }
     {
         number < self.clock(member, count).count(source)
     }
 
     /// How many of the member's entries stand before the first that the source's entry with the number precedes: all where none does.
     fn count_before(&self, source: Member, number: usize, member: Member) -> usize
-        ensures within { result ≤ length (log_of self.now member) }
-        ensures none { ¬ (PrecedesSome (log_of self.now) (at source number) member result) }
-        ensures next { result < length (log_of self.now member) → PrecedesSome (log_of self.now) (at source number) member (result + 1) }
+        ensures within { result ≤ length (log_of self.now.entries member) }
+        ensures none { ¬ (PrecedesSome (log_of self.now.entries) (at source number) member result) }
+        ensures next { result < length (log_of self.now.entries member) → PrecedesSome (log_of self.now.entries) (at source number) member (result + 1) }
     {
         let mut first = 0;
         let mut end = self.index.count(member);
@@ -97,7 +125,7 @@ impl<'a> History<'a> {
 
     /// The number of the member's first entry that the source's entry with the number precedes.
     pub(crate) fn first_after(&self, source: Member, number: usize, member: Member) -> Option<usize>
-        ensures { MatchOption result ((k : ℕ) → ¬ (Precedes (log_of self.now) (at source number) (at member k))) (λ k. IsFirstAfter (log_of self.now) (at source number) (at member k)) }
+        ensures { MatchOption result ((k : ℕ) → ¬ (Precedes (log_of self.now.entries) (at source number) (at member k))) (λ k. IsFirstAfter (log_of self.now.entries) (at source number) (at member k)) }
     {
         let count = self.count_before(source, number, member);
         if count < self.index.count(member) {
@@ -109,9 +137,9 @@ impl<'a> History<'a> {
 
     /// The least moment at which the member's entry with the number, a receipt, has come.
     pub(crate) fn moment(&self, member: Member, number: usize) -> Clock
-        requires { number < length (log_of self.now member) }
-        ensures least { IsLeastMomentOfReceipt (log_of self.now) (at member number) (cut_of result) }
-        ensures within { (q : ℕ) → cut_of result q ≤ length (log_of self.now q) }
+        requires { number < length (log_of self.now.entries member) }
+        ensures least { IsLeastMomentOfReceipt (log_of self.now.entries) (at member number) (cut_of result) }
+        ensures within { (q : ℕ) → cut_of result q ≤ length (log_of self.now.entries q) }
     {
         let end = self.index.step_end(member, number);
         let clock = self.clock(member, number + 1);
@@ -120,8 +148,8 @@ impl<'a> History<'a> {
 
     /// The members that have an entry at the clock's cut that the source's entry with the number precedes.
     pub(crate) fn reached(&self, source: Member, number: usize, moment: &Clock) -> MemberSet
-        requires { (q : ℕ) → cut_of moment.now q ≤ length (log_of self.now q) }
-        ensures { (q : ℕ) → (set.contains result q ≡ true) ↔ PrecedesSome (log_of self.now) (at source number) q (cut_of moment.now q) }
+        requires { (q : ℕ) → cut_of moment.now q ≤ length (log_of self.now.entries q) }
+        ensures { (q : ℕ) → (set.contains result q ≡ true) ↔ PrecedesSome (log_of self.now.entries) (at source number) q (cut_of moment.now q) }
     {
         let mut reached = MemberSet::empty();
         for number_of_member in 0..16u8 {

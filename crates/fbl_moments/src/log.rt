@@ -5,6 +5,7 @@ ghost use Rattle.fbl_moments.specs.Logs.{IsLog, IsLogBreach, RefusesLog, parts_o
 
 use crate::entry::Entry;
 use crate::fault::LogBreach;
+use crate::lawful::refusal;
 use fbl_base::{DumpRefusal, MemberSet};
 use std::alloc::Global;
 use std::marker::Model;
@@ -32,6 +33,13 @@ impl Model for RunLog {
     ghost use Rattle.fbl_moments.specs.Logs.{IsLog, LogParts, parts_of_log};
 
     ghost Value = { LogParts };
+
+    ghost use Rattle.std.specs.Coded.{codes, coded_ℕ};
+    ghost use Rattle.std.specs.Ordering.{nat_cmp};
+    ghost use Rattle.std.specs.FinSet as set;
+    ghost use Rattle.fbl_moments.specs.contracts.entry.Entry as entry;
+
+    ghost coded = { Prim.hlevel (codes, entry.the_row.coded, set.code {R = nat_cmp} coded_ℕ) };
 
     ghost view = { λ l. parts_of_log l.raw };
 
@@ -74,11 +82,14 @@ impl RunLog {
 /// of memory may come before any but the group's numbers.
 pub fn checked_log(alloc: Global, raw: RawLog) -> Result<RunLog, (DumpRefusal, LogBreach)>
     ensures log { IfOk result (λ log. log ≡ parts_of_log raw) }
+    ensures rules { IfOk result IsLog }
     ensures refused { IfErr result (λ e. RefusesLog (parts_of_log raw) e.0) }
     ensures breach { IfErr result (λ e. IsLogBreach (parts_of_log raw) e.0 e.1) }
 {
-    // to be written and proved
-    Err((DumpRefusal::Memory, LogBreach::Trace(fbl_base::Breach::Memory)))
+    match refusal(alloc, &raw) {
+        None => Ok(RunLog { raw }),
+        Some(refused) => Err(refused),
+    }
 }
 
 /// Where an entry of a log stands that was put together from several: the number of its log, from 0, and its place there.
