@@ -8,10 +8,6 @@ use Rattle.fbl_order.specs.Cursors.{AreCursors, IsInStep, IsLeastCursor, cursor_
 use Rattle.fbl_order.specs.LogOrders.{ArePlaces, items_at}
 use Rattle.fbl_order.specs.declared.entries.Placing.{Placing}
 
--- each of the places is before the end
-abbrev pub AreWithin : List ℕ → ℕ → Type 0
-AreWithin places end = (k p : ℕ) → slice_get places k ≡ Some p → p < end
-
 -- the entries that are placed, in their order
 abbrev pub placed_of : List Entry → Placing → List Entry
 placed_of entries placing = items_at entries placing.places.items

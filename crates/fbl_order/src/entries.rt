@@ -7,7 +7,7 @@ ghost use Rattle.fbl_moments.specs.Entries.{marks};
 ghost use Rattle.fbl_order.specs.LogFaults.{AreEventPlaces};
 ghost use Rattle.fbl_order.specs.LogOrders.{ArePlaces, SameEntryLogs, items_at};
 ghost use Rattle.fbl_order.specs.Orders.{SameLogs};
-ghost use Rattle.fbl_order.specs.Placings.{AreWithin, IsLeastNextEntry, IsPlacing, MayComeNext};
+ghost use Rattle.fbl_order.specs.Placings.{IsLeastNextEntry, IsPlacing, MayComeNext};
 
 use crate::cursors::{firsts_of, least_cursor, next_of};
 use fbl_base::Mark;
@@ -39,18 +39,19 @@ impl Events {
     }
 }
 
-/// The items at these places, in this order.
+/// The items at these places, in this order. There is none at a place past the last.
 pub fn at_places<T: Copy>(
     alloc: Global,
     items: &[T],
     places: &[usize],
 ) -> Result<Vec<T>, AllocError>
-    requires { AreWithin places.now (length items.now) }
     ensures { IfOk result (λ v. v.items ≡ items_at items.now places.now) }
 {
     let mut chosen = Vec::new(alloc);
     for place in places {
-        chosen.push(items[*place])?;
+        if let Some(item) = items.get(*place) {
+            chosen.push(*item)?;
+        }
     }
     Ok(chosen)
 }

@@ -10,6 +10,8 @@ mod audits;
 #[cfg(test)]
 mod group;
 #[cfg(test)]
+mod merged_logs;
+#[cfg(test)]
 mod moments;
 #[cfg(test)]
 mod orders;

@@ -10,11 +10,6 @@ use Rattle.fbl_order.proofs.logs.order_log.Goals as goal
 pub returns-in-Some-clause-refused : goal.returns-in-Some-clause-refused
 returns-in-Some-clause-refused c = inr (group_refused (parts_of_log c.args.raw) c.in-Some.refusal c.in-Some.breach c.in-Some.ensures)
 
-pub at_places-requires : goal.at_places-requires
-at_places-requires c k p at =
-    let same = c.in_ok-places.ensures.places.each k p (rw c.as_slice-5.ensures.value at at) in
-    rw (c.as_slice-4.ensures.value, ← c.as_slice-2.ensures.value) (slice_get_within _ p same.0 same.2)
-
 pub returns-in-Ok-clause-answers : goal.returns-in-Ok-clause-answers
 returns-in-Ok-clause-answers c =
     let order : IsOrderOfEntries c.args.raw.members c.args.raw.entries.items c.in_ok-entries.entries.items = search rules in
