@@ -16,6 +16,21 @@ pub record IsFirstFrom {X : Type 0} (of : X → ℕ) (items : List X) (start mem
   pub next : IsNextOf of items member place
   pub skips : own of member (take place items) ≡ own of member (take start items)
 
+-- where the member's next item stands, by its cursor: past the last item where it has none
+abbrev pub cursor_in : {X : Type 0} → List X → List ℕ → ℕ → ℕ
+cursor_in items cursors member = slice_index_or cursors member (length items)
+
+-- the run has of each member the items before its cursor
+pub record AreCursors {X : Type 0} (of : X → ℕ) (items run : List X) (cursors : List ℕ) : Type 0 where
+  pub logs : (member : ℕ) → own of member run ≡ own of member (take (cursor_in items cursors member) items)
+  pub next : (member : ℕ) → IsNextOf of items member (cursor_in items cursors member)
+  pub room : length cursors ≡ 16
+
+-- the run is the front of the items, and no cursor stands in it
+pub record IsInStep {X : Type 0} (items run : List X) (cursors : List ℕ) : Type 0 where
+  pub front : run ≡ take (length run) items
+  pub ahead : (member : ℕ) → length run ≤ cursor_in items cursors member
+
 -- of the members' cursors, the least at whose place something may come
 abbrev pub IsLeastCursor : (ℕ → Type 0) → (ℕ → ℕ) → Option ℕ → Type 0
 IsLeastCursor MayCome cursor None = (member : ℕ) → ¬ (MayCome (cursor member))
@@ -23,8 +38,7 @@ IsLeastCursor MayCome cursor (Some place) =
     MayCome place × ((member : ℕ) × (cursor member ≡ place)) × ((member : ℕ) → MayCome (cursor member) → place ≤ cursor member)
 
 -- of the cursors before the end, the least for which the answer is yes
-abbrev pub IsLeastGiven : (ℕ → Bool → Type 0) → List ℕ → ℕ → Option ℕ → Type 0
-IsLeastGiven Gives cursors end None = (member : ℕ) → slice_index_or cursors member end < end → Gives (slice_index_or cursors member end) false
-IsLeastGiven Gives cursors end (Some place) =
-    (place < end) × Gives place true × ((member : ℕ) × (slice_index_or cursors member end ≡ place))
-    × ((member : ℕ) → slice_index_or cursors member end < place → Gives (slice_index_or cursors member end) false)
+pub record IsLeastGiven (Gives : ℕ → Bool → Type 0) (cursors : List ℕ) (end : ℕ) (least : Option ℕ) : Type 0 where
+  pub none : least ≡ None → (member : ℕ) → slice_index_or cursors member end < end → Gives (slice_index_or cursors member end) false
+  pub some : (place : ℕ) → least ≡ Some place → (place < end) × Gives place true × ((member : ℕ) × (slice_index_or cursors member end ≡ place))
+  pub before : (place : ℕ) → least ≡ Some place → (member : ℕ) → slice_index_or cursors member end < place → Gives (slice_index_or cursors member end) false

@@ -71,16 +71,13 @@ pub record ShowsNoOrder (n : ℕ) (events : List Mark) (chain : List Stuck) : Ty
   pub starts : StartsAt chain place
   pub first : IsFirstBreach (CanCome n events) place
 
--- there are too many events for any order; or memory ran out
-abbrev pub RefusesEvents : ℕ → List Mark → DumpRefusal → Breach → Type 0
-RefusesEvents n events (BadEvent place) (breach.Event fault) =
-    HasNoOrder n events × (place ≡ 8192) × (fault.place ≡ place) × At events place fault.event × (fault.rule ≡ TooMany)
-RefusesEvents n events Memory breach.Memory = Unit {0}
-RefusesEvents n events _ _ = ⊥
-
+-- the events have no order, for the reason of the chain, or since they are too many; or memory ran out
 abbrev pub RefusesOrder : {A : Type 0} → ℕ → List Mark → OrderFault A → Type 0
 RefusesOrder n events (NoOrder chain) = ShowsNoOrder n events chain.items
-RefusesOrder n events (Dump refusal broken) = RefusesEvents n events refusal broken
+RefusesOrder n events (Dump (BadEvent place) (breach.Event fault)) =
+    HasNoOrder n events × (place ≡ 8192) × (fault.place ≡ place) × At events place fault.event × (fault.rule ≡ TooMany)
+RefusesOrder n events (Dump Memory breach.Memory) = Unit {0}
+RefusesOrder n events (Dump _ _) = ⊥
 
 -- no group has these numbers, for this reason
 abbrev pub RefusesGroup : ℕ → ℕ → DumpRefusal → Breach → Type 0

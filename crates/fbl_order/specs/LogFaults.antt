@@ -1,11 +1,12 @@
 -- Why the entries of a log have no order, or are refused in one.
 use Rattle.std.specs.Prelude.{ℕ, ◌≡◌, ◌⊎◌, List, Some, length, map, slice_get, slice_index_or}
-use Rattle.fbl_base.specs.declared.fault.Breach.{Breach}
+use Rattle.fbl_base.specs.declared.fault.EventRule.TheVariants.{TooMany}
 use Rattle.fbl_base.specs.declared.fault.Breach.TheVariants as breach
 use Rattle.fbl_base.specs.declared.refusal.DumpRefusal.{DumpRefusal}
-use Rattle.fbl_base.specs.declared.refusal.DumpRefusal.TheVariants.{BadEvent}
+use Rattle.fbl_base.specs.declared.refusal.DumpRefusal.TheVariants.{BadEvent, Memory}
 use Rattle.fbl_base.specs.Configs.{FAllowed, MembersAllowed}
 use Rattle.fbl_moments.specs.declared.entry.Entry.{Entry}
+use Rattle.fbl_moments.specs.declared.entry.Entry.TheVariants.{Event}
 use Rattle.fbl_moments.specs.declared.fault.LogBreach.{LogBreach}
 use Rattle.fbl_moments.specs.declared.fault.LogBreach.TheVariants.{Record, Trace}
 use Rattle.fbl_moments.specs.Entries.{marks}
@@ -16,7 +17,8 @@ use Rattle.fbl_order.specs.declared.fault.LogOrderFault.TheVariants.{NoOrder, Lo
 use Rattle.fbl_order.specs.declared.fault.Obstacle.{Obstacle}
 use Rattle.fbl_order.specs.declared.fault.Obstacle.TheVariants.{Waits}
 use Rattle.fbl_order.specs.declared.fault.Stuck.{Stuck}
-use Rattle.fbl_order.specs.Faults.{RefusesEvents, ShowsNoOrder}
+use Rattle.fbl_order.specs.Faults.{ShowsNoOrder}
+use Rattle.fbl_order.specs.Orders.{HasNoOrder}
 use Rattle.fbl_order.specs.LogOrders.{ArePlaces, IsOrderOfEntries, with_entries}
 
 -- ---- places, where a list has at each number the place at which what has the number was given
@@ -55,20 +57,13 @@ pub record ShowsNoOrderAmong (n : ℕ) (entries : List Entry) (chain : List Stuc
   pub shows : ShowsNoOrder n (marks entries) own
   pub given : chain ≡ map (stuck_given places) own
 
--- none is sought, for this reason
-pub record RefusesEventsAmong (n : ℕ) (entries : List Entry) (refusal : DumpRefusal) (broken : LogBreach) : Type 0 where
-  pub places : List ℕ
-  pub are_places : AreEventPlaces entries places
-  pub own_refusal : DumpRefusal
-  pub own_breach : Breach
-  pub refuses : RefusesEvents n (marks entries) own_refusal own_breach
-  pub refusal_is : refusal ≡ refusal_given places own_refusal
-  pub breach_is : broken ≡ breach_given places (Trace own_breach)
-
--- the sends and receipts among the entries have no order; or none is sought
+-- the sends and receipts among the entries have no order, for the reason of the chain, or since they are too many; or memory ran out
 abbrev pub RefusesAmong : ℕ → List Entry → LogOrderFault → Type 0
 RefusesAmong n entries (NoOrder chain) = ShowsNoOrderAmong n entries chain.items
-RefusesAmong n entries (Log refusal broken) = RefusesEventsAmong n entries refusal broken
+RefusesAmong n entries (Log (BadEvent place) (Trace (breach.Event fault))) =
+    HasNoOrder n (marks entries) × IsEventPlace entries 8192 place × (fault.place ≡ place) × (slice_get entries place ≡ Some (Event fault.event)) × (fault.rule ≡ TooMany)
+RefusesAmong n entries (Log Memory (Trace breach.Memory)) = Unit {0}
+RefusesAmong n entries (Log _ _) = ⊥
 
 -- a log with the entries in an order is refused
 pub record RefusesInOrder (log : LogParts) (fault : LogOrderFault) : Type 0 where

@@ -52,7 +52,8 @@ pub(crate) fn next_of<T: Logged>(items: &[T], member: Member, place: usize) -> u
 
 /// For each member's number the place of its first item: past the last where it has none.
 pub(crate) fn firsts_of<T: Logged>(items: &[T]) -> [usize; 16]
-    ensures { (q : ℕ) → IsFirstFrom T.member_in items.now 0 q (slice_index_or result q (length items.now)) }
+    ensures firsts { (q : ℕ) → IsFirstFrom T.member_in items.now 0 q (slice_index_or result q (length items.now)) }
+    ensures room { length result ≡ 16 }
 {
     let mut firsts = [items.len(); 16];
     for place in (0..items.len()).rev() {

@@ -1,12 +1,13 @@
 //! An order of the entries of a log, from one of its sends and receipts.
 
 ghost use Rattle.std.specs.Prelude.{◌≡◌, ◌<◌, ◌+◌, ◌↔◌, true, IfOk, OnOk, List, Some, length, vec_len};
+ghost use Rattle.fbl_base.specs.Events.{At};
 ghost use Rattle.fbl_base.specs.declared.trace.Mark.{Mark};
 ghost use Rattle.fbl_moments.specs.Entries.{marks};
 ghost use Rattle.fbl_order.specs.LogFaults.{AreEventPlaces};
 ghost use Rattle.fbl_order.specs.LogOrders.{ArePlaces, SameEntryLogs, items_at};
 ghost use Rattle.fbl_order.specs.Orders.{SameLogs};
-ghost use Rattle.fbl_order.specs.Placings.{AreWithin, IsLeastNextEntry, IsPlacing, MayComeNext};
+ghost use Rattle.fbl_order.specs.Placings.{IsLeastNextEntry, IsPlacing, MayComeNext};
 
 use crate::cursors::{firsts_of, least_cursor, next_of};
 use fbl_base::Mark;
@@ -38,20 +39,31 @@ impl Events {
     }
 }
 
-/// The items at these places, in this order.
+/// The items at these places, in this order. There is none at a place past the last.
 pub fn at_places<T: Copy>(
     alloc: Global,
     items: &[T],
     places: &[usize],
 ) -> Result<Vec<T>, AllocError>
-    requires { AreWithin places.now (length items.now) }
     ensures { IfOk result (λ v. v.items ≡ items_at items.now places.now) }
 {
     let mut chosen = Vec::new(alloc);
     for place in places {
-        chosen.push(items[*place])?;
+        if let Some(item) = items.get(*place) {
+            chosen.push(*item)?;
+        }
     }
     Ok(chosen)
+}
+
+/// Whether the event stands at the place.
+fn has_at(events: &[Mark], place: usize, event: Mark) -> bool
+    ensures { (result ≡ true) ↔ At events.now place event }
+{
+    match events.get(place) {
+        Some(here) => *here == event,
+        None => false,
+    }
 }
 
 /// A walk over the entries of a log in an order of its sends and receipts.
@@ -83,7 +95,7 @@ impl Placing {
         ensures { (result ≡ true) ↔ MayComeNext entries.now ordered.now self.now place }
     {
         match entries[place].event() {
-            Some(event) => ordered.get(self.events) == Some(&event),
+            Some(event) => has_at(ordered, self.events, event),
             None => true,
         }
     }
@@ -99,23 +111,17 @@ impl Placing {
     }
 
     /// Places the entry at the place, the least of those that may come next.
-    fn take(
-        &mut self,
-        entries: &[Entry],
-        ordered: &[Mark],
-        place: usize,
-    ) -> Result<(), AllocError>
+    fn take(&mut self, entries: &[Entry], ordered: &[Mark], place: usize) -> Result<(), AllocError>
         requires placing { IsPlacing entries.now ordered.now self.old }
         requires least { IsLeastNextEntry entries.now ordered.now self.old (Some place) }
         ensures placing { OnOk result (IsPlacing entries.now ordered.now self.new) }
         ensures longer { OnOk result (vec_len self.new.places ≡ vec_len self.old.places + 1) }
     {
-        let entry = entries[place];
         self.places.push(place)?;
-        if entry.event().is_some() {
+        if entries[place].event().is_some() {
             self.events += 1;
         }
-        let member = entry.member();
+        let member = entries[place].member();
         self.cursors[member.number() as usize] = next_of(entries, member, place + 1);
         Ok(())
     }

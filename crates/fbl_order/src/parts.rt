@@ -85,8 +85,8 @@ impl Part for RawLog {
 }
 
 /// How the part at the place differs from the first one.
-fn difference(part: usize, first: Group, other: Group) -> Option<PartsFault>
-    ensures { MatchOption result (Agrees first other) (Differs part first other) }
+fn difference(part: usize, first: &Group, other: &Group) -> Option<PartsFault>
+    ensures { MatchOption result (Agrees first.now other.now) (Differs part first.now other.now) }
 {
     if other.members != first.members {
         return Some(PartsFault::Members {
@@ -112,7 +112,7 @@ fn first_other<P: Part>(parts: &[P]) -> Option<PartsFault>
 {
     let first = parts[0].group();
     for place in 0..parts.len() {
-        if let Some(fault) = difference(place, first, parts[place].group()) {
+        if let Some(fault) = difference(place, &first, &parts[place].group()) {
             return Some(fault);
         }
     }

@@ -11,6 +11,7 @@ mod audits;
 mod group;
 #[cfg(test)]
 mod logs;
+mod merged_logs;
 #[cfg(test)]
 mod moments;
 #[cfg(test)]

@@ -1,11 +1,8 @@
-use Rattle.std.proofs.Common.{ℕ, ◌≡◌, flat_map, take}
-use Rattle.std.specs.FinSet as set
-use Rattle.std.specs.List.{list_any}
+use Rattle.std.proofs.Common.{◌≡◌, flat_map, take}
 use Rattle.fbl_order.proofs.parts.united.Given as goal
 
 abbrev pub invariant-loop-part : goal.invariant-loop-part
 invariant-loop-part g l = record {
   events : l.events.items ≡ flat_map (λ part. part.events.items) (take l.part-index l.parts);
   held : l.held.items ≡ flat_map (λ part. part.held.items) (take l.part-index l.parts);
-  strike : (q : ℕ) → set.contains l.strike q ≡ list_any (λ part. set.contains part.strike q) (take l.part-index l.parts);
 }

@@ -1,7 +1,8 @@
 use Rattle.fbl_order.proofs.Common.{ℕ, List, Mark, ◌≡◌, ◌<◌, ◌∙◌, ap, arith, length, refl, subst, sym, At-below, BreaksEvent, IsFirstAfter, IsNextAt}
 use Rattle.fbl_order.proofs.Common.{LacksMessage, Send, send_of}
 use Rattle.fbl_base.specs.declared.fault.EventRule.TheVariants.{NothingInFlight}
-use Rattle.fbl_order.proofs.MergeLaws.{cursor-next, cursor_at, has_run}
+use Rattle.fbl_order.proofs.MergeLaws.{cursor-next, has_run}
+use Rattle.fbl_order.proofs.Own.{cursor_at}
 use Rattle.fbl_order.proofs.merge.Merge.obstacle.Goals as goal
 use Rattle.fbl_order.proofs.merge.Merge.obstacle.Goals.{Else-sent-next}
 
@@ -11,7 +12,7 @@ lacks n run e from to broken = (broken.0, (broken.1.0, broken.1.1, refl, refl, b
 pub returns-then-sent-next-clause-hinders : goal.returns-then-sent-next-clause-hinders
 returns-then-sent-next-clause-hinders g c =
     let rule = rw c.in-NothingInFlight.is at c.requires.rule in
-    let cursor = cursor_at c.args.events.now c.args.self.now c.requires.merges.cursors c.number.result c.in-Receipt.from c.number.ensures.bound
+    let cursor = cursor_at c.args.events.now c.args.self.now.cursors c.requires.merges.cursors.room c.number.result c.in-Receipt.from c.number.ensures.bound
     c.number.ensures.value in (
       lacks c.args.n c.args.self.now.run.items c.args.event _ _ rule,
       (
@@ -24,7 +25,7 @@ returns-then-sent-next-clause-hinders g c =
 pub returns-else-sent-next-clause-hinders : goal.returns-else-sent-next-clause-hinders
 returns-else-sent-next-clause-hinders g c =
     let rule = rw c.in-NothingInFlight.is at c.requires.rule in
-    let cursor = cursor_at c.args.events.now c.args.self.now c.requires.merges.cursors c.number.result c.in-Receipt.from c.number.ensures.bound
+    let cursor = cursor_at c.args.events.now c.args.self.now.cursors c.requires.merges.cursors.room c.number.result c.in-Receipt.from c.number.ensures.bound
     c.number.ensures.value in
     let within : _ < length c.args.events.now = omega (arith, cursor, c.if-sent-next.false, At-below c.args.events.now _ _ c.in-Some.ensures) in (
       lacks c.args.n c.args.self.now.run.items c.args.event _ _ rule,
@@ -39,7 +40,7 @@ returns-else-sent-next-clause-hinders g c =
 
 pub returns-else-sent-next-clause-next : goal.returns-else-sent-next-clause-next
 returns-else-sent-next-clause-next g c place is =
-    let cursor = cursor_at c.args.events.now c.args.self.now c.requires.merges.cursors c.number.result c.in-Receipt.from c.number.ensures.bound
+    let cursor = cursor_at c.args.events.now c.args.self.now.cursors c.requires.merges.cursors.room c.number.result c.in-Receipt.from c.number.ensures.bound
     c.number.ensures.value in
     let within : _ < length c.args.events.now = omega (arith, cursor, c.if-sent-next.false, At-below c.args.events.now _ _ c.in-Some.ensures) in
     let same : _ ≡ place = cc in

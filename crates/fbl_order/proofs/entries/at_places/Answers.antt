@@ -1,0 +1,31 @@
+use Rattle.fbl_order.proofs.Common.{ℕ, List, None, Some, [], ◌∷◌, ◌++◌, ◌≡◌, ◌≤◌, ◌∙◌, add-one, ap, append-nil, filter_map-append, get_or, length, refl, slice_get, slice_get-get_or}
+use Rattle.fbl_order.proofs.Common.{slice_get_read, sym, take, take-more}
+use Rattle.std.proofs.lemmas.Option.{slice_get_past}
+use Rattle.fbl_order.proofs.PlacingLaws.{items_at-push}
+use Rattle.fbl_order.specs.LogOrders.{items_at}
+use Rattle.fbl_order.proofs.entries.at_places.Goals as goal
+use Rattle.fbl_order.proofs.entries.at_places.Goals.{in-Some+in_ok-push, in_default}
+
+-- a place past the last adds nothing
+items_at-past : {X : Type 0} (items : List X) (places : List ℕ) (place : ℕ) → length items ≤ place
+    → items_at items (places ++ place ∷ []) ≡ items_at items places
+items_at-past items places place past = filter_map-append (slice_get items) places (place ∷ [])
+    ∙ (let none = slice_get_past items place past in rw (none, append-nil) refl)
+
+pub loop-place-preserved : goal.loop-place-preserved
+loop-place-preserved g c =
+    let items = c.args.items.now in
+    let places = c.args.places.now in
+    let k : ℕ = c.loop-place.place-index in
+    let p : ℕ = get_or places k 0 in
+    let kept = c.loop-place.invariant in
+    let more = take-more places k p (slice_get-get_or places k 0 c.loop-place-test.true) in
+    elim c.match-get.branch [
+      | in-Some+in_ok-push w ↦
+          let found = w.in-Some.ensures.lookup in
+          let at : slice_get items p ≡ Some w.in-Some.item.now = slice_get_read items _ p _ refl found.3.0 found.1 in
+          ap (λ v. v.items) w.chosen-is ∙ w.in_ok-push.ensures.items ∙ (rw (kept, add-one, more) (sym (items_at-push items (take k places) p _ at)))
+      | in_default w ↦
+          let past : length items ≤ p = w.in_default.ensures.lookup.3 in
+          ap (λ v. v.items) w.chosen-is ∙ kept ∙ (rw (add-one, more) (sym (items_at-past items (take k places) p past)))
+    ]

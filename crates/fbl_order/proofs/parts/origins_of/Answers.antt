@@ -1,0 +1,26 @@
+use Rattle.fbl_order.proofs.Common.{[], ◌∷◌, ◌+◌, ◌<◌, ◌≡◌, ap, arith, At-push, inl, inr, length, length-append, refl, rules, slice_get_read, subst, sym, take}
+use Rattle.fbl_moments.specs.declared.log.EntryOrigin.{EntryOrigin}
+use Rattle.fbl_order.proofs.Own.{At-some}
+use Rattle.fbl_order.proofs.PartLaws.{origin_at}
+use Rattle.fbl_order.specs.Parts.{IsOriginOf, entries_of}
+use Rattle.fbl_order.proofs.parts.origins_of.Goals as goal
+
+pub loop-place-preserved : goal.loop-place-preserved
+loop-place-preserved c =
+    let parts = c.args.parts.now in
+    let log = c.loop-log.log in
+    let place = c.loop-place.place in
+    let origin : EntryOrigin = record { log = log; place = place } in
+    let kept = c.loop-place.invariant in
+    let items = c.in_ok-push.ensures.items in
+    let at = slice_get_read parts _ log _ refl c.loop-log-test.true c.index-parts-log.is in
+    let tie : _ ≡ length c.index-parts-log.result.entries.items = c.index-parts-log.result.entries.ok.0 in
+    let within : place < length c.index-parts-log.result.entries.items = omega (arith, tie) in
+    let entry = At-some c.index-parts-log.result.entries.items place within in
+    record {
+      count = omega (arith, kept.count, ap length items, length-append c.loop-place.origins.items (origin ∷ []));
+      each = λ p o there. elim (At-push c.loop-place.origins.items origin p o (rw items at there)) [
+        | inl old ↦ kept.each p o old
+        | inr new ↦ rw (← new.1, new.0, kept.count) (origin_at parts log place c.index-parts-log.result entry.0 at entry.1)
+      ];
+    }

@@ -1,0 +1,201 @@
+//! Logs of a run, put together in an order.
+
+ghost use Rattle.std.specs.Prelude.{◌<◌};
+
+use crate::orders::{receipt, send};
+use crate::parts::pair;
+use fbl_base::{Breach, Determinant, DumpRefusal, Mark, Member, MemberSet};
+use fbl_moments::{Entry, EntryOrigin, LogBreach, RawLog, RecordFault, RecordRule, unsafe_moments};
+use fbl_order::{
+    LogOrderFault, Obstacle, OrderedLog, PartsFault, Stuck, UnitedLog, at_places, order_log,
+    united_logs,
+};
+use std::alloc::Global;
+use std::test::Fail;
+
+fn event(mark: Mark) -> Entry {
+    Entry::Event(mark)
+}
+
+fn hold((holder, determinant): (Member, Determinant)) -> Entry {
+    Entry::Hold {
+        holder,
+        determinant,
+    }
+}
+
+fn store((member, determinant): (Member, Determinant)) -> Entry {
+    Entry::Store {
+        member,
+        determinant,
+    }
+}
+
+/// A log of a group of three, where one may be lost and nobody is struck.
+fn log(alloc: Global, entries: &[Entry]) -> Result<RawLog, Fail> {
+    Ok(RawLog {
+        members: 3,
+        f: 1,
+        entries: entries.to_vec(alloc)?,
+        strike: MemberSet::empty(),
+    })
+}
+
+/// The log that member 0 writes of a message that goes once round: it alone holds that the message came back.
+fn zero() -> [Entry; 3] {
+    [
+        event(send(0, 1, 1)),
+        event(receipt(0, 1, 2, 1)),
+        hold(pair(0, 2, 0)),
+    ]
+}
+
+/// That of member 1.
+fn one() -> [Entry; 3] {
+    [
+        event(receipt(1, 1, 0, 1)),
+        hold(pair(1, 0, 1)),
+        event(send(1, 1, 2)),
+    ]
+}
+
+/// That of member 2, which holds and stores what it gets to know.
+fn two() -> [Entry; 5] {
+    [
+        event(receipt(2, 1, 1, 1)),
+        hold(pair(2, 0, 1)),
+        hold(pair(2, 1, 2)),
+        store(pair(2, 0, 1)),
+        event(send(2, 1, 0)),
+    ]
+}
+
+/// The run that they record.
+fn run() -> [Entry; 11] {
+    let ([a, b, c], [d, e, f], [g, h, i, j, k]) = (zero(), one(), two());
+    [a, d, e, f, g, h, i, j, k, b, c]
+}
+
+/// What the logs have together stands in the order of the run, and what is found there is found in the log of its member: the receipt of
+/// member 2 is unsafe from the receipt of member 0 on.
+#[test]
+fn orders_logs_of_members(rt: HostRuntime) -> Result<(), Fail> {
+    let alloc = rt.alloc();
+    let parts = [
+        log(alloc, &two())?,
+        log(alloc, &one())?,
+        log(alloc, &zero())?,
+    ];
+    let UnitedLog { log, origins } = united_logs(alloc, &parts).ok().ok_or("parts differ")?;
+    let OrderedLog { log, places } = order_log(alloc, log).ok().ok_or("refused")?;
+    assert!(rt; log.entries() == run().as_slice());
+    assert!(rt; places.as_slice() == [8, 5, 6, 7, 0, 1, 2, 3, 4, 9, 10].as_slice());
+    let moments = unsafe_moments(alloc, &log)?;
+    assert!(rt; moments.len() == 1);
+    let origins = at_places(alloc, origins.as_slice(), places.as_slice())?;
+    let place = moments.first().map(|moment| moment.place).ok_or("safe")?;
+    let origin = EntryOrigin { log: 2, place: 1 };
+    assert!(rt; origins.get(place) == Some(&origin));
+    Ok(())
+}
+
+/// Entries whose sends and receipts obey the rules stay as they stand, also where a hold is listed late.
+#[test]
+fn leaves_a_log_in_its_order(rt: HostRuntime) -> Result<(), Fail> {
+    let alloc = rt.alloc();
+    let late = [
+        event(send(0, 1, 1)),
+        event(receipt(1, 1, 0, 1)),
+        event(send(0, 2, 2)),
+        hold(pair(1, 0, 1)),
+    ];
+    let ordered = order_log(alloc, log(alloc, &late)?).ok().ok_or("refused")?;
+    assert!(rt; ordered.log.entries() == late.as_slice());
+    assert!(rt; ordered.places.as_slice() == [0, 1, 2, 3].as_slice());
+    Ok(())
+}
+
+/// Why the entries have no order, or are refused.
+fn fault(alloc: Global, entries: &[Entry]) -> Result<LogOrderFault, Fail> {
+    match order_log(alloc, log(alloc, entries)?) {
+        Ok(_) => Err("no fault".into()),
+        Err(fault) => Ok(fault),
+    }
+}
+
+/// A member holds a determinant that no message can have brought.
+#[test]
+fn names_a_hold_where_it_was_given(rt: HostRuntime) -> Result<(), Fail> {
+    let alloc = rt.alloc();
+    let early = [
+        event(receipt(2, 1, 1, 1)),
+        hold(pair(2, 0, 1)),
+        event(send(1, 1, 2)),
+        event(receipt(1, 1, 0, 1)),
+        event(send(0, 1, 1)),
+    ];
+    let breach = LogBreach::Record(RecordFault {
+        place: 1,
+        entry: hold(pair(2, 0, 1)),
+        rule: RecordRule::NotBefore,
+    });
+    let found = match fault(alloc, &early)? {
+        LogOrderFault::Log(refusal, found) => {
+            refusal == DumpRefusal::BadEvent(1) && found == breach
+        }
+        LogOrderFault::NoOrder(_) => false,
+    };
+    assert!(rt; found);
+    Ok(())
+}
+
+/// Two members wait for one another; each place is that among all entries.
+#[test]
+fn names_a_circle_where_it_was_given(rt: HostRuntime) -> Result<(), Fail> {
+    let circle = [
+        event(receipt(0, 1, 1, 1)),
+        hold(pair(0, 1, 0)),
+        event(send(0, 1, 1)),
+        event(receipt(1, 1, 0, 1)),
+        event(send(1, 1, 0)),
+    ];
+    let chain = [
+        Stuck {
+            place: 0,
+            event: receipt(0, 1, 1, 1),
+            obstacle: Obstacle::Waits(3),
+        },
+        Stuck {
+            place: 3,
+            event: receipt(1, 1, 0, 1),
+            obstacle: Obstacle::Waits(0),
+        },
+    ];
+    let found = match fault(rt.alloc(), &circle)? {
+        LogOrderFault::NoOrder(found) => found.as_slice() == chain.as_slice(),
+        LogOrderFault::Log(..) => false,
+    };
+    assert!(rt; found);
+    Ok(())
+}
+
+#[test]
+fn refuses_logs_of_other_groups(rt: HostRuntime) -> Result<(), Fail> {
+    let alloc = rt.alloc();
+    let mut parts = [log(alloc, &zero())?, log(alloc, &one())?];
+    parts[1].f = 2;
+    let (part, first, other) = (1, 1, 2);
+    let fault = PartsFault::F { part, first, other };
+    assert!(rt; united_logs(alloc, &parts).err() == Some(fault));
+    let mut large = log(alloc, &zero())?;
+    large.members = 17;
+    let found = match order_log(alloc, large) {
+        Err(LogOrderFault::Log(refusal, breach)) => {
+            refusal == DumpRefusal::BadMembers
+                && breach == LogBreach::Trace(Breach::Members { members: 17 })
+        }
+        _ => false,
+    };
+    assert!(rt; found);
+    Ok(())
+}
