@@ -6,8 +6,7 @@ ghost use Rattle.fbl_pictures.specs.Pictures.{ending, opening, picture, text_of,
 use crate::lines::{arrow_text, in_flight_text, label_text, line_text, name_text};
 use crate::look::{entries, look};
 use crate::marks::{
-    checkpoint_text, held_text, made_and_undone_text, receipt_text, recovery_text, send_text,
-    strike_text,
+    checkpoint_text, held_text, receipt_text, recovery_text, send_text, strike_text,
 };
 use crate::places::{height, width, y};
 use crate::shape::{Legend, Shape};
@@ -44,7 +43,6 @@ fn mark_text(alloc: Global, shape: Shape) -> Result<String, AllocError>
             receipts,
         } => recovery_text(alloc, column, member, receipts),
         Shape::Checkpoint { column, member } => checkpoint_text(alloc, column, member),
-        Shape::MadeAndUndone { column, receipts } => made_and_undone_text(alloc, column, receipts),
         _ => Ok(String::new(alloc)),
     }
 }

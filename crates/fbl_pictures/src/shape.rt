@@ -146,9 +146,4 @@ pub enum Shape {
         column: usize,
         member: Member,
     },
-    /// Receipts that have no column, since a run both made and undid them: how many, above the members' lines.
-    MadeAndUndone {
-        column: usize,
-        receipts: u128,
-    },
 }
