@@ -109,7 +109,7 @@ pub enum Shape {
         /// Which of its sender's sends it is, from 1.
         ssn: u32,
         to: Member,
-        /// Whether a recovery or a run took it out of the trace: it is crossed then.
+        /// Whether a recovery took it out of the trace: it is crossed then.
         undone: bool,
     },
     /// The mark of a receipt of a history, its number and the state after it.
@@ -118,7 +118,7 @@ pub enum Shape {
         determinant: Determinant,
         /// The receiver's state after it.
         state: u64,
-        /// Whether a recovery or a run took it out of the trace: it is crossed then.
+        /// Whether a recovery took it out of the trace: it is crossed then.
         undone: bool,
     },
     /// The mark of a receipt of a dump, and its number.
