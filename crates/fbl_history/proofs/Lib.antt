@@ -5,3 +5,5 @@ pub mod Standing
 pub mod Cutting
 pub mod Counting
 pub mod Sends
+pub mod Parts
+pub mod Deliveries

@@ -2,9 +2,9 @@
 use Rattle.fbl_base.specs.declared.trace.Note.{Note}
 use Rattle.fbl_base.specs.declared.trace.Event.TheVariants as event
 use Rattle.fbl_base.specs.declared.trace.Mark.TheVariants as mark
-use Rattle.fbl_history.proofs.Common.{◌≡◌, ◌==◌, ◌<◌, ℕ, zero, suc, Bool, true, false, cond, inl, inr, List, [], ◌∷◌, ◌++◌, drop, Some, slice_get, refl, ap, sym, ◌∙◌, arith, filter, At-front, At-push}
+use Rattle.fbl_history.proofs.Common.{◌≡◌, ◌<◌, ℕ, zero, suc, Bool, true, false, cond, inl, inr, List, [], ◌∷◌, ◌++◌, drop, Some, slice_get, refl, ap, sym, ◌∙◌, arith, filter, At-front, At-push}
 use Rattle.fbl_history.proofs.Common.{Event, mark_of, Next, GroupRecord, marks, IsSound, filter-passes, mark-at, send-at, sent-before, map-At, slice_get-map, option_map}
-use Rattle.fbl_history.proofs.Common.{Column, Send, Receipt, ReceiptsMade, ReceiptsFollowSends, column_then, event_column, go_on, go_on_to, is_next, is_receipt, is_standing, receipts_made, standing, trace_columns, trace_then, undo}
+use Rattle.fbl_history.proofs.Common.{Column, Send, Receipt, ReceiptsFollowSends, column_then, event_column, go_on, go_on_to, is_next, is_receipt, is_standing, standing, trace_columns, trace_then, undo}
 use Rattle.fbl_history.proofs.Standing.{columns_stand, standing_trace}
 use Rattle.fbl_history.proofs.Undoing.{stays_or_undone}
 
@@ -101,16 +101,15 @@ follow_push columns c other follow place to rsn from ssn state undone at = elim 
   | inr new ↦ (let clash : is_receipt (Receipt to rsn from ssn state undone) ≡ false = ap is_receipt (sym new.1) ∙ other in absurd cc)
 ]
 
-follow-trace : (next : Next ℕ Note) (r : GroupRecord ℕ Note) (columns : List Column) → IsSound next r → ReceiptsFollowSends columns
-    → ReceiptsFollowSends (go_on columns (trace_columns next r))
-follow-trace next r columns sound follow place to rsn from ssn state false at =
+pub follow_on : (next : Next ℕ Note) (r : GroupRecord ℕ Note) (columns : List Column) → IsSound next r → ReceiptsFollowSends columns → ReceiptsFollowSends (go_on_to next columns r)
+follow_on next r columns sound follow place to rsn from ssn state false at =
     let gone = go_on columns (trace_columns next r) in
     let left = left-at is_standing gone place (Receipt to rsn from ssn state false) at refl in
     let is : standing gone ≡ trace_columns next r = standing_trace columns (trace_columns next r) (columns_stand next r.config.members r.trace r.trace) in
     let sent = sent-in-trace next r sound left.0 to rsn from ssn state false (ap (λ t. slice_get t left.0) (sym is) ∙ left.1) in
     let found = left.2 sent.0 (Send from ssn to false) sent.1 (ap (λ t. slice_get t sent.0) is ∙ sent.2) in
     (found.0, found.1, false, found.2)
-follow-trace next r columns sound follow place to rsn from ssn state true at =
+follow_on next r columns sound follow place to rsn from ssn state true at =
     let trace = trace_columns next r in
     let stand : standing trace ≡ trace = columns_stand next r.config.members r.trace r.trace in
     let all : AllStand trace = λ i c here. filter-passes is_standing trace i c (ap (λ t. slice_get t i) stand ∙ here) in
@@ -120,12 +119,3 @@ follow-trace next r columns sound follow place to rsn from ssn state true at =
     let there = is_there columns trace sent.0 (Send from ssn to sent.2) sent.3 in
     let now = is-send there.0 from ssn to there.2 in
     (sent.0, sent.1, now.0, there.1 ∙ ap (λ c. Some c) now.1)
-
-pub follow_on : (next : Next ℕ Note) (r : GroupRecord ℕ Note) (columns : List Column) → IsSound next r → ReceiptsFollowSends columns → ReceiptsFollowSends (go_on_to next columns r)
-follow_on next r columns sound follow =
-    let gone = go_on columns (trace_columns next r) in
-    let after = follow-trace next r columns sound follow in
-    elim (receipts_made gone == r.receipts_ever) as (λ b. ReceiptsFollowSends (cond b gone (gone ++ ReceiptsMade r.receipts_ever ∷ []))) [
-      | true ↦ after
-      | false ↦ follow_push gone (ReceiptsMade r.receipts_ever) refl after
-    ]

@@ -29,7 +29,7 @@ pub use Rattle.fbl_base.specs.declared.strike.Strike.{Strike}
 pub use Rattle.fbl_base.specs.declared.trace.Event.{Event}
 pub use Rattle.fbl_base.specs.declared.trace.Mark.{Mark}
 pub use Rattle.fbl_group.proofs.Striking.{is_allowed}
-pub use Rattle.fbl_group.specs.Records.{Commits, CountsEach, IsPlannedCrash, IsRecoveryRecord, TurnLeads, TurnsLead}
+pub use Rattle.fbl_group.specs.Records.{Commits, IsPlannedCrash, IsRecoveryRecord, StrikeLeads, TurnLeads, TurnsLead}
 pub use Rattle.fbl_group.specs.Strikes.{CrashLeaves, Crashes, Recovers, strike_refusal}
 pub use Rattle.fbl_group.specs.Deliveries.{MayCommit, RefusesCommit, Delivers}
 pub use Rattle.fbl_group.specs.declared.answers.Receipted.{Receipted}

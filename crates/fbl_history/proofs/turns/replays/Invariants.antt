@@ -1,5 +1,5 @@
 use Rattle.fbl_history.proofs.Common.{◌≡◌, map, take, member_list, replay_of}
-use Rattle.fbl_history.proofs.history.replays.Given as goal
+use Rattle.fbl_history.proofs.turns.replays.Given as goal
 
 abbrev pub invariant-loop-member : goal.invariant-loop-member
 invariant-loop-member g l = record {

@@ -1,8 +1,8 @@
 use Rattle.fbl_history.proofs.Common.{◌<◌}
 use Rattle.fbl_history.proofs.Following.{listed_in}
-use Rattle.fbl_history.proofs.history.replays.Goals as goal
-use Rattle.fbl_history.proofs.history.replays.Goals.{After-member-item}
-use Rattle.fbl_history.proofs.history.replays.Given.{Over}
+use Rattle.fbl_history.proofs.turns.replays.Goals as goal
+use Rattle.fbl_history.proofs.turns.replays.Goals.{After-member-item}
+use Rattle.fbl_history.proofs.turns.replays.Given.{Over}
 
 within : (g : Over) (c : After-member-item g) → c.member-item.result < c.args.group.now.config.members
 within g c =
