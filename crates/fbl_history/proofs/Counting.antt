@@ -42,7 +42,7 @@ count-kind (Receipt p r q k s true) = refl
 count-kind (Receipt p r q k s false) = refl
 count-kind _ = refl
 
-count-kinds : (columns : List Column) → receipts_made columns ≡ count_by is_standing_receipt columns + receipts_undone columns
+pub count-kinds : (columns : List Column) → receipts_made columns ≡ count_by is_standing_receipt columns + receipts_undone columns
 count-kinds [] = refl
 count-kinds (c ∷ columns) =
     omega (arith, count-kinds columns, count-kind c, count-cons is_receipt c columns, count-cons is_standing_receipt c columns, count-cons is_undone_receipt c columns)

@@ -25,12 +25,14 @@ pub sends-columns : (next : Next ℕ Note) (n : ℕ) (trace : List (Event Note))
 sends-columns next n trace p before [] = refl
 sends-columns next n trace p before (s ∷ sends) = ap (λ xs. Send p (before + 1) s.0 false ∷ xs) (sends-columns next n trace p (before + 1) sends)
 
-made-none : (p before : ℕ) (sends : List (ℕ × Note)) → receipts_made (filter_map send_column (step_events p before sends)) ≡ 0
-made-none p before [] = refl
-made-none p before (s ∷ sends) = omega (arith, made-none p (before + 1) sends, count-cons is_receipt (Send p (before + 1) s.0 false) (filter_map send_column (step_events p (before + 1) sends)))
+-- which are of no receipts
+pub made_none : (events : List (Event Note)) → receipts_made (filter_map send_column events) ≡ 0
+made_none [] = refl
+made_none (event.Send q k p note ∷ events) = omega (arith, made_none events, count-cons is_receipt (Send q k p false) (filter_map send_column events))
+made_none (event.Receipt p r q k ∷ events) = made_none events
 
 module _ (next : Next ℕ Note) (old new : GroupRecord ℕ Note) (v : Message Note) (well : SendsWell next) (sound : IsSound next old) (step : IsDelivery next old new v) where
-  sound-new : IsSound next new
+  pub sound-new : IsSound next new
   sound-new = group_delivery_keeps next old new v well step sound
 
   part : IsPart old.config.members old.trace new.trace
@@ -47,7 +49,7 @@ module _ (next : Next ℕ Note) (old new : GroupRecord ℕ Note) (v : Message No
       Receipt v.to ((member old v.to).received + 1) v.from v.ssn (step_of next old v).state false
       ∷ filter_map send_column (step_events v.to (length (member old v.to).log) (step_of next old v).sends.items)
 
-  receiver-now : member new v.to ≡ receiver next old v
+  pub receiver-now : member new v.to ≡ receiver next old v
   receiver-now = rw step.members (get_or-set_same old.members v.to (receiver next old v) (blank new.outside) (omega (arith, step.to_member, sound.members)))
 
   state-now : state_after_receipt next old.config.members new.trace v.to ((member old v.to).received + 1) ≡ (step_of next old v).state
@@ -78,7 +80,7 @@ module _ (next : Next ℕ Note) (old new : GroupRecord ℕ Note) (v : Message No
   made-added =
       let sends = filter_map send_column (step_events v.to (length (member old v.to).log) (step_of next old v).sends.items) in
       omega (arith, count-cons is_receipt (Receipt v.to ((member old v.to).received + 1) v.from v.ssn (step_of next old v).state false) sends,
-      made-none v.to (length (member old v.to).log) (step_of next old v).sends.items)
+      made_none (step_events v.to (length (member old v.to).log) (step_of next old v).sends.items))
 
   pub follows_delivery : (columns : List Column) → IsHistoryOf next old columns → IsHistoryOf next new (go_on_to next columns new)
   follows_delivery columns history =

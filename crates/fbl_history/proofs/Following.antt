@@ -117,10 +117,12 @@ module _ {next : Next ℕ Note} {r : GroupRecord ℕ Note} {members : List (Memb
     }
 
 -- each of the members of a set is in it
-pub listed_in : (s : Members) (listed : List ℕ) (i m : ℕ) → listed ≡ member_list s → i < length listed → m ≡ get_or listed i m → set.contains s m ≡ true
+pub listed_at : (s : Members) (i m : ℕ) → slice_get (member_list s) i ≡ Some m → set.contains s m ≡ true
 unfolding member_list
+listed_at s i m here = filter-passes (set.contains s) (range_with_len 0 16) i m here
+
+pub listed_in : (s : Members) (listed : List ℕ) (i m : ℕ) → listed ≡ member_list s → i < length listed → m ≡ get_or listed i m → set.contains s m ≡ true
 listed_in s listed i m is below read =
     let some = some-at listed i below in
     let same : m ≡ some.0 = read ∙ get_or_from_slice_get listed i some.0 m some.1 in
-    let there : slice_get (filter (set.contains s) (range_with_len 0 16)) i ≡ Some some.0 = ap (λ (xs : List ℕ). slice_get xs i) (sym is) ∙ some.1 in
-    rw same (filter-passes (set.contains s) (range_with_len 0 16) i some.0 there)
+    rw same (listed_at s i some.0 (ap (λ (xs : List ℕ). slice_get xs i) (sym is) ∙ some.1))

@@ -7,3 +7,6 @@ pub mod Counting
 pub mod Sends
 pub mod Parts
 pub mod Deliveries
+pub mod Steps
+pub mod Recoveries
+pub mod Turning

@@ -27,13 +27,13 @@ abbrev pub turn_columns : Next ℕ Note → TurnRecord ℕ Note → List Column
 turn_columns next t = step_columns t.ticket (next.step t.ticket.to t.ticket.n t.ticket.state t.ticket.note) t.sent
 
 -- whether the event is beyond the first so many receipts and sends of its member
-abbrev pub is_beyond : List ℕ → List ℕ → Column → Bool
-is_beyond received sent (Send from ssn to undone) = nat_lt (slice_index sent from) ssn
-is_beyond received sent (Receipt to rsn from ssn state undone) = nat_lt (slice_index received to) rsn
+abbrev pub is_beyond : (ℕ → ℕ) → (ℕ → ℕ) → Column → Bool
+is_beyond received sent (Send from ssn to undone) = nat_lt (sent from) ssn
+is_beyond received sent (Receipt to rsn from ssn state undone) = nat_lt (received to) rsn
 is_beyond received sent _ = false
 
 -- the column after a recovery that left each member so many receipts and sends: its later events are undone
-abbrev pub undone_beyond : List ℕ → List ℕ → Column → Column
+abbrev pub undone_beyond : (ℕ → ℕ) → (ℕ → ℕ) → Column → Column
 undone_beyond received sent column = if is_beyond received sent column then undo column else column
 
 -- the history after a recovery of these members, if there was one; the checkpoints are those of the group
@@ -41,7 +41,7 @@ abbrev pub IsAfterRecoveryRecord : GroupRecord ℕ Note → Members → Option R
 IsAfterRecoveryRecord r members None old new = new ≡ old
 IsAfterRecoveryRecord r members (Some recovery) old new =
     (column : Column) × IsRecoveryColumn r (slice_index recovery.received.items) members column
-    × (new ≡ map (undone_beyond recovery.received.items recovery.sent.items) old ++ column ∷ [])
+    × (new ≡ map (undone_beyond (slice_index recovery.received.items) (slice_index recovery.sent.items)) old ++ column ∷ [])
 
 -- the history after a crash, if there was one: it has the strike's column, and then what the recovery makes of it
 abbrev pub IsAfterCrash : GroupRecord ℕ Note → Option CrashRecord → List Column → List Column → Type 0

@@ -83,7 +83,7 @@ fn add_crash<B: Behaviour<State = u64, Note = Note>>(
 
 /// Undoes the events that a recovery undid: those beyond the receipts and the sends that each member has after it.
 fn undo_beyond(columns: &mut [Column], recovery: &RecoveryRecord)
-    ensures { columns.new ≡ map (undone_beyond recovery.now.received.items recovery.now.sent.items) columns.old }
+    ensures { columns.new ≡ map (undone_beyond (slice_index recovery.now.received.items) (slice_index recovery.now.sent.items)) columns.old }
 {
     let received = recovery.received.as_slice();
     let sent = recovery.sent.as_slice();
@@ -96,7 +96,7 @@ fn undo_beyond(columns: &mut [Column], recovery: &RecoveryRecord)
 
 /// Whether the event is beyond the first so many receipts and sends of its member.
 fn is_beyond(column: &Column, received: &[u32], sent: &[u32]) -> bool
-    ensures { result ≡ is_beyond_in received.now sent.now column.now }
+    ensures { result ≡ is_beyond_in (slice_index received.now) (slice_index sent.now) column.now }
 {
     match column {
         Column::Send { from, ssn, .. } => count_of(sent, *from) < *ssn,
