@@ -1,15 +1,16 @@
 -- The names that proofs of this crate take from outside: of the standard library, of the crates below, and of the definitions here.
 pub use Rattle.std.proofs.Common.{Bool, List, None, Ok, Option, Some, inl, inr, zero, [], ap, append-nil, arith, cond, drop, false, get_or, length, length-append, map, not, refl, rules, slice_get, subst, suc, sym, take, take_all, true, ℕ, ◌++◌}
 pub use Rattle.std.proofs.Common.{◌+◌, ◌-◌, ◌<◌, ◌==◌, ◌∙◌, ◌∷◌, ◌≡◌, ◌≤◌, ◌⊎◌, ◌||◌}
-pub use Rattle.std.proofs.lemmas.Bool.{false_from_ne_true, or_parts}
+pub use Rattle.std.proofs.lemmas.Bool.{cases_eq, false_from_ne_true, or_parts}
 pub use Rattle.std.proofs.lemmas.Bool.Decides.{Decides-eqb, nat_tests}
 pub use Rattle.std.proofs.lemmas.Iterator.Adapters.{YieldsList-from_skip, YieldsList-from_vec, items_from_extend}
 pub use Rattle.std.proofs.lemmas.Iterator.Consumers.{YieldsList-at}
-pub use Rattle.std.proofs.lemmas.List.{map-append, at_drop_more, get_or-set_other, get_or-set_same, get_or_default, length-map, length-set, take-take}
+pub use Rattle.std.proofs.lemmas.List.{map-append, at_drop_more, drop_all, get_or-set_other, get_or-set_same, get_or_default, length-map, length-set, take-take}
 pub use Rattle.std.proofs.lemmas.List.Elements.{filter-append, filter_map-append}
 pub use Rattle.std.proofs.lemmas.List.Folds.{list_any_none}
 pub use Rattle.std.proofs.lemmas.List.Sums.{count_by-le-length, sum_by-append, sum_by-cons, sum_by-take-le}
 pub use Rattle.std.proofs.lemmas.Option.{get_or_from_slice_get, slice_get-get_or, slice_get-map}
+pub use Rattle.std.proofs.lemmas.Result.{IfOk-weaker}
 pub use Rattle.std.specs.Option.{option_map}
 pub use Rattle.std.specs.List.{filter, filter_map, fold, list_any, range_with_len}
 pub use Rattle.std.specs.Prelude.{count_by, slice_index, slice_index_or, slice_set}
@@ -56,6 +57,6 @@ pub use Rattle.fbl_table.proofs.Adding.{take-next}
 pub use Rattle.fbl_history.specs.Columns.{GoesOnFrom, HasEachOnce, ReceiptsFollowSends, column_then, undo, undone_without, go_on, is_next, is_receipt, is_sent_by, is_standing, is_undone_receipt, receipts_made, receipts_undone, same_standing, standing, trace_then}
 pub use Rattle.fbl_history.specs.Replays.{HaveReplayed}
 pub use Rattle.fbl_history.specs.Turns.{IsAfterCrash, IsAfterRecoveryRecord, IsAfterTurn, IsAfterTurns, IsLedTo, is_beyond, step_columns, turn_columns, undone_beyond}
-pub use Rattle.fbl_history.specs.Traces.{CountsAsBefore, CountsReceipts, IsAfterRecovery, IsHistoryOf, IsRecoveryColumn, event_column, go_on_to, replays_of, send_column, start_columns, state_after_receipt, trace_columns}
+pub use Rattle.fbl_history.specs.Traces.{CountsAsBefore, CountsReceipts, IsAfterRecovery, IsHistoryOf, IsRecoveryColumn, event_column, go_on_to, replay_of, replays_of, send_column, start_columns, state_after_receipt, trace_columns}
 pub use Rattle.fbl_history.specs.declared.column.Column.{Column}
 pub use Rattle.fbl_history.specs.declared.column.Column.TheVariants.{Checkpoint, Receipt, Recovery, Send, Strike}

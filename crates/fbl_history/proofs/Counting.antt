@@ -1,7 +1,8 @@
 -- The columns count the receipts that a group ever made, and those that were undone.
 use Rattle.fbl_base.specs.declared.trace.Note.{Note}
 use Rattle.fbl_base.specs.declared.trace.Event.TheVariants as event
-use Rattle.fbl_history.proofs.Common.{◌≡◌, ◌+◌, ℕ, Bool, true, false, cond, not, List, [], ◌∷◌, ◌++◌, length, map, count_by, refl, ap, sym, ◌∙◌, arith, sum_by-append, sum_by-cons}
+use Rattle.fbl_base.specs.declared.trace.Mark.TheVariants as mark
+use Rattle.fbl_history.proofs.Common.{◌≡◌, ◌==◌, ◌+◌, ℕ, filter_map, is_send_of, is_sent_by, send_column, sends_of, Bool, true, false, cond, not, List, [], ◌∷◌, ◌++◌, length, map, count_by, refl, ap, sym, ◌∙◌, arith, sum_by-append, sum_by-cons}
 use Rattle.fbl_history.proofs.Common.{Event, mark_of, receipts, Next, GroupRecord, marks, IsSound, Column, Send, Receipt, event_column, trace_columns}
 use Rattle.fbl_history.proofs.Common.{CountsAsBefore, IsHistoryOf, is_receipt, is_standing, is_undone_receipt, receipts_made, receipts_undone, standing, undo}
 
@@ -69,6 +70,17 @@ pub undo-receipt : (c : Column) → is_receipt (undo c) ≡ is_receipt c
 undo-receipt (Receipt p r q k s u) = refl
 undo-receipt (Send q k p u) = refl
 undo-receipt _ = refl
+
+-- the sends of a member, as their columns and as events
+pub count_sent : (member : ℕ) (events : List (Event Note)) → count_by (is_sent_by member) (filter_map send_column events) ≡ sends_of (map mark_of events) member
+count_sent member [] = refl
+count_sent member (event.Send q k p note ∷ events) =
+    let columns = filter_map send_column events in
+    count-cons (is_sent_by member) (Send q k p false) columns ∙ ap (λ n. cond (q == member) 1 0 + n) (count_sent member events)
+    ∙ sym (sum_by-cons (λ e. cond (is_send_of member e) 1 0) (mark.Send q k p) (map mark_of events))
+count_sent member (event.Receipt p r q k ∷ events) =
+    let none : 0 + sends_of (map mark_of events) member ≡ sends_of (map mark_of events) member = omega arith in
+    count_sent member events ∙ sym (sum_by-cons (λ e. cond (is_send_of member e) 1 0) (mark.Receipt p r q k) (map mark_of events) ∙ none)
 
 -- a column that is of no receipt, behind the others
 pub counts_as_before : (columns : List Column) (c : Column) → is_receipt c ≡ false → CountsAsBefore columns (columns ++ c ∷ [])

@@ -132,7 +132,7 @@ module _ (next : Next ℕ Note) (old new : GroupRecord ℕ Note) (step : IsRecov
       counted_from next new (go_on_to next columns new) sound-new (standing_is_trace next new columns) (made ∙ history.counted.0 ∙ sym step.rest.receipts_ever)
 
 -- the column of a recovery is of no event
-recovery-lies : (r : GroupRecord ℕ Note) (received : ℕ → ℕ) (members : Members) (c : Column) → IsRecoveryColumn r received members c → (is_standing c ≡ false) × (is_receipt c ≡ false)
+pub recovery-lies : (r : GroupRecord ℕ Note) (received : ℕ → ℕ) (members : Members) (c : Column) → IsRecoveryColumn r received members c → (is_standing c ≡ false) × (is_receipt c ≡ false)
 recovery-lies r received members (Recovery replays) is = (refl, refl)
 recovery-lies r received members _ is = absurd is
 

@@ -2,14 +2,18 @@
 use Rattle.fbl_base.specs.declared.trace.Note.{Note}
 use Rattle.std.specs.FinSet as set
 use Rattle.fbl_history.proofs.Common.{◌≡◌, ℕ, ◌+◌, ◌-◌, ◌<◌, ◌≤◌, Bool, true, false, List, [], ◌∷◌, ◌++◌, length, map, Option, None, Some, refl, sym, ap, ◌∙◌, arith, nat_tests, filter_map, length-append}
-use Rattle.fbl_history.proofs.Common.{AllBelow, Column, CrashLeads, CrashRecord, GroupRecord, IsAfterCrash, IsAfterRecoveryRecord, IsAfterTurn, IsAfterTurns, IsDelivery, IsHistoryOf, IsRecoveryColumn, IsSound, IsStrike, MemberRecord}
+use Rattle.fbl_history.proofs.Common.{AllBelow, Column, CrashLeads, CrashRecord, GroupRecord, IsAfterCrash, IsAfterRecoveryRecord, IsAfterTurn, IsAfterTurns, IsDelivery, IsHistoryOf, IsLedTo, IsRecoveryColumn, IsSound, IsStrike, MemberRecord, ReceiptsFollowSends}
 use Rattle.fbl_history.proofs.Common.{Members, Message, Next, Outcome, Receipt, Recovery, RecoveryRecord, SendsWell, Strike, StrikeLeads, TurnLeads, TurnRecord, TurnsLead, channel-at, go_on_to, group_strike_keeps, length-numbered}
 use Rattle.fbl_history.proofs.Common.{member, member_checkpoint, member_list, numbered, replays_of, send_column, slice_index, slice_index_or, blank, group_recovery_keeps, subst, step_events, step_of, strike_refusal, turn_columns, within-below}
 use Rattle.fbl_history.specs.Laws.{FollowsTurns, IsAsByCommands, IsAsCrashed, IsAsStruck}
 use Rattle.fbl_history.proofs.Deliveries as delivery
 use Rattle.fbl_history.proofs.Recoveries as recovery
 use Rattle.fbl_history.proofs.Following.{listed_at}
+use Rattle.fbl_history.proofs.Sends.{follow_on, follow_push, untruncated}
 use Rattle.fbl_history.proofs.Steps.{follows_strike}
+use Rattle.fbl_history.specs.contracts.column.Column as column
+use Rattle.std.proofs.Math.Logic.{∥∥₁_elim, ∥∥₁_map}
+use Rattle.std.specs.Coded.{Coded-set, codes}
 
 -- ---- one step
 
@@ -54,14 +58,20 @@ module _ (next : Next ℕ Note) (old mid : GroupRecord ℕ Note) (t : TurnRecord
 
 -- ---- crashes
 
+-- the history after steps that lead from a group of which the other is one
+record IsTurned (next : Next ℕ Note) (columns : List Column) (new : GroupRecord ℕ Note) (after : List Column) : Type 0 where
+  pub history : IsHistoryOf next new after
+  pub sound : IsSound next new
+  pub sends : ReceiptsFollowSends columns → ReceiptsFollowSends after
+
 -- the groups have the same members and the same checkpoints
-record HaveSame (r now : GroupRecord ℕ Note) : Type 0 where
+pub record HaveSame (r now : GroupRecord ℕ Note) : Type 0 where
   pub config : r.config ≡ now.config
   pub checkpoints : r.checkpoints ≡ now.checkpoints
   pub outside : r.outside ≡ now.outside
 
 -- the replays are the same where the counts and the checkpoints are
-same-replays : (r now : GroupRecord ℕ Note) (received : ℕ → ℕ) (members : Members) → HaveSame r now → AllBelow members now.config.members
+pub same-replays : (r now : GroupRecord ℕ Note) (received : ℕ → ℕ) (members : Members) → HaveSame r now → AllBelow members now.config.members
     → ((m : ℕ) → m < now.config.members → received m ≡ (member now m).received) → replays_of r received members ≡ replays_of now (λ m. (member now m).received) members
 same-replays r now received members have below counts = recovery.map-agree _ _ (member_list members) (λ i m here.
     (let within = below m (listed_at members i m here) in
@@ -83,9 +93,13 @@ module _ (next : Next ℕ Note) (r old new : GroupRecord ℕ Note) (members : Me
 
   -- a strike, and a recovery where there was one
   struck : (given : Option RecoveryRecord) (columns after : List Column) → StrikeLeads next old members given new → IsHistoryOf next old columns
-      → IsAfterRecoveryRecord r members given (columns ++ Strike members ∷ []) after → IsAsStruck next new members given columns after × IsHistoryOf next new after × IsSound next new
+      → IsAfterRecoveryRecord r members given (columns ++ Strike members ∷ []) after → IsAsStruck next new members given columns after × IsTurned next columns new after
   struck None columns after led history is =
-      (is, rw is (follows_strike next old new members columns led.1.1.0 history), struck-sound new led.0 led.1.1.0)
+      (is, record {
+        history = rw is (follows_strike next old new members columns led.1.1.0 history);
+        sound = struck-sound new led.0 led.1.1.0;
+        sends = λ follow. rw is (follow_push columns (Strike members) refl follow);
+      })
   struck (Some back) columns after (crash, told) history is =
       let down = crash.1.1.0 in
       let strike = crash.1.1.1.0 in
@@ -96,12 +110,19 @@ module _ (next : Next ℕ Note) (r old new : GroupRecord ℕ Note) (members : Me
       (λ m below. told.sent.each m (rw step.rest.config below)) (columns ++ Strike members ∷ []) history-down in
       let column = same-recovery r new (slice_index back.received.items) members is.0 have (rw (step.rest.config, strike.config) (within crash.0)) told.received.each is.1 in
       let same-as : IsAsStruck next new members (Some back) columns after = (is.0, column, is.2 ∙ ap (λ xs. xs ++ is.0 ∷ []) (sym gone)) in
-      (same-as, recovery.follows_recovery next down new members (columns ++ Strike members ∷ []) after sound-down step same-as history-down, group_recovery_keeps next down new step sound-down)
+      let sound-new = group_recovery_keeps next down new step sound-down in
+      (same-as, record {
+        history = recovery.follows_recovery next down new members (columns ++ Strike members ∷ []) after sound-down step same-as history-down;
+        sound = sound-new;
+        sends = λ follow.
+            (let lies = recovery.recovery-lies new (λ m. (member new m).received) members is.0 column in
+            rw same-as.2 (follow_push _ is.0 lies.1 (follow_on next new (columns ++ Strike members ∷ []) sound-new (follow_push columns (Strike members) refl follow))));
+      })
 
 -- a crash, where there was one
 crashed : (next : Next ℕ Note) (r old new : GroupRecord ℕ Note) (given : Option CrashRecord) (columns after : List Column) → IsSound next old → old.down ≡ set.empty → HaveSame r new
-    → CrashLeads next old given new → IsHistoryOf next old columns → IsAfterCrash r given columns after → IsAsCrashed next new given columns after × IsHistoryOf next new after × IsSound next new
-crashed next r old new None columns after sound nobody have led history is = (is, rw (is, led) history, rw led sound)
+    → CrashLeads next old given new → IsHistoryOf next old columns → IsAfterCrash r given columns after → IsAsCrashed next new given columns after × IsTurned next columns new after
+crashed next r old new None columns after sound nobody have led history is = (is, record { history = rw (is, led) history; sound = rw led sound; sends = λ follow. rw is follow })
 crashed next r old new (Some crash) columns after sound nobody have led history is = struck next r old new crash.set sound nobody have crash.recovery columns after led history is
 
 -- ---- turns
@@ -136,24 +157,39 @@ still-same r old mid have kept =
     record { config = have.config ∙ sym kept.config; checkpoints = have.checkpoints ∙ sym kept.checkpoints; outside = have.outside ∙ sym kept.outside }
 
 turned : (next : Next ℕ Note) (r old mid : GroupRecord ℕ Note) (t : TurnRecord ℕ Note) (columns after : List Column) → SendsWell next → IsSound next old → (turn : TurnLeads next old t mid) → HaveSame r mid
-    → IsHistoryOf next old columns → IsAfterTurn next r t columns after → IsAsCrashed next mid t.crash (go_on_to next columns turn.between) after × IsHistoryOf next mid after × IsSound next mid
+    → IsHistoryOf next old columns → IsAfterTurn next r t columns after → IsAsCrashed next mid t.crash (go_on_to next columns turn.between) after × IsTurned next columns mid after
 turned next r old mid t columns after well sound turn have history is =
     let v = message next old mid t well sound turn in
     let step = commits next old mid t well sound turn in
     let gone = delivery.gone_on next old turn.between v well sound step columns history ∙ ap (λ xs. columns ++ xs) (turns-columns next old mid t well sound turn) in
-    crashed next r turn.between mid t.crash (go_on_to next columns turn.between) after (delivery.sound-new next old turn.between v well sound step) (step.down ∙ step.nobody_down) have turn.crash
-    (delivery.follows_delivery next old turn.between v well sound step columns history) (subst (λ xs. IsAfterCrash r t.crash xs after) (sym gone) is)
+    let sound-between = delivery.sound-new next old turn.between v well sound step in
+    let rest = crashed next r turn.between mid t.crash (go_on_to next columns turn.between) after sound-between (step.down ∙ step.nobody_down) have turn.crash
+    (delivery.follows_delivery next old turn.between v well sound step columns history) (subst (λ xs. IsAfterCrash r t.crash xs after) (sym gone) is) in
+    (rest.0, record { history = rest.1.history; sound = rest.1.sound; sends = λ follow. rest.1.sends (follow_on next turn.between columns sound-between follow) })
 
 all-turned : (next : Next ℕ Note) (r old new : GroupRecord ℕ Note) (turns : List (TurnRecord ℕ Note)) (columns after : List Column) → SendsWell next → IsSound next old → HaveSame r old
     → (lead : TurnsLead next old turns new) → IsHistoryOf next old columns → IsAfterTurns next r turns columns after
-    → IsAsByCommands next old turns new lead columns after × IsHistoryOf next new after
-all-turned next r old new [] columns after well sound have lead history is = (is, rw (is, lead) history)
+    → IsAsByCommands next old turns new lead columns after × IsTurned next columns new after
+all-turned next r old new [] columns after well sound have lead history is = (is, record { history = rw (is, lead) history; sound = rw lead sound; sends = λ follow. rw is follow })
 all-turned next r old new (t ∷ turns) columns after well sound have (mid, turn, more) history (middle, first, rest) =
     let now = still-same r old mid have (turn-keeps next old mid t turn) in
     let one = turned next r old mid t columns middle well sound turn now history first in
-    let later = all-turned next r mid new turns middle after well one.2 now more one.1 rest in
-    ((middle, one.0, later.0), later.1)
+    let later = all-turned next r mid new turns middle after well one.1.sound now more one.1.history rest in
+    ((middle, one.0, later.0), record { history = later.1.history; sound = later.1.sound; sends = λ follow. later.1.sends (one.1.sends follow) })
 
 pub follows_turns : FollowsTurns
 follows_turns next old new turns columns after well sound lead history is =
-    all-turned next new old new turns columns after well sound (turns-keep next old new turns lead) lead history is
+    (let turned = all-turned next new old new turns columns after well sound (turns-keep next old new turns lead) lead history is in (turned.0, turned.1.history))
+
+-- ---- where turns led from some group to this one
+
+module _ (next : Next ℕ Note) (new : GroupRecord ℕ Note) (turns : List (TurnRecord ℕ Note)) (columns after : List Column) (well : SendsWell next)
+    (led : ∥ IsLedTo next columns turns new ∥₁) (is : IsAfterTurns next new turns columns after) where
+  led-on : IsLedTo next columns turns new → IsTurned next columns new after
+  led-on from = (all-turned next new from.old new turns columns after well from.sound (turns-keep next from.old new turns from.lead) from.lead from.history is).1
+
+  pub history_led : IsHistoryOf next new after
+  history_led = ∥∥₁_elim led (Prim.hlevel (Coded-set, codes, column.the_row.coded)) (λ from. (led-on from).history)
+
+  pub sends_led : ReceiptsFollowSends columns → ReceiptsFollowSends after
+  sends_led follow = untruncated after (∥∥₁_map led (λ from. (led-on from).sends follow))

@@ -53,9 +53,13 @@ start_columns starts = filter_map send_column (start_events [] starts)
 abbrev pub CountsAsBefore : List Column → List Column → Type 0
 CountsAsBefore old new = (receipts_made new ≡ receipts_made old) × (receipts_undone new ≡ receipts_undone old)
 
--- the replays of these members in a recovery after which each has so many receipts: those beyond its checkpoint, in member order
+-- the replay of a member in a recovery after which each has so many receipts: those beyond its checkpoint
+abbrev pub replay_of : GroupRecord ℕ Note → (ℕ → ℕ) → ℕ → Replay
+replay_of r received m = record { member = m; receipts = received m - (member_checkpoint r m).received }
+
+-- the replays of these members, in member order
 abbrev pub replays_of : GroupRecord ℕ Note → (ℕ → ℕ) → Members → List Replay
-replays_of r received members = map (λ m. record { member = m; receipts = received m - (member_checkpoint r m).received }) (member_list members)
+replays_of r received members = map (replay_of r received) (member_list members)
 
 -- the column of a recovery of these members after which each has so many receipts
 abbrev pub IsRecoveryColumn : GroupRecord ℕ Note → (ℕ → ℕ) → Members → Column → Type 0

@@ -3,7 +3,7 @@
 ghost use Rattle.std.specs.Prelude.{◌≡◌, ◌≤◌, ◌<◌, ◌++◌, ◌∷◌, [], count_by, drop, false, length, IfOk, OnOk};
 ghost use Rattle.fbl_base.specs.MemberSets.{AllBelow};
 ghost use Rattle.fbl_history.specs.Columns.{go_on as gone_on, is_receipt, is_sent_by, ReceiptsFollowSends};
-ghost use Rattle.fbl_history.specs.Traces.{go_on_to, start_columns, trace_columns as columns_of_trace, CountsAsBefore, IsAfterRecovery};
+ghost use Rattle.fbl_history.specs.Traces.{go_on_to, start_columns, trace_columns as columns_of_trace, CountsAsBefore, IsAfterRecovery, IsHistoryOf};
 ghost use Rattle.fbl_history.specs.Turns.{IsAfterTurns, IsLedTo};
 ghost use Rattle.fbl_history.specs.declared.column.Column.TheVariants.{Strike, Checkpoint};
 
@@ -44,6 +44,8 @@ impl History {
     pub fn new(alloc: Global, config: &Config) -> Result<History, AllocError>
         ensures { IfOk result (λ history. history ≡ start_columns config.now.starts) }
     {
+        // a configuration has at most 64 starts
+        config.members();
         let mut columns = Vec::with_capacity(alloc, config.starts().len())?;
         for start in config.starts() {
             columns.push(Column::Send {
@@ -88,7 +90,8 @@ impl History {
         group: &Group<B>,
     ) -> Result<History, AllocError>
         requires { ∥ IsLedTo B.next self turns.now group.now ∥₁ }
-        ensures { IfOk result (IsAfterTurns B.next group.now turns.now self) }
+        ensures turns { IfOk result (IsAfterTurns B.next group.now turns.now self) }
+        ensures history { IfOk result (IsHistoryOf B.next group.now) }
     {
         let History { mut columns } = self;
         for turn in turns {

@@ -48,12 +48,12 @@ fn add_step(
         undone: false,
     })?;
     let mut ssn = sent.saturating_sub(outcome.sends.len() as u32);
-    for (to, _note) in &outcome.sends {
+    for send in outcome.sends.as_slice() {
         ssn += 1;
         columns.push(Column::Send {
             from: ticket.to,
             ssn,
-            to: *to,
+            to: send.0,
             undone: false,
         })?;
     }
