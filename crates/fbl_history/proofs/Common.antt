@@ -5,7 +5,7 @@ pub use Rattle.std.proofs.lemmas.Bool.{cases_eq, false_from_ne_true, or_parts}
 pub use Rattle.std.proofs.lemmas.Bool.Decides.{Decides-eqb, nat_tests}
 pub use Rattle.std.proofs.lemmas.Iterator.Adapters.{YieldsList-from_skip, YieldsList-from_vec, items_from_extend}
 pub use Rattle.std.proofs.lemmas.Iterator.Consumers.{YieldsList-at}
-pub use Rattle.std.proofs.lemmas.List.{map-append, at_drop_more, drop_all, get_or-set_other, get_or-set_same, get_or_default, length-map, length-set, take-take}
+pub use Rattle.std.proofs.lemmas.List.{map-append, at_drop_more, drop_all, take_more, get_or-set_other, get_or-set_same, get_or_default, length-map, length-set, take-take}
 pub use Rattle.std.proofs.lemmas.List.Elements.{filter-append, filter_map-append}
 pub use Rattle.std.proofs.lemmas.List.Folds.{list_any_none}
 pub use Rattle.std.proofs.lemmas.List.Sums.{count_by-le-length, sum_by-append, sum_by-cons, sum_by-take-le}

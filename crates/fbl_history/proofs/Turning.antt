@@ -1,7 +1,7 @@
 -- A history goes on over turns as over the commands that do the same.
 use Rattle.fbl_base.specs.declared.trace.Note.{Note}
 use Rattle.std.specs.FinSet as set
-use Rattle.fbl_history.proofs.Common.{◌≡◌, ℕ, ◌+◌, ◌-◌, ◌<◌, ◌≤◌, Bool, true, false, List, [], ◌∷◌, ◌++◌, length, map, Option, None, Some, refl, sym, ap, ◌∙◌, arith, nat_tests, filter_map, length-append}
+use Rattle.fbl_history.proofs.Common.{◌≡◌, ℕ, zero, suc, slice_get, ◌+◌, ◌-◌, ◌<◌, ◌≤◌, Bool, true, false, List, [], ◌∷◌, ◌++◌, length, map, Option, None, Some, refl, sym, ap, ◌∙◌, arith, nat_tests, filter_map, length-append}
 use Rattle.fbl_history.proofs.Common.{AllBelow, Column, CrashLeads, CrashRecord, GroupRecord, IsAfterCrash, IsAfterRecoveryRecord, IsAfterTurn, IsAfterTurns, IsDelivery, IsHistoryOf, IsLedTo, IsRecoveryColumn, IsSound, IsStrike, MemberRecord, ReceiptsFollowSends}
 use Rattle.fbl_history.proofs.Common.{Members, Message, Next, Outcome, Receipt, Recovery, RecoveryRecord, SendsWell, Strike, StrikeLeads, TurnLeads, TurnRecord, TurnsLead, channel-at, go_on_to, group_strike_keeps, length-numbered}
 use Rattle.fbl_history.proofs.Common.{member, member_checkpoint, member_list, numbered, replays_of, send_column, slice_index, slice_index_or, blank, group_recovery_keeps, subst, step_events, step_of, strike_refusal, turn_columns, within-below}
@@ -84,9 +84,12 @@ same-recovery : (r now : GroupRecord ℕ Note) (received : ℕ → ℕ) (members
 same-recovery r now received members (Recovery replays) have below counts is = is ∙ same-replays r now received members have below counts
 same-recovery r now received members _ have below counts is = absurd is
 
+within-allowed : (r : GroupRecord ℕ Note) (members : Members) → strike_refusal r members ≡ None → AllBelow members r.config.members
+within-allowed r members allowed = within-below members r.config.members (grind (arith, nat_tests))
+
 module _ (next : Next ℕ Note) (r old new : GroupRecord ℕ Note) (members : Members) (sound : IsSound next old) (nobody_down : old.down ≡ set.empty) (have : HaveSame r new) where
   within : strike_refusal old members ≡ None → AllBelow members old.config.members
-  within allowed = within-below members old.config.members (grind (arith, nat_tests))
+  within allowed = within-allowed old members allowed
 
   struck-sound : (down : GroupRecord ℕ Note) → strike_refusal old members ≡ None → IsStrike next old down members → IsSound next down
   struck-sound down allowed strike = group_strike_keeps next old down members strike (within allowed) (rw strike.down (grind (arith, nat_tests))) sound
@@ -181,7 +184,33 @@ pub follows_turns : FollowsTurns
 follows_turns next old new turns columns after well sound lead history is =
     (let turned = all-turned next new old new turns columns after well sound (turns-keep next old new turns lead) lead history is in (turned.0, turned.1.history))
 
+-- ---- turns that follow one another
+
+pub after_more : (next : Next ℕ Note) (r : GroupRecord ℕ Note) (turns : List (TurnRecord ℕ Note)) (t : TurnRecord ℕ Note) (first mid last : List Column)
+    → IsAfterTurns next r turns first mid → IsAfterTurn next r t mid last → IsAfterTurns next r (turns ++ t ∷ []) first last
+after_more next r [] t first mid last is one = (last, subst (λ xs. IsAfterTurn next r t xs last) is one, refl)
+after_more next r (u ∷ turns) t first mid last (between, head, more) one = (between, head, after_more next r turns t between mid last more one)
+
+-- a crash names members of the group
+crash-within : (next : Next ℕ Note) (old new : GroupRecord ℕ Note) (crash : CrashRecord) → CrashLeads next old (Some crash) new → AllBelow crash.set new.config.members
+crash-within next old new crash led = rw (crash-keeps next old new (Some crash) led).config (allowed crash.recovery led) where
+  allowed : (given : Option RecoveryRecord) → StrikeLeads next old crash.set given new → AllBelow crash.set old.config.members
+  allowed None led = within-allowed old crash.set led.0
+  allowed (Some back) led = within-allowed old crash.set led.0.0
+
+crashes-within : (next : Next ℕ Note) (old new : GroupRecord ℕ Note) (turns : List (TurnRecord ℕ Note)) → TurnsLead next old turns new
+    → (i : ℕ) (t : TurnRecord ℕ Note) (crash : CrashRecord) → slice_get turns i ≡ Some t → t.crash ≡ Some crash → AllBelow crash.set new.config.members
+crashes-within next old new [] lead i t crash here is = absurd cc
+crashes-within next old new (u ∷ turns) (mid, turn, more) zero t crash here is =
+    let same : u.crash ≡ Some crash = ap (λ (v : TurnRecord ℕ Note). v.crash) (let heads : u ≡ t = cc in heads) ∙ is in
+    rw (turns-keep next mid new turns more).config (crash-within next turn.between mid crash (rw same at turn.crash))
+crashes-within next old new (u ∷ turns) (mid, turn, more) (suc i) t crash here is = crashes-within next mid new turns more i t crash here is
+
 -- ---- where turns led from some group to this one
+
+pub crash_led : (next : Next ℕ Note) (new : GroupRecord ℕ Note) (turns : List (TurnRecord ℕ Note)) (columns : List Column) → ∥ IsLedTo next columns turns new ∥₁
+    → (i : ℕ) (t : TurnRecord ℕ Note) (crash : CrashRecord) → slice_get turns i ≡ Some t → t.crash ≡ Some crash → AllBelow crash.set new.config.members
+crash_led next new turns columns led i t crash here is = ∥∥₁_elim led (Prim.hlevel (Coded-set, codes)) (λ from. crashes-within next from.old new turns from.lead i t crash here is)
 
 module _ (next : Next ℕ Note) (new : GroupRecord ℕ Note) (turns : List (TurnRecord ℕ Note)) (columns after : List Column) (well : SendsWell next)
     (led : ∥ IsLedTo next columns turns new ∥₁) (is : IsAfterTurns next new turns columns after) where
