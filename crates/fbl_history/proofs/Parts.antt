@@ -1,10 +1,9 @@
 -- The columns of a part of a trace are those of the same events in the whole one.
 use Rattle.fbl_base.specs.declared.trace.Event.TheVariants as event
-use Rattle.fbl_base.specs.declared.trace.Mark.TheVariants as mark
 use Rattle.fbl_base.specs.declared.trace.Note.{Note}
-use Rattle.fbl_history.proofs.Common.{◌≡◌, ℕ, zero, suc, ◌+◌, ◌≤◌, List, [], ◌∷◌, length, map, take, Some, slice_get, refl, ap, ◌∙◌, arith, Determinant, Event, Mark, Column, mark_of, receipt_of}
+use Rattle.fbl_history.proofs.Common.{◌≡◌, ℕ, zero, suc, ◌≤◌, List, [], ◌∷◌, length, map, take, Some, slice_get, refl, ap, ◌∙◌, arith, Determinant, Event, Mark, mark_of, receipt_of}
 use Rattle.fbl_history.proofs.Common.{Has, Has-receipts_at, Next, WellFormed, event_column, length-receipts_at, mark-at, note-at, note_of, receipt-at, receipt-number, receipts-noted, receipts_at, receipts_at-Has}
-use Rattle.fbl_history.proofs.Common.{received_notes, some-at, state_after, state_after_receipt, take-more}
+use Rattle.fbl_history.proofs.Common.{received_notes, some-at, take-more}
 
 -- the events of the first trace are of the second one, too, with their notes, and both obey the rules
 pub record IsPart (n : ℕ) (part whole : List (Event Note)) : Type 0 where

@@ -2,10 +2,10 @@
 use Rattle.fbl_base.specs.declared.trace.Event.TheVariants as event
 use Rattle.fbl_base.specs.declared.trace.Note.{Note}
 use Rattle.fbl_base.specs.declared.trace.Mark.TheVariants as mark
-use Rattle.fbl_history.proofs.Common.{◌≡◌, ℕ, zero, ◌<◌, ◌≤◌, ◌||◌, suc, Bool, WellFormed, Settings, filter-At, filter-passes, false_from_ne_true, get_or, list_any_none, slice_get-get_or, true, false, cond, not, inl, inr, List, [], ◌∷◌, ◌++◌, length, map, Some, slice_get, refl, sym, subst, ap, ◌∙◌, arith, nat_tests}
-use Rattle.fbl_history.proofs.Common.{Column, Event, GroupRecord, HasEachOnce, IsAfterRecovery, IsDown, IsFold, IsHistoryOf, IsRecovery, IsRecoveryColumn, IsReplayed, IsSound, Mark, MemberRecord, Members, Next, Receipt, Recovery, Send}
-use Rattle.fbl_history.proofs.Common.{cut-one, cut-was, cut-obeys, cut-causes, down_or_up, event_column, filter, filter-agree, fold-received, fold-replayed, go_on, go_on_to, group_recovery_keeps, is_beyond, is_receipt, is_standing, knowledge}
-use Rattle.fbl_history.proofs.Common.{list_any, log_counted, mark-at, mark_of, marks, member, note-was, receipt-number, received_counted, receipts_at, receipts_made, recovered_trace, same_standing, sent-number, standing, stays_by, stays_by-cut}
+use Rattle.fbl_history.proofs.Common.{◌≡◌, ℕ, zero, ◌<◌, ◌||◌, suc, Bool, WellFormed, Settings, filter-At, filter-passes, false_from_ne_true, get_or, list_any_none, slice_get-get_or, true, false, cond, not, inl, inr, List, [], ◌∷◌, length, map, Some, slice_get, refl, sym, subst, ap, ◌∙◌, arith, nat_tests}
+use Rattle.fbl_history.proofs.Common.{Column, Event, GroupRecord, HasEachOnce, IsAfterRecovery, IsHistoryOf, IsRecovery, IsRecoveryColumn, IsSound, MemberRecord, Members, Next, Receipt, Recovery, Send}
+use Rattle.fbl_history.proofs.Common.{cut-one, cut-was, cut-obeys, cut-causes, down_or_up, event_column, filter, filter-agree, fold-received, fold-replayed, go_on, go_on_to, group_recovery_keeps, is_beyond, is_receipt, is_standing}
+use Rattle.fbl_history.proofs.Common.{list_any, log_counted, mark-at, mark_of, marks, member, note-was, receipt-number, received_counted, receipts_at, receipts_made, same_standing, sent-number, standing, stays_by, stays_by-cut}
 use Rattle.fbl_history.proofs.Common.{trace_columns, undo, undone_beyond, undone_without}
 use Rattle.fbl_history.proofs.Counting.{counted_from, made-changed, undo-receipt}
 use Rattle.fbl_history.proofs.Cutting.{others_undone, same-self}

@@ -4,7 +4,7 @@ use Rattle.fbl_base.specs.declared.trace.Note.{Note}
 use Rattle.fbl_base.specs.declared.trace.Start.{Start}
 use Rattle.fbl_history.proofs.Common.{◌≡◌, ℕ, ◌+◌, false, List, [], ◌∷◌, ◌++◌, map, refl, sym, ap, ◌∙◌, arith, append-nil, filter-append, filter_map, filter_map-append, map-append}
 use Rattle.fbl_history.proofs.Common.{Checkpoint, Column, Event, GroupRecord, IsCheckpoint, IsGroupStart, IsHistoryOf, IsStrike, Members, Next, Send, Settings, Strike, event_column, is_receipt, is_standing}
-use Rattle.fbl_history.proofs.Common.{mark_of, send_column, sends_of, standing, start_columns, start_events, trace_columns}
+use Rattle.fbl_history.proofs.Common.{mark_of, send_column, sends_of, standing, start_columns, start_events}
 use Rattle.fbl_history.proofs.Counting.{count-kinds, counts_as_before}
 use Rattle.fbl_history.proofs.Deliveries.{made_none}
 use Rattle.fbl_history.proofs.Standing.{columns_stand}

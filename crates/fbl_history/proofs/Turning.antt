@@ -1,7 +1,7 @@
 -- A history goes on over turns as over the commands that do the same.
 use Rattle.fbl_base.specs.declared.trace.Note.{Note}
 use Rattle.std.specs.FinSet as set
-use Rattle.fbl_history.proofs.Common.{◌≡◌, ℕ, zero, suc, slice_get, ◌+◌, ◌-◌, ◌<◌, ◌≤◌, Bool, true, false, List, [], ◌∷◌, ◌++◌, length, map, Option, None, Some, refl, sym, ap, ◌∙◌, arith, nat_tests, filter_map, length-append}
+use Rattle.fbl_history.proofs.Common.{◌≡◌, ℕ, zero, suc, slice_get, ◌+◌, ◌-◌, ◌<◌, false, List, [], ◌∷◌, ◌++◌, length, Option, None, Some, refl, sym, ap, ◌∙◌, arith, nat_tests, filter_map, length-append}
 use Rattle.fbl_history.proofs.Common.{AllBelow, Column, CrashLeads, CrashRecord, GroupRecord, IsAfterCrash, IsAfterRecoveryRecord, IsAfterTurn, IsAfterTurns, IsDelivery, IsHistoryOf, IsLedTo, IsRecoveryColumn, IsSound, IsStrike, MemberRecord, ReceiptsFollowSends}
 use Rattle.fbl_history.proofs.Common.{Members, Message, Next, Outcome, Receipt, Recovery, RecoveryRecord, SendsWell, Strike, StrikeLeads, TurnLeads, TurnRecord, TurnsLead, channel-at, go_on_to, group_strike_keeps, length-numbered}
 use Rattle.fbl_history.proofs.Common.{member, member_checkpoint, member_list, numbered, replays_of, send_column, slice_index, slice_index_or, blank, group_recovery_keeps, subst, step_events, step_of, strike_refusal, turn_columns, within-below}

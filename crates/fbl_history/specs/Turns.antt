@@ -14,7 +14,7 @@ use Rattle.fbl_law.specs.Groups.{GroupRecord, IsSound}
 use Rattle.fbl_history.specs.declared.column.Column.{Column}
 use Rattle.fbl_history.specs.declared.column.Column.TheVariants.{Send, Receipt, Strike}
 use Rattle.fbl_history.specs.Columns.{undo}
-use Rattle.fbl_history.specs.Traces.{send_column, go_on_to, replays_of, IsAfterRecovery, IsHistoryOf, IsRecoveryColumn}
+use Rattle.fbl_history.specs.Traces.{send_column, IsHistoryOf, IsRecoveryColumn}
 
 -- the columns of a step, by its ticket, what it answers and how many messages its member has sent after it: the receipt, with the state
 -- after it, and the sends
