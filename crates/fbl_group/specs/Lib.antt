@@ -4,3 +4,4 @@ pub mod Strikes
 pub mod Readers
 pub mod Checkpoints
 pub mod Theorem
+pub mod Records

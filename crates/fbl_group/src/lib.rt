@@ -5,6 +5,7 @@ mod answers;
 mod channels;
 mod checkpoint;
 mod commit;
+mod counts;
 mod crash;
 mod deliver;
 mod dump;

@@ -35,6 +35,8 @@ pub struct RecoveryRecord {
     pub struck: Struck,
     /// How many receipts were replayed and undone, and how many messages were sent again.
     pub recovered: Recovered,
-    /// How many receipts each member has after it, by its number. Its later ones are undone, with all that it did after them.
+    /// How many receipts each member has after it, by its number. Its later ones are undone.
     pub received: ArrayVec<u32, 16>,
+    /// How many messages each member has sent then, by its number. Its later sends are undone.
+    pub sent: ArrayVec<u32, 16>,
 }

@@ -1,64 +1,96 @@
 -- The columns count the receipts that a group ever made, and those that were undone.
 use Rattle.fbl_base.specs.declared.trace.Note.{Note}
 use Rattle.fbl_base.specs.declared.trace.Event.TheVariants as event
-use Rattle.fbl_history.proofs.Common.{◌≡◌, ◌==◌, ◌+◌, ◌-◌, ℕ, Bool, true, false, cond, List, [], ◌∷◌, ◌++◌, length, map, count_by, refl, ap, sym, ◌∙◌, arith, Decides-eqb, fold_push, sum_by-cons}
-use Rattle.fbl_history.proofs.Common.{Event, mark_of, receipts, Next, GroupRecord, marks, IsSound, Column, Send, Receipt, ReceiptsMade, event_column, trace_columns}
-use Rattle.fbl_history.proofs.Common.{CountsAsBefore, CountsReceipts, go_on, go_on_to, is_standing, is_standing_receipt, made_after, receipts_made, standing, with_total}
-use Rattle.fbl_history.proofs.Standing.{standing_is_trace}
+use Rattle.fbl_base.specs.declared.trace.Mark.TheVariants as mark
+use Rattle.fbl_history.proofs.Common.{◌≡◌, ◌==◌, ◌+◌, ℕ, filter_map, is_send_of, is_sent_by, send_column, sends_of, Bool, true, false, cond, not, List, [], ◌∷◌, ◌++◌, length, map, count_by, refl, ap, sym, ◌∙◌, arith, sum_by-append, sum_by-cons}
+use Rattle.fbl_history.proofs.Common.{Event, mark_of, receipts, Next, GroupRecord, marks, IsSound, Column, Send, Receipt, event_column, trace_columns}
+use Rattle.fbl_history.proofs.Common.{CountsAsBefore, IsHistoryOf, is_receipt, is_standing, is_undone_receipt, receipts_made, receipts_undone, standing, undo}
 
--- with a total the columns count what it tells
-made-total : (made : ℕ) (columns : List Column) → receipts_made (with_total made columns) ≡ made
-made-total made columns = at (receipts_made columns == made) refl where
-  at : (b : Bool) → (receipts_made columns == made) ≡ b → receipts_made (cond b columns (columns ++ ReceiptsMade made ∷ [])) ≡ made
-  at true same = (Decides-eqb (receipts_made columns) made).0 same
-  at false other = fold_push made_after 0 columns (ReceiptsMade made)
+-- whether the column is of a receipt that stands
+abbrev pub is_standing_receipt : Column → Bool
+is_standing_receipt (Receipt to rsn from ssn state undone) = not undone
+is_standing_receipt _ = false
+
+pub count-cons : (p : Column → Bool) (column : Column) (columns : List Column) → count_by p (column ∷ columns) ≡ cond (p column) 1 0 + count_by p columns
+count-cons p column columns = sum_by-cons (λ c. cond (p c) 1 0) column columns
 
 -- a receipt that stands is a standing event
 no-receipt : (column : Column) → is_standing column ≡ false → is_standing_receipt column ≡ false
 no-receipt (Receipt p r q k s undone) lies = lies
 no-receipt _ lies = refl
 
-count-cons : (column : Column) (columns : List Column) → count_by is_standing_receipt (column ∷ columns) ≡ cond (is_standing_receipt column) 1 0 + count_by is_standing_receipt columns
-count-cons column columns = sum_by-cons (λ c. cond (is_standing_receipt c) 1 0) column columns
-
 count-standing : (columns : List Column) → count_by is_standing_receipt (standing columns) ≡ count_by is_standing_receipt columns
 count-standing [] = refl
-count-standing (column ∷ columns) = at (is_standing column) refl (count-standing columns) where
-  at : (s : Bool) → is_standing column ≡ s → count_by is_standing_receipt (standing columns) ≡ count_by is_standing_receipt columns
-      → count_by is_standing_receipt (standing (column ∷ columns)) ≡ count_by is_standing_receipt (column ∷ columns)
-  at true stands later = rw stands (count-cons column (standing columns) ∙ ap (λ k. cond (is_standing_receipt column) 1 0 + k) later ∙ sym (count-cons column columns))
-  at false lies later =
-      let none : 0 + count_by is_standing_receipt columns ≡ count_by is_standing_receipt columns = omega arith in
-      rw lies (later ∙ sym (count-cons column columns ∙ ap (λ b. cond b 1 0 + count_by is_standing_receipt columns) (no-receipt column lies) ∙ none))
+count-standing (column ∷ columns) =
+    grind (arith, count-standing columns, count-cons is_standing_receipt column columns, count-cons is_standing_receipt column (standing columns), no-receipt column)
 
 -- the receipts of a trace all stand
 count-trace : (next : Next ℕ Note) (n : ℕ) (trace events : List (Event Note))
     → count_by is_standing_receipt (map (event_column next n trace) events) ≡ length (receipts (map mark_of events))
 count-trace next n trace [] = refl
 count-trace next n trace (event.Send q k p note ∷ events) =
-    (let later = count-trace next n trace events in let one = count-cons (Send q k p false) (map (event_column next n trace) events) in omega (arith, later, one))
+    let later = count-trace next n trace events in
+    let one = count-cons is_standing_receipt (Send q k p false) (map (event_column next n trace) events) in
+    omega (arith, later, one)
 count-trace next n trace (event.Receipt p r q k ∷ events) =
     let later = count-trace next n trace events in
-    let one = count-cons (event_column next n trace (event.Receipt p r q k)) (map (event_column next n trace) events) in
+    let one = count-cons is_standing_receipt (event_column next n trace (event.Receipt p r q k)) (map (event_column next n trace) events) in
     omega (arith, later, one)
 
-pub totals_counted : (next : Next ℕ Note) (r : GroupRecord ℕ Note) (columns : List Column) → IsSound next r → CountsReceipts r (go_on_to next columns r)
-totals_counted next r columns sound =
-    let made = made-total r.receipts_ever (go_on columns (trace_columns next r)) in
-    let stand : count_by is_standing_receipt (go_on_to next columns r) ≡ length (receipts (marks r)) =
-    sym (count-standing (go_on_to next columns r)) ∙ ap (count_by is_standing_receipt) (standing_is_trace next r columns) ∙ count-trace next r.config.members r.trace r.trace in
-    (made, omega (arith, made, stand, sound.counted))
+-- each receipt stands or is undone
+count-kind : (c : Column) → cond (is_receipt c) 1 0 ≡ cond (is_standing_receipt c) 1 0 + cond (is_undone_receipt c) 1 0
+count-kind (Receipt p r q k s true) = refl
+count-kind (Receipt p r q k s false) = refl
+count-kind _ = refl
 
--- a column that is of no receipt, and no total, behind the others
-module _ (columns : List Column) (c : Column) (lies : is_standing_receipt c ≡ false) (none : (k : ℕ) → made_after k c ≡ k) where
-  made-behind : receipts_made (columns ++ c ∷ []) ≡ receipts_made columns
-  made-behind = fold_push made_after 0 columns c ∙ none (receipts_made columns)
+pub count-kinds : (columns : List Column) → receipts_made columns ≡ count_by is_standing_receipt columns + receipts_undone columns
+count-kinds [] = refl
+count-kinds (c ∷ columns) =
+    omega (arith, count-kinds columns, count-kind c, count-cons is_receipt c columns, count-cons is_standing_receipt c columns, count-cons is_undone_receipt c columns)
 
-  pub counts_as_before : CountsAsBefore columns (columns ++ c ∷ [])
-  counts_as_before = (made-behind, (λ i. made-behind i - standing-behind columns i)) where
-    standing-behind : (front : List Column) → count_by is_standing_receipt (front ++ c ∷ []) ≡ count_by is_standing_receipt front
-    standing-behind [] = rw lies refl
-    standing-behind (x ∷ front) = count-cons x (front ++ c ∷ []) ∙ ap (λ k. cond (is_standing_receipt x) 1 0 + k) (standing-behind front) ∙ sym (count-cons x front)
+-- columns whose standing events are the trace of a sound group count its receipts that were undone where they count those that it made
+pub counted_from : (next : Next ℕ Note) (r : GroupRecord ℕ Note) (columns : List Column) → IsSound next r → standing columns ≡ trace_columns next r
+    → receipts_made columns ≡ r.receipts_ever → IsHistoryOf next r columns
+counted_from next r columns sound stand made =
+    let left : count_by is_standing_receipt columns ≡ length (receipts (marks r)) =
+    sym (count-standing columns) ∙ ap (count_by is_standing_receipt) stand ∙ count-trace next r.config.members r.trace r.trace in
+    record { standing = stand; counted = (made, omega (arith, made, left, count-kinds columns, sound.counted)) }
 
-  pub counts_receipts : (r : GroupRecord ℕ Note) → CountsReceipts r columns → CountsReceipts r (columns ++ c ∷ [])
-  counts_receipts r counted = (counts_as_before.0 ∙ counted.0, counts_as_before.1 ∙ counted.1)
+pub made-append : (columns more : List Column) → receipts_made (columns ++ more) ≡ receipts_made columns + receipts_made more
+made-append columns more = sum_by-append (λ c. cond (is_receipt c) 1 0) columns more
+
+-- no column becomes a receipt, or ceases to be one
+pub made-changed : (change : Column → Column) (columns : List Column) → ((c : Column) → is_receipt (change c) ≡ is_receipt c) → receipts_made (map change columns) ≡ receipts_made columns
+made-changed change [] same = refl
+made-changed change (c ∷ columns) same =
+    let later = made-changed change columns same in
+    rw (count-cons is_receipt (change c) (map change columns), count-cons is_receipt c columns, same c, later) refl
+
+pub undo-receipt : (c : Column) → is_receipt (undo c) ≡ is_receipt c
+undo-receipt (Receipt p r q k s u) = refl
+undo-receipt (Send q k p u) = refl
+undo-receipt _ = refl
+
+-- the sends of a member, as their columns and as events
+pub count_sent : (member : ℕ) (events : List (Event Note)) → count_by (is_sent_by member) (filter_map send_column events) ≡ sends_of (map mark_of events) member
+count_sent member [] = refl
+count_sent member (event.Send q k p note ∷ events) =
+    let columns = filter_map send_column events in
+    count-cons (is_sent_by member) (Send q k p false) columns ∙ ap (λ n. cond (q == member) 1 0 + n) (count_sent member events)
+    ∙ sym (sum_by-cons (λ e. cond (is_send_of member e) 1 0) (mark.Send q k p) (map mark_of events))
+count_sent member (event.Receipt p r q k ∷ events) =
+    let none : 0 + sends_of (map mark_of events) member ≡ sends_of (map mark_of events) member = omega arith in
+    count_sent member events ∙ sym (sum_by-cons (λ e. cond (is_send_of member e) 1 0) (mark.Receipt p r q k) (map mark_of events) ∙ none)
+
+-- a column that is of no receipt, behind the others
+pub counts_as_before : (columns : List Column) (c : Column) → is_receipt c ≡ false → CountsAsBefore columns (columns ++ c ∷ [])
+counts_as_before columns c none = (
+  omega (arith, made-append columns (c ∷ []), one-none is_receipt none),
+  omega (arith, sum_by-append (λ x. cond (is_undone_receipt x) 1 0) columns (c ∷ []), one-none is_undone_receipt (not-undone c none)),
+) where
+  not-undone : (c : Column) → is_receipt c ≡ false → is_undone_receipt c ≡ false
+  not-undone (Receipt p r q k s u) none = absurd cc
+  not-undone _ none = refl
+
+  one-none : (p : Column → Bool) → p c ≡ false → count_by p (c ∷ []) ≡ 0
+  one-none p none = count-cons p c [] ∙ ap (λ b. cond b 1 0 + 0) none

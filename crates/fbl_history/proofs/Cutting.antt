@@ -4,7 +4,7 @@ use Rattle.fbl_history.proofs.Common.{standing, is_next, go_on, HasEachOnce, sub
 use Rattle.fbl_history.proofs.Undoing.{same-is, next-is}
 
 -- a standing event is the same as itself
-same-self : (column : Column) → is_standing column ≡ true → same_standing column column ≡ true
+pub same-self : (column : Column) → is_standing column ≡ true → same_standing column column ≡ true
 same-self (Send q k p false) stands = simp eqb-self
 same-self (Receipt p r q k s false) stands = simp eqb-self
 same-self _ stands = absurd cc
@@ -54,7 +54,7 @@ once-rest : (column : Column) (columns : List Column) → HasEachOnce (column �
 once-rest column columns once i j a b at_i at_j same = (let next : suc i ≡ suc j = once (suc i) (suc j) a b at_i at_j same in omega (arith, next))
 
 -- what does not stand is not next
-lies-past : (column : Column) (trace : List Column) → is_standing column ≡ false → is_next column trace ≡ false
+pub lies-past : (column : Column) (trace : List Column) → is_standing column ≡ false → is_next column trace ≡ false
 lies-past column trace lies = false_from_ne_true (is_next column trace) (λ is. (let stands = (next-is column trace is).1 in absurd cc))
 
 -- where the trace has this left, the history undoes what it hasn't

@@ -1,6 +1,6 @@
 -- Members that replay a trace come to its states.
 use Rattle.fbl_history.proofs.Common.{◌≡◌, ℕ, ◌<◌, ◌≤◌, true, cond, List, length, take, get_or, Some, refl, sym, ap, ◌∙◌, arith, nat_tests, mark_of, Next, MemberRecord, blank}
-use Rattle.fbl_history.proofs.Common.{logged_note, GroupRecord, marks, IsSound, filter, mark-at, HaveReplayed, ◌+◌, length-append, slice_get, slice_set, slice_index_or, take-take, length-set}
+use Rattle.fbl_history.proofs.Common.{logged_note, GroupRecord, marks, IsSound, mark-at, HaveReplayed, ◌+◌, length-append, slice_get, slice_set, slice_index_or, take-take, length-set}
 use Rattle.fbl_history.proofs.Common.{get_or-set_same, get_or-set_other, get_or_default, length-map, count_by-le-length, sum_by-take-le, get_or_from_slice_get, Determinant, Note, Mark, At}
 use Rattle.fbl_history.proofs.Common.{is_receipt_of, is_send_of, receipts_of, MayFollow, Progress, note_of, numbered, after_notes-state, receipts-step, sent-before, take-next, replayed_by}
 use Rattle.fbl_history.proofs.Common.{length-numbered, received_notes, IsReplayed, range_with_len, Members, send-at, filter-passes, some-at, logged-by, logged-noted, log-short, Has-receipts_at}
@@ -117,10 +117,12 @@ module _ {next : Next ℕ Note} {r : GroupRecord ℕ Note} {members : List (Memb
     }
 
 -- each of the members of a set is in it
-pub listed_in : (s : Members) (listed : List ℕ) (i m : ℕ) → listed ≡ member_list s → i < length listed → m ≡ get_or listed i m → set.contains s m ≡ true
+pub listed_at : (s : Members) (i m : ℕ) → slice_get (member_list s) i ≡ Some m → set.contains s m ≡ true
 unfolding member_list
+listed_at s i m here = filter-passes (set.contains s) (range_with_len 0 16) i m here
+
+pub listed_in : (s : Members) (listed : List ℕ) (i m : ℕ) → listed ≡ member_list s → i < length listed → m ≡ get_or listed i m → set.contains s m ≡ true
 listed_in s listed i m is below read =
     let some = some-at listed i below in
     let same : m ≡ some.0 = read ∙ get_or_from_slice_get listed i some.0 m some.1 in
-    let there : slice_get (filter (set.contains s) (range_with_len 0 16)) i ≡ Some some.0 = ap (λ (xs : List ℕ). slice_get xs i) (sym is) ∙ some.1 in
-    rw same (filter-passes (set.contains s) (range_with_len 0 16) i some.0 there)
+    rw same (listed_at s i some.0 (ap (λ (xs : List ℕ). slice_get xs i) (sym is) ∙ some.1))

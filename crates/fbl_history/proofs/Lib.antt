@@ -5,3 +5,8 @@ pub mod Standing
 pub mod Cutting
 pub mod Counting
 pub mod Sends
+pub mod Parts
+pub mod Deliveries
+pub mod Steps
+pub mod Recoveries
+pub mod Turning

@@ -2,9 +2,10 @@
 use Rattle.fbl_base.specs.declared.trace.Note.{Note}
 use Rattle.fbl_base.specs.declared.trace.Event.TheVariants as event
 use Rattle.fbl_base.specs.declared.trace.Mark.TheVariants as mark
-use Rattle.fbl_history.proofs.Common.{◌≡◌, ◌==◌, ◌<◌, ℕ, zero, suc, Bool, true, false, cond, inl, inr, List, [], ◌∷◌, ◌++◌, drop, Some, slice_get, refl, ap, sym, ◌∙◌, arith, filter, At-front, At-push}
-use Rattle.fbl_history.proofs.Common.{Event, mark_of, Next, GroupRecord, marks, IsSound, filter-passes, mark-at, send-at, sent-before, map-At, slice_get-map, option_map}
-use Rattle.fbl_history.proofs.Common.{Column, Send, Receipt, ReceiptsMade, ReceiptsFollowSends, column_then, event_column, go_on, go_on_to, is_next, is_receipt, is_standing, receipts_made, standing, trace_columns, trace_then, undo}
+use Rattle.fbl_history.proofs.Common.{◌≡◌, ◌⊎◌, ◌<◌, ℕ, zero, suc, cases_eq, Option, Bool, true, false, cond, inl, inr, List, [], ◌∷◌, ◌++◌, drop, Some, slice_get, refl, ap, sym, ◌∙◌, arith, filter, At-front, At-push}
+use Rattle.fbl_history.proofs.Common.{Event, mark_of, Next, GroupRecord, marks, IsSound, filter-passes, filter_map, send_column, mark-at, send-at, sent-before, map-At, slice_get-map, option_map}
+use Rattle.fbl_history.proofs.Common.{Column, Send, Receipt, ReceiptsFollowSends, column_then, event_column, go_on, go_on_to, is_next, is_receipt, is_standing, standing, trace_columns, trace_then, undo}
+use Rattle.std.proofs.Math.Logic.{∥∥₁_elim}
 use Rattle.fbl_history.proofs.Standing.{columns_stand, standing_trace}
 use Rattle.fbl_history.proofs.Undoing.{stays_or_undone}
 
@@ -91,8 +92,13 @@ sent-in-trace next r sound j to rsn from ssn state undone at =
 
 -- ---- histories
 
-pub follow_none : ReceiptsFollowSends []
-follow_none place to rsn from ssn state undone at = absurd cc
+-- sends alone
+pub follow_sends : (events : List (Event Note)) → ReceiptsFollowSends (filter_map send_column events)
+follow_sends (event.Send q k p note ∷ events) (suc place) to rsn from ssn state undone at =
+    (let sent = follow_sends events place to rsn from ssn state undone at in (suc sent.0, omega (arith, sent.1), sent.2, sent.3))
+follow_sends (event.Send q k p note ∷ events) zero to rsn from ssn state undone at = absurd cc
+follow_sends (event.Receipt p r q k ∷ events) place to rsn from ssn state undone at = follow_sends events place to rsn from ssn state undone at
+follow_sends [] place to rsn from ssn state undone at = absurd cc
 
 -- a column that is no receipt, behind the others
 pub follow_push : (columns : List Column) (c : Column) → is_receipt c ≡ false → ReceiptsFollowSends columns → ReceiptsFollowSends (columns ++ c ∷ [])
@@ -101,16 +107,15 @@ follow_push columns c other follow place to rsn from ssn state undone at = elim 
   | inr new ↦ (let clash : is_receipt (Receipt to rsn from ssn state undone) ≡ false = ap is_receipt (sym new.1) ∙ other in absurd cc)
 ]
 
-follow-trace : (next : Next ℕ Note) (r : GroupRecord ℕ Note) (columns : List Column) → IsSound next r → ReceiptsFollowSends columns
-    → ReceiptsFollowSends (go_on columns (trace_columns next r))
-follow-trace next r columns sound follow place to rsn from ssn state false at =
+pub follow_on : (next : Next ℕ Note) (r : GroupRecord ℕ Note) (columns : List Column) → IsSound next r → ReceiptsFollowSends columns → ReceiptsFollowSends (go_on_to next columns r)
+follow_on next r columns sound follow place to rsn from ssn state false at =
     let gone = go_on columns (trace_columns next r) in
     let left = left-at is_standing gone place (Receipt to rsn from ssn state false) at refl in
     let is : standing gone ≡ trace_columns next r = standing_trace columns (trace_columns next r) (columns_stand next r.config.members r.trace r.trace) in
     let sent = sent-in-trace next r sound left.0 to rsn from ssn state false (ap (λ t. slice_get t left.0) (sym is) ∙ left.1) in
     let found = left.2 sent.0 (Send from ssn to false) sent.1 (ap (λ t. slice_get t sent.0) is ∙ sent.2) in
     (found.0, found.1, false, found.2)
-follow-trace next r columns sound follow place to rsn from ssn state true at =
+follow_on next r columns sound follow place to rsn from ssn state true at =
     let trace = trace_columns next r in
     let stand : standing trace ≡ trace = columns_stand next r.config.members r.trace r.trace in
     let all : AllStand trace = λ i c here. filter-passes is_standing trace i c (ap (λ t. slice_get t i) stand ∙ here) in
@@ -121,11 +126,41 @@ follow-trace next r columns sound follow place to rsn from ssn state true at =
     let now = is-send there.0 from ssn to there.2 in
     (sent.0, sent.1, now.0, there.1 ∙ ap (λ c. Some c) now.1)
 
-pub follow_on : (next : Next ℕ Note) (r : GroupRecord ℕ Note) (columns : List Column) → IsSound next r → ReceiptsFollowSends columns → ReceiptsFollowSends (go_on_to next columns r)
-follow_on next r columns sound follow =
-    let gone = go_on columns (trace_columns next r) in
-    let after = follow-trace next r columns sound follow in
-    elim (receipts_made gone == r.receipts_ever) as (λ b. ReceiptsFollowSends (cond b gone (gone ++ ReceiptsMade r.receipts_ever ∷ []))) [
-      | true ↦ after
-      | false ↦ follow_push gone (ReceiptsMade r.receipts_ever) refl after
+-- ---- where only that each receipt comes after a send of its message is known
+
+-- a send of the message before a place
+abbrev SentBefore : List Column → ℕ → ℕ → ℕ → ℕ → Type 0
+SentBefore columns place from ssn to = (sent : ℕ) × (sent < place) × (gone : Bool) × (slice_get columns sent ≡ Some (Send from ssn to gone))
+
+is-send-of : (o : Option Column) (from ssn to : ℕ) → ((gone : Bool) × (o ≡ Some (Send from ssn to gone))) ⊎ ((gone : Bool) → o ≡ Some (Send from ssn to gone) → ⊥)
+is-send-of (Some (Send q k p u)) from ssn to = elim (cases_eq q from) [
+  | inr other ↦ inr (λ gone same. other (cc))
+  | inl q-is ↦ elim (cases_eq k ssn) [
+    | inr other ↦ inr (λ gone same. other (cc))
+    | inl k-is ↦ elim (cases_eq p to) [
+      | inr other ↦ inr (λ gone same. other (cc))
+      | inl p-is ↦ inl (u, cc)
     ]
+  ]
+]
+is-send-of _ from ssn to = inr (λ gone same. absurd cc)
+
+-- it is found, or there is none
+sent-or-not : (columns : List Column) (place from ssn to : ℕ) → SentBefore columns place from ssn to ⊎ (SentBefore columns place from ssn to → ⊥)
+sent-or-not columns zero from ssn to = inr (λ sent. omega (arith, sent.1))
+sent-or-not columns (suc place) from ssn to = elim (sent-or-not columns place from ssn to) [
+  | inl sent ↦ inl (sent.0, omega (arith, sent.1), sent.2, sent.3)
+  | inr none ↦ elim (is-send-of (slice_get columns place) from ssn to) [
+    | inl here ↦ inl (place, omega arith, here.0, here.1)
+    | inr other ↦ inr (λ sent. (elim (cases_eq sent.0 place) [
+      | inl same ↦ other sent.2 (rw (← same) sent.3)
+      | inr apart ↦ none (sent.0, omega (arith, sent.1, apart), sent.2, sent.3)
+    ]))
+  ]
+]
+
+pub untruncated : (columns : List Column) → ∥ ReceiptsFollowSends columns ∥₁ → ReceiptsFollowSends columns
+untruncated columns follow place to rsn from ssn state undone at = elim (sent-or-not columns place from ssn to) [
+  | inl sent ↦ sent
+  | inr none ↦ absurd (∥∥₁_elim follow (λ x y. absurd x) (λ given. none (given place to rsn from ssn state undone at)))
+]

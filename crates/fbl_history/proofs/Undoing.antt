@@ -1,5 +1,5 @@
 -- How a history goes on to a trace.
-use Rattle.fbl_history.proofs.Common.{◌≡◌, Bool, true, false, List, [], ◌∷◌, ◌++◌, drop, refl, sym, ap, ◌∙◌, arith, nat_tests, Column, is_standing, undo, same_standing, standing}
+use Rattle.fbl_history.proofs.Common.{◌≡◌, Bool, true, false, List, [], ◌∷◌, drop, refl, sym, ap, ◌∙◌, arith, nat_tests, Column, is_standing, undo, same_standing, standing}
 use Rattle.fbl_history.proofs.Common.{is_next, go_on, ◌⊎◌, Send, Receipt, column_then, trace_then, GoesOnFrom}
 
 -- columns of the same standing event are equal, and stand
@@ -43,9 +43,3 @@ stays_or_undone column trace = grind arith
 pub goes_on : (columns trace : List Column) → GoesOnFrom columns (go_on columns trace)
 goes_on [] trace = tt
 goes_on (column ∷ columns) trace = (stays_or_undone column trace, goes_on columns (trace_then column trace))
-
--- so it is where more stands behind
-pub goes_on_before : (columns new more : List Column) → GoesOnFrom columns new → GoesOnFrom columns (new ++ more)
-goes_on_before [] new more goes = tt
-goes_on_before (column ∷ columns) [] more goes = absurd goes
-goes_on_before (column ∷ columns) (c ∷ new) more goes = (goes.0, goes_on_before columns new more goes.1)

@@ -1,8 +1,8 @@
 -- The columns of a history, and how a history goes on to a trace.
-use Rattle.std.specs.Prelude.{◌≡◌, ◌<◌, ◌⊎◌, ◌==◌, ◌&&◌, ◌+◌, ◌-◌, ◌++◌, ℕ, not, Bool, true, false, List, [], ◌∷◌, Some, count_by, drop, slice_get, if◌then◌else◌}
-use Rattle.std.specs.List.{filter, fold, list_any}
+use Rattle.std.specs.Prelude.{◌≡◌, ◌<◌, ◌⊎◌, ◌==◌, ◌&&◌, ℕ, not, Bool, true, false, List, [], ◌∷◌, Some, count_by, drop, slice_get, if◌then◌else◌}
+use Rattle.std.specs.List.{filter, list_any}
 use Rattle.fbl_history.specs.declared.column.Column.{Column}
-use Rattle.fbl_history.specs.declared.column.Column.TheVariants.{Send, Receipt, ReceiptsMade}
+use Rattle.fbl_history.specs.declared.column.Column.TheVariants.{Send, Receipt}
 
 -- whether the column is of an event that is not undone: a standing event
 abbrev pub is_standing : Column → Bool
@@ -67,6 +67,11 @@ abbrev pub is_receipt : Column → Bool
 is_receipt (Receipt to rsn from ssn state undone) = true
 is_receipt _ = false
 
+-- whether the column is of a send of the member, undone or not
+abbrev pub is_sent_by : ℕ → Column → Bool
+is_sent_by member (Send from ssn to undone) = from == member
+is_sent_by member _ = false
+
 -- each receipt, undone or not, comes after a send of its message
 abbrev pub ReceiptsFollowSends : List Column → Type 0
 ReceiptsFollowSends columns =
@@ -75,25 +80,15 @@ ReceiptsFollowSends columns =
 
 -- ---- receipts counted
 
--- how many receipts were made after a column, where so many were made before it: a receipt is one more, and a total tells all
-abbrev pub made_after : ℕ → Column → ℕ
-made_after made (Receipt to rsn from ssn state undone) = made + 1
-made_after made (ReceiptsMade total) = total
-made_after made _ = made
-
--- how many receipts were made, as the columns count them
+-- how many receipts were ever made
 abbrev pub receipts_made : List Column → ℕ
-receipts_made columns = fold made_after 0 columns
+receipts_made columns = count_by is_receipt columns
 
--- whether the column is of a receipt that is not undone
-abbrev pub is_standing_receipt : Column → Bool
-is_standing_receipt (Receipt to rsn from ssn state undone) = not undone
-is_standing_receipt _ = false
+-- whether the column is of a receipt that is undone
+abbrev pub is_undone_receipt : Column → Bool
+is_undone_receipt (Receipt to rsn from ssn state undone) = undone
+is_undone_receipt _ = false
 
--- how many of them were undone: those that do not stand
+-- how many of them were undone
 abbrev pub receipts_undone : List Column → ℕ
-receipts_undone columns = receipts_made columns - count_by is_standing_receipt columns
-
--- the columns, and a total behind them where they count another number of receipts than were made
-abbrev pub with_total : ℕ → List Column → List Column
-with_total made columns = if receipts_made columns == made then columns else columns ++ ReceiptsMade made ∷ []
+receipts_undone columns = count_by is_undone_receipt columns

@@ -1,4 +1,5 @@
 pub mod Columns
 pub mod Traces
 pub mod Replays
+pub mod Turns
 pub mod Laws

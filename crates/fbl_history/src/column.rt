@@ -1,7 +1,7 @@
 //! The columns of a history.
 
 ghost use Rattle.std.specs.Prelude.{◌≡◌};
-ghost use Rattle.fbl_history.specs.Columns.{is_standing as stands, same_standing, undo as undone_column};
+ghost use Rattle.fbl_history.specs.Columns.{is_sent_by as sent_by, is_standing as stands, same_standing, undo as undone_column};
 
 use fbl_base::{Member, MemberSet};
 
@@ -14,8 +14,8 @@ pub struct Replay {
     pub receipts: u32,
 }
 
-/// A column of a history: what came, in the order in which it came. An event that is `undone` was taken out of the trace,
-/// by a recovery or by a run of workers.
+/// A column of a history: what came, in the order in which it came. An event that is `undone` was taken out of the trace by a
+/// recovery.
 #[derive(Drop, PartialEq, Debug)]
 pub enum Column {
     /// A message is sent.
@@ -44,15 +44,12 @@ pub enum Column {
         /// Whether it is no longer in the trace.
         undone: bool,
     },
-    /// Members are struck by one command.
+    /// Members are struck at once.
     Strike(MemberSet),
-    /// The members that were down are brought back by one command, in member order.
+    /// The members that were down are brought back, in member order.
     Recovery(Vec<Replay>),
     /// A checkpoint of a member is taken.
     Checkpoint(Member),
-    /// So many receipts were ever made by then, more than have columns: a run of workers undid some that it had made itself,
-    /// or that it then made again just as they were.
-    ReceiptsMade(u64),
 }
 
 impl Column {
@@ -71,6 +68,16 @@ impl Column {
         ensures { result ≡ same_standing self.now other.now }
     {
         self.is_standing() && self == other
+    }
+
+    /// Whether it is a send of the member, undone or not.
+    pub(crate) fn is_sent_by(&self, member: Member) -> bool
+        ensures { result ≡ sent_by member self.now }
+    {
+        match self {
+            Column::Send { from, .. } => *from == member,
+            _ => false,
+        }
     }
 
     /// Makes an event one that is undone.

@@ -1,16 +1,17 @@
 //! A history, and how it goes on.
 
-ghost use Rattle.std.specs.Prelude.{◌≡◌, ◌≤◌, ◌++◌, ◌∷◌, [], drop, false, length, IfOk, OnOk};
+ghost use Rattle.std.specs.Prelude.{◌≡◌, ◌≤◌, ◌<◌, ◌++◌, ◌∷◌, [], count_by, drop, false, length, IfOk, OnOk};
 ghost use Rattle.fbl_base.specs.MemberSets.{AllBelow};
-ghost use Rattle.fbl_history.specs.Columns.{go_on as gone_on, is_receipt, ReceiptsFollowSends};
-ghost use Rattle.fbl_history.specs.Traces.{go_on_to, trace_columns as columns_of_trace, replays_of, CountsAsBefore, CountsReceipts, IsAfterRecovery};
+ghost use Rattle.fbl_history.specs.Columns.{go_on as gone_on, is_receipt, is_sent_by, ReceiptsFollowSends};
+ghost use Rattle.fbl_history.specs.Traces.{go_on_to, start_columns, trace_columns as columns_of_trace, CountsAsBefore, IsAfterRecovery, IsHistoryOf};
+ghost use Rattle.fbl_history.specs.Turns.{IsAfterTurns, IsLedTo};
 ghost use Rattle.fbl_history.specs.declared.column.Column.TheVariants.{Strike, Checkpoint};
 
-use crate::column::{Column, Replay};
-use crate::counts::add_total;
+use crate::column::Column;
 use crate::states::trace_columns;
-use fbl_base::{Behaviour, Member, MemberSet, Note};
-use fbl_group::Group;
+use crate::turns::{add_turn, replays};
+use fbl_base::{Behaviour, Config, Member, MemberSet, Note};
+use fbl_group::{Group, TurnRecord};
 use std::alloc::{AllocError, Global};
 use std::marker::Model;
 
@@ -39,17 +40,22 @@ impl Model for History {
 }
 
 impl History {
-    /// The history of a group of which nothing is told yet: the events of its trace, and a total if the group has made more
-    /// receipts than stand in it.
-    pub fn new<B: Behaviour<State = u64, Note = Note>>(
-        alloc: Global,
-        group: &Group<B>,
-    ) -> Result<History, AllocError>
-        ensures columns { IfOk result (λ history. history ≡ go_on_to B.next [] group.now) }
-        ensures counted { IfOk result (CountsReceipts group.now) }
+    /// The history of a new group of this configuration, in which nothing is received yet: the sends of its starts.
+    pub fn new(alloc: Global, config: &Config) -> Result<History, AllocError>
+        ensures { IfOk result (λ history. history ≡ start_columns config.now.starts) }
     {
-        let columns = Vec::new(alloc);
-        History { columns }.go_on(alloc, group)
+        // a configuration has at most 64 starts
+        config.members();
+        let mut columns = Vec::with_capacity(alloc, config.starts().len())?;
+        for start in config.starts() {
+            columns.push(Column::Send {
+                from: start.from,
+                ssn: count_sends(&columns, start.from) + 1,
+                to: start.to,
+                undone: false,
+            })?;
+        }
+        Ok(History { columns })
     }
 
     /// The columns, in the order in which they came. Each receipt comes after a send of its message.
@@ -60,21 +66,37 @@ impl History {
         self.columns.as_slice()
     }
 
-    /// The history after deliveries or workers have led to this group: what they made is added, and what is no longer in the
-    /// trace is undone. Where the columns then count another number of receipts than the group ever made, a total is added.
+    /// The history after deliveries have led to this group: what they made is added.
     pub fn go_on<B: Behaviour<State = u64, Note = Note>>(
         self,
         alloc: Global,
         group: &Group<B>,
     ) -> Result<History, AllocError>
-        ensures columns { IfOk result (λ history. history ≡ go_on_to B.next self group.now) }
-        ensures counted { IfOk result (CountsReceipts group.now) }
+        ensures { IfOk result (λ history. history ≡ go_on_to B.next self group.now) }
     {
         // the group is sound
         group.recoverable();
         let History { mut columns } = self;
         follow_trace(&mut columns, alloc, group)?;
-        add_total(&mut columns, group.receipts_ever())?;
+        Ok(History { columns })
+    }
+
+    /// The history after a run of workers has led to this group by these turns: what each made, and what its planned crash struck,
+    /// undid and brought back. Each receipt that was ever made has its column, undone or not.
+    pub fn run<B: Behaviour<State = u64, Note = Note>>(
+        self,
+        alloc: Global,
+        turns: &[TurnRecord],
+        group: &Group<B>,
+    ) -> Result<History, AllocError>
+        requires { ∥ IsLedTo B.next self turns.now group.now ∥₁ }
+        ensures turns { IfOk result (IsAfterTurns B.next group.now turns.now self) }
+        ensures history { IfOk result (IsHistoryOf B.next group.now) }
+    {
+        let History { mut columns } = self;
+        for turn in turns {
+            add_turn(&mut columns, alloc, turn, group)?;
+        }
         Ok(History { columns })
     }
 
@@ -94,10 +116,10 @@ impl History {
         members: MemberSet,
     ) -> Result<History, AllocError>
         requires { AllBelow members group.now.config.members }
-        ensures columns { IfOk result (λ history. IsAfterRecovery B.next group.now members self history) }
-        ensures counted { IfOk result (CountsReceipts group.now) }
+        ensures { IfOk result (λ history. IsAfterRecovery B.next group.now members self history) }
     {
-        let replays = replays(alloc, group, members)?;
+        let received = group.received_each();
+        let replays = replays(alloc, group, members, received.as_slice())?;
         self.go_on(alloc, group)?.with(Column::Recovery(replays))
     }
 
@@ -120,25 +142,16 @@ impl History {
     }
 }
 
-/// How many receipts each of the members has beyond its checkpoint, in member order.
-fn replays<B: Behaviour<State = u64, Note = Note>>(
-    alloc: Global,
-    group: &Group<B>,
-    members: MemberSet,
-) -> Result<Vec<Replay>, AllocError>
-    requires { AllBelow members group.now.config.members }
-    ensures { IfOk result (λ replays. replays.items ≡ replays_of group.now members) }
+/// How many of the columns are sends of the member.
+fn count_sends(columns: &[Column], member: Member) -> u32
+    requires { length columns.now ≤ 64 }
+    ensures value { result ≡ count_by (is_sent_by member) columns.now }
+    ensures few { result ≤ 64 }
 {
-    let listed = members.members(alloc)?;
-    let mut replays = Vec::with_capacity(alloc, listed.len())?;
-    for member in &listed {
-        let received = group.received(*member);
-        replays.push(Replay {
-            member: *member,
-            receipts: received.saturating_sub(group.checkpoint_received(*member)),
-        })?;
-    }
-    Ok(replays)
+    columns
+        .iter()
+        .filter(|column| column.is_sent_by(member))
+        .count() as u32
 }
 
 /// Goes on to the group's trace.

@@ -1,6 +1,5 @@
 //! Histories: what came in a run of a group, a column for each event that was made and for each strike, recovery and
-//! checkpoint, in the order in which they came. What a run of workers both made and undid has no column; how many receipts these
-//! are is told.
+//! checkpoint, in the order in which they came.
 #![tactic(auto)]
 
 mod column;
@@ -8,7 +7,8 @@ mod counts;
 mod history;
 pub mod laws;
 mod states;
+mod turns;
 
 pub use column::{Column, Replay};
-pub use counts::{made_after, receipts_made, receipts_undone};
+pub use counts::{receipts_made, receipts_undone};
 pub use history::History;

@@ -1,8 +1,7 @@
 -- The marks of the columns.
-use Rattle.std.specs.Prelude.{ℕ, ◌-◌, List, [], ◌∷◌, Option, Some, None, map, take}
+use Rattle.std.specs.Prelude.{ℕ, List, [], ◌∷◌, Option, Some, None, map}
 use Rattle.std.specs.Option.{option_to_list}
 use Rattle.fbl_base.specs.MemberSets.{member_list}
-use Rattle.fbl_history.specs.Columns.{receipts_made}
 use Rattle.fbl_history.specs.declared.column.Column.{Column}
 use Rattle.fbl_history.specs.declared.column.Replay.{Replay}
 use Rattle.fbl_history.specs.declared.column.Column.TheVariants as columns
@@ -21,15 +20,9 @@ event_mark place (columns.Send from ssn to undone) = Some (shapes.Send place fro
 event_mark place (columns.Receipt to rsn from ssn state undone) = Some (shapes.Receipt place (record { from = from; ssn = ssn; to = to; rsn = rsn }) state undone)
 event_mark place _ = None
 
--- the marks of a column, before which so many receipts were made: one of an event or a checkpoint, one for each member that is
--- struck, and one for each that is brought back; a total tells how many receipts have no column
-abbrev pub marks_after : ℕ → ℕ → Column → List Shape
-marks_after made place (columns.Strike struck) = map (strike_mark place) (member_list struck)
-marks_after made place (columns.Recovery replays) = map (recovery_mark place) replays.items
-marks_after made place (columns.Checkpoint member) = shapes.Checkpoint place member ∷ []
-marks_after made place (columns.ReceiptsMade total) = shapes.MadeAndUndone place (total - made) ∷ []
-marks_after made place event = option_to_list (event_mark place event)
-
--- the marks of a column of a history
-abbrev pub column_marks : List Column → ℕ → Column → List Shape
-column_marks history place column = marks_after (receipts_made (take place history)) place column
+-- the marks of a column: one of an event or a checkpoint, one for each member that is struck, and one for each that is brought back
+abbrev pub column_marks : ℕ → Column → List Shape
+column_marks place (columns.Strike struck) = map (strike_mark place) (member_list struck)
+column_marks place (columns.Recovery replays) = map (recovery_mark place) replays.items
+column_marks place (columns.Checkpoint member) = shapes.Checkpoint place member ∷ []
+column_marks place event = option_to_list (event_mark place event)

@@ -93,8 +93,3 @@ drawn_recovery column member receipts =
 unfoldable pub drawn_checkpoint : ℕ → ℕ → List ℕ
 drawn_checkpoint column member =
     line (codes "<rect class='checkpoint' x='" ∷ decimal (x column - 2) ∷ codes "' y='" ∷ decimal (y member - 10) ∷ codes "' width='5' height='20'><title>checkpoint of member " ∷ decimal member ∷ codes "</title></rect>" ∷ [])
-
--- receipts that have no column, since a run both made and undid them: how many, above the members' lines
-unfoldable pub drawn_made_and_undone : ℕ → ℕ → List ℕ
-drawn_made_and_undone column receipts =
-    line (codes "<text class='at' x='" ∷ decimal (x column) ∷ codes "' y='46'><title>" ∷ decimal receipts ∷ codes " " ∷ receipts_word receipts ∷ codes " made and undone by a run, without a column</title>" ∷ decimal receipts ∷ codes " undone</text>" ∷ [])

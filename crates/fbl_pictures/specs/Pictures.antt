@@ -5,9 +5,9 @@ use Rattle.fbl_pictures.specs.declared.look.TheConstants.{DUMP_LEGEND, HISTORY_L
 use Rattle.fbl_pictures.specs.declared.shape.Legend.{Legend}
 use Rattle.fbl_pictures.specs.declared.shape.Legend.TheVariants as legend
 use Rattle.fbl_pictures.specs.declared.shape.Shape.{Shape}
-use Rattle.fbl_pictures.specs.declared.shape.Shape.TheVariants.{Label, Name, Line, Arrow, InFlight, Send, Receipt, Held, Strike, Recovery, Checkpoint, MadeAndUndone}
+use Rattle.fbl_pictures.specs.declared.shape.Shape.TheVariants.{Label, Name, Line, Arrow, InFlight, Send, Receipt, Held, Strike, Recovery, Checkpoint}
 use Rattle.fbl_pictures.specs.Words.{drawn_arrow, drawn_in_flight, drawn_label, drawn_line, drawn_name}
-use Rattle.fbl_pictures.specs.Marks.{drawn_checkpoint, drawn_held_receipt, drawn_made_and_undone, drawn_receipt, drawn_recovery, drawn_send, drawn_strike, joined}
+use Rattle.fbl_pictures.specs.Marks.{drawn_checkpoint, drawn_held_receipt, drawn_receipt, drawn_recovery, drawn_send, drawn_strike, joined}
 use Rattle.fbl_pictures.specs.Places.{height, width, y}
 
 -- the text of a mark; what is no mark has none
@@ -18,7 +18,6 @@ text_of_mark (Held column determinant kind holders) = drawn_held_receipt column 
 text_of_mark (Strike column member) = drawn_strike column member
 text_of_mark (Recovery column member receipts) = drawn_recovery column member receipts
 text_of_mark (Checkpoint column member) = drawn_checkpoint column member
-text_of_mark (MadeAndUndone column receipts) = drawn_made_and_undone column receipts
 text_of_mark shape = []
 
 -- the text of a shape

@@ -1,14 +1,14 @@
 //! The marks of the columns.
 
-ghost use Rattle.std.specs.Prelude.{◌≡◌, ◌<◌, ◌^◌, ◌++◌, OnOk, map};
+ghost use Rattle.std.specs.Prelude.{◌≡◌, ◌++◌, OnOk, map};
 ghost use Rattle.fbl_base.specs.MemberSets.{member_list};
-ghost use Rattle.fbl_pictures.specs.HistoryMarks.{column_marks, event_mark as event_mark_of, marks_after, strike_mark, recovery_mark};
+ghost use Rattle.fbl_pictures.specs.HistoryMarks.{column_marks, event_mark as event_mark_of, strike_mark, recovery_mark};
 ghost use Rattle.fbl_pictures.specs.Places.{drawn};
 
 use crate::names::push_any;
 use crate::shape::Shape;
 use fbl_base::{Determinant, MemberSet};
-use fbl_history::{Column, Replay, made_after};
+use fbl_history::{Column, Replay};
 use std::alloc::{AllocError, Global};
 
 /// Draws a mark on the line of each member that is struck at this place.
@@ -81,15 +81,14 @@ fn event_mark(place: usize, column: &Column) -> Option<Shape>
     }
 }
 
-/// Draws the marks of a column at this place, before which so many receipts were made.
+/// Draws the marks of a column at this place.
 fn push_mark(
     shapes: &mut Vec<Shape>,
     alloc: Global,
-    made: u128,
     place: usize,
     column: &Column,
 ) -> Result<(), AllocError>
-    ensures { OnOk result (shapes.new.items ≡ shapes.old.items ++ marks_after made place column.now) }
+    ensures { OnOk result (shapes.new.items ≡ shapes.old.items ++ column_marks place column.now) }
 {
     match column {
         Column::Strike(struck) => push_strikes(shapes, alloc, place, *struck)?,
@@ -97,10 +96,6 @@ fn push_mark(
         Column::Checkpoint(member) => shapes.push(Shape::Checkpoint {
             column: place,
             member: *member,
-        })?,
-        Column::ReceiptsMade(total) => shapes.push(Shape::MadeAndUndone {
-            column: place,
-            receipts: u128::from(*total).saturating_sub(made),
         })?,
         _ => push_any(shapes, event_mark(place, column))?,
     }
@@ -113,12 +108,10 @@ pub(crate) fn push_marks(
     alloc: Global,
     columns: &[Column],
 ) -> Result<(), AllocError>
-    ensures { OnOk result (shapes.new.items ≡ shapes.old.items ++ drawn (column_marks columns.now) 0 columns.now) }
+    ensures { OnOk result (shapes.new.items ≡ shapes.old.items ++ drawn column_marks 0 columns.now) }
 {
-    let mut made = 0u128;
     for (place, column) in columns.iter().enumerate() {
-        push_mark(shapes, alloc, made, place, column)?;
-        made = made_after(made, column);
+        push_mark(shapes, alloc, place, column)?;
     }
     Ok(())
 }

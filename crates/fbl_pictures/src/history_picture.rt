@@ -24,7 +24,7 @@ fn heading_text(
 {
     let made = receipts_made(columns);
     let undone = receipts_undone(columns);
-    let word = receipts_word(made);
+    let word = receipts_word(made as u128);
     format!(in alloc; "{members} members, f {f}, {behaviour}: {made} {word} made, {undone} undone")
 }
 

@@ -79,7 +79,7 @@ pub(crate) const LOG_LOOK: &str = "<style>
 pub(crate) const HISTORY_LEGEND: &str =
     "<circle class='send' cx='28' cy='-4' r='5'/><text class='note' x='54' y='0'>send: its number</text>
 <rect class='receipt' x='221' y='-11' width='14' height='14'/><text class='note' x='254' y='0'>receipt: its number, the state after it</text>
-<rect class='receipt undone' x='497' y='-11' width='14' height='14'/><path class='crossed' d='M495 5l18 -18'/><text class='note' x='530' y='0'>undone by a recovery or a run</text>
+<rect class='receipt undone' x='497' y='-11' width='14' height='14'/><path class='crossed' d='M495 5l18 -18'/><text class='note' x='530' y='0'>undone by a recovery</text>
 <path class='message' d='M8 18h32'/><rect class='receipt' x='33' y='11' width='14' height='14'/><text class='note' x='54' y='22'>message, to its receipt</text>
 <path class='message undone' d='M208 18h32'/><rect class='receipt undone' x='233' y='11' width='14' height='14'/><path class='crossed' d='M231 27l18 -18'/><text class='note' x='254' y='22'>message whose receipt was undone</text>
 <path class='message again' d='M480 18h36'/><rect class='receipt' x='509' y='11' width='14' height='14'/><text class='note' x='530' y='22'>message sent again by a recovery</text>

@@ -1,7 +1,7 @@
 //! The texts of marks.
 
 ghost use Rattle.std.specs.Prelude.{◌≡◌, ◌<◌, IfOk, length, string_bytes};
-ghost use Rattle.fbl_pictures.specs.Marks.{drawn_checkpoint, cross, drawn_held_receipt, drawn_hold, drawn_made_and_undone, number, numbers, drawn_receipt, receipt_words, drawn_recovery, drawn_send, drawn_store, drawn_strike, stroke};
+ghost use Rattle.fbl_pictures.specs.Marks.{drawn_checkpoint, cross, drawn_held_receipt, drawn_hold, number, numbers, drawn_receipt, receipt_words, drawn_recovery, drawn_send, drawn_store, drawn_strike, stroke};
 
 use crate::places::{below, x, y};
 use crate::shape::Kind;
@@ -288,21 +288,5 @@ pub(crate) fn checkpoint_text(
     let y = y(member) - 10;
     format!(in alloc;
         "<rect class='checkpoint' x='{x}' y='{y}' width='5' height='20'><title>checkpoint of member {member}</title></rect>\n"
-    )
-}
-
-/// The text of receipts that have no column.
-#[tactic(auto, unfolding(crate::specs::Marks::drawn_made_and_undone))]
-pub(crate) fn made_and_undone_text(
-    alloc: Global,
-    column: usize,
-    receipts: u128,
-) -> Result<String, AllocError>
-    ensures { IfOk result (λ text. string_bytes text ≡ drawn_made_and_undone column receipts) }
-{
-    let x = x(column);
-    let word = receipts_word(receipts);
-    format!(in alloc;
-        "<text class='at' x='{x}' y='46'><title>{receipts} {word} made and undone by a run, without a column</title>{receipts} undone</text>\n"
     )
 }

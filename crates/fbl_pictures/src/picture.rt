@@ -8,8 +8,8 @@ use crate::lines::{
 };
 use crate::look::{entries, look, more_look};
 use crate::marks::{
-    checkpoint_text, held_text, hold_text, made_and_undone_text, receipt_text, recovery_text,
-    send_text, store_text, strike_text,
+    checkpoint_text, held_text, hold_text, receipt_text, recovery_text, send_text, store_text,
+    strike_text,
 };
 use crate::places::{height, width, y};
 use crate::shape::{Legend, Shape};
@@ -56,7 +56,6 @@ fn mark_text(alloc: Global, shape: Shape) -> Result<String, AllocError>
             receipts,
         } => recovery_text(alloc, column, member, receipts),
         Shape::Checkpoint { column, member } => checkpoint_text(alloc, column, member),
-        Shape::MadeAndUndone { column, receipts } => made_and_undone_text(alloc, column, receipts),
         _ => Ok(String::new(alloc)),
     }
 }

@@ -131,7 +131,7 @@ pub enum Shape {
         /// Which of its sender's sends it is, from 1.
         ssn: u32,
         to: Member,
-        /// Whether a recovery or a run took it out of the trace: it is crossed then.
+        /// Whether a recovery took it out of the trace: it is crossed then.
         undone: bool,
     },
     /// The mark of a receipt of a history, its number and the state after it.
@@ -140,7 +140,7 @@ pub enum Shape {
         determinant: Determinant,
         /// The receiver's state after it.
         state: u64,
-        /// Whether a recovery or a run took it out of the trace: it is crossed then.
+        /// Whether a recovery took it out of the trace: it is crossed then.
         undone: bool,
     },
     /// The mark of a receipt of a dump or a log, and its number.
@@ -180,10 +180,5 @@ pub enum Shape {
     Checkpoint {
         column: usize,
         member: Member,
-    },
-    /// Receipts that have no column, since a run both made and undid them: how many, above the members' lines.
-    MadeAndUndone {
-        column: usize,
-        receipts: u128,
     },
 }

@@ -17,7 +17,7 @@ use Rattle.fbl_texts.specs.Scripts.{Outline, IsScriptOf, IsScriptFault}
 use Rattle.fbl_history.specs.declared.column.Column.{Column}
 use Rattle.fbl_play.specs.declared.answer.Answer.{Answer}
 use Rattle.fbl_play.specs.Steps.{Step}
-use Rattle.fbl_play.specs.Transcripts.{Transcript, IsAdded, IsBegun, IsCut, history, text}
+use Rattle.fbl_play.specs.Transcripts.{Transcript, IsAdded, IsBegun, IsCut, IsOfGroup, history, text}
 
 -- a moment of a run: the group and the transcript as they are then
 pub record Moment : Type 0 where
@@ -51,7 +51,8 @@ module _ (next : Next ℕ Note) (workers : ℕ) where
   Along [] old new = new ≡ old
   Along (ran ∷ more) old new = (ran.old ≡ old) × IsRunOne ran × Along more ran.new new
 
-  -- the commands were run so, from a sound new group of this config to this moment, where the transcript was this one before
+  -- the commands were run so, from a sound new group of this config to this moment, where the transcript was this one before; where
+  -- it is a history it then is one of the group
   pub record IsRun (config : Settings Note) (cs : List Command) (had : Transcript) (ran : List Ran) (end : Moment) : Type 0 where
     pub first : GroupRecord ℕ Note
     pub begun : Transcript
@@ -60,6 +61,7 @@ module _ (next : Next ℕ Note) (workers : ℕ) where
     pub begins : IsBegun next first had begun
     pub commands : map (λ r. r.command) ran ≡ cs
     pub along : Along ran (record { group = first; transcript = begun }) end
+    pub told : IsOfGroup next end.group end.transcript
 
   -- the command could not be run at this moment for want of memory, or not be added to the transcript, which now is this one
   abbrev pub IsStopped : Moment → Command → OutputFault → Transcript → Type 0

@@ -22,10 +22,10 @@ use Rattle.fbl_law.specs.Groups.{GroupRecord, is_recorded, member_checkpoint}
 use Rattle.fbl_law.specs.GroupSteps.{IsCheckpoint}
 use Rattle.fbl_texts.specs.declared.script.Command.{Command}
 use Rattle.fbl_texts.specs.declared.script.Command.TheVariants as commands
-use Rattle.fbl_threads.specs.declared.draining.Drained.{Drained}
+use Rattle.fbl_threads.specs.declared.draining.Recorded.{Recorded}
 use Rattle.fbl_threads.specs.declared.draining.DrainRefusal.{DrainRefusal}
 use Rattle.fbl_threads.specs.declared.draining.DrainRefusal.TheVariants as drain
-use Rattle.fbl_threads.specs.Drains.{Drains}
+use Rattle.fbl_threads.specs.Drains.{RecordedDrains}
 use Rattle.fbl_threads.specs.Names.{drain_name}
 use Rattle.fbl_play.specs.declared.answer.Answer.{Answer}
 use Rattle.fbl_play.specs.declared.answer.Answer.TheVariants as answers
@@ -95,17 +95,19 @@ CheckpointStep old p new answer = CheckpointBy (checkpoint_refusal old p) old p 
 
 -- what a run with this plan answers whose workers' drain answered this, where the group had made and undone so many receipts and is now like this: the
 -- counts of the workers, as the drain answered them, and those of the group; or why it was refused. Nothing where memory ran out, for the drain or a worker
-abbrev pub IsRunAnswer : List Strike → ℕ → ℕ → GroupRecord ℕ Note → Result Drained DrainRefusal → Answer → Type 0
-IsRunAnswer plan made undone now (Ok drained) answer =
-    (drained.memory ≡ false) × (answer ≡ answers.Run drained made now.receipts_ever undone now.undone_ever)
+abbrev pub IsRunAnswer : List Strike → ℕ → ℕ → GroupRecord ℕ Note → Result (Recorded ℕ Note) DrainRefusal → Answer → Type 0
+IsRunAnswer plan made undone now (Ok recorded) answer =
+    (recorded.drained.memory ≡ false) × (answer ≡ answers.Run recorded made now.receipts_ever undone now.undone_ever)
 IsRunAnswer plan made undone now (Err drain.Memory) answer = ⊥
 IsRunAnswer plan made undone now (Err refusal) answer =
     (reason : Reason) × IsRunReason plan now refusal reason × IsRefused (codes "run") (drain_name refusal) reason answer
 
--- a run with this plan by this many workers may lead from old to new, and answer this: it follows by an answer of the workers' drain
+-- a run with this plan by this many workers may lead from old to new, and answer this: it follows by an answer of the workers' drain,
+-- whose turns are recorded
 abbrev pub RunStep : Next ℕ Note → ℕ → List Strike → GroupRecord ℕ Note → GroupRecord ℕ Note → Answer → Type 0
 RunStep next workers plan old new answer =
-    (drained : Result Drained DrainRefusal) × Drains next workers plan old new drained × IsRunAnswer plan old.receipts_ever old.undone_ever new drained answer
+    (recorded : Result (Recorded ℕ Note) DrainRefusal) × RecordedDrains next workers plan old new recorded
+    × IsRunAnswer plan old.receipts_ever old.undone_ever new recorded answer
 
 -- a command, with this many workers, may lead from old to new, and answer this
 abbrev pub Step : Next ℕ Note → ℕ → GroupRecord ℕ Note → Command → GroupRecord ℕ Note → Answer → Type 0

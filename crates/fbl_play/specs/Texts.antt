@@ -3,6 +3,8 @@ use Rattle.std.specs.Prelude.{◌≡◌, ℕ, zero, suc, ◌↔◌, true, List, 
 use Rattle.std.specs.FinSet as set
 use Rattle.fbl_base.specs.declared.trace.Note.{Note}
 use Rattle.fbl_base.specs.Audit.{IsDumpOrphan, lost_determinants}
+use Rattle.fbl_group.specs.declared.answers.Receipted.{Receipted}
+use Rattle.fbl_group.specs.declared.answers.Recovered.{Recovered}
 use Rattle.fbl_law.specs.Groups.{GroupRecord, member, messages_in_flight}
 use Rattle.fbl_law.specs.Promises.{dump_of}
 use Rattle.fbl_texts.specs.DumpLines.{dump_line}
@@ -57,16 +59,22 @@ abbrev pub refusal_line : List ℕ → List ℕ → Reason → List ℕ
 refusal_line command refusal (BadPlan fault) = line (command ∷ codes " refused " ∷ refusal ∷ codes " " ∷ decimal fault.place ∷ [])
 refusal_line command refusal reason = line (command ∷ codes " refused " ∷ refusal ∷ [])
 
+abbrev pub delivery_line : ℕ → ℕ → Receipted ℕ → List ℕ
+delivery_line to from receipt =
+    line (codes "deliver " ∷ decimal to ∷ codes " " ∷ decimal from ∷ codes " receipt " ∷ decimal receipt.rsn ∷ codes " carried " ∷ decimal receipt.carried ∷ codes " state " ∷ decimal receipt.state ∷ [])
+
+abbrev pub recovery_line : Recovered → List ℕ
+recovery_line recovered =
+    line (codes "recover replayed " ∷ decimal recovered.replayed ∷ codes " resent " ∷ decimal recovered.resent ∷ codes " undone " ∷ decimal recovered.undone ∷ [])
+
 -- the text of a command's answer, where the command left the group like this
 abbrev pub IsText : GroupRecord ℕ Note → Answer → List ℕ → Type 0
-IsText r (answers.Delivery to from receipt) text =
-    text ≡ line (codes "deliver " ∷ decimal to ∷ codes " " ∷ decimal from ∷ codes " receipt " ∷ decimal receipt.rsn ∷ codes " carried " ∷ decimal receipt.carried ∷ codes " state " ∷ decimal receipt.state ∷ [])
+IsText r (answers.Delivery to from receipt) text = text ≡ delivery_line to from receipt
 IsText r answers.States text = text ≡ states_line r
 IsText r answers.Report text = IsReport r text
 IsText r (answers.Strike members struck receipts before) text = text ≡ line (codes "strike " ∷ set_words members ∷ codes " lost " ∷ decimal struck.lost ∷ [])
-IsText r (answers.Recovery members recovered undone) text =
-    text ≡ line (codes "recover replayed " ∷ decimal recovered.replayed ∷ codes " resent " ∷ decimal recovered.resent ∷ codes " undone " ∷ decimal recovered.undone ∷ [])
+IsText r (answers.Recovery members recovered undone) text = text ≡ recovery_line recovered
 IsText r (answers.Dump dump) text = text ≡ dump_line dump
-IsText r (answers.Run drained _ _ _ _) text = text ≡ line (codes "run " ∷ end_word drained ∷ [])
+IsText r (answers.Run recorded _ _ _ _) text = text ≡ line (codes "run " ∷ end_word recorded.drained ∷ [])
 IsText r (answers.Checkpoint p received) text = text ≡ line (codes "checkpoint " ∷ decimal p ∷ codes " receipt " ∷ decimal received ∷ [])
 IsText r (answers.Refusal command refusal reason) text = text ≡ refusal_line command.now refusal.now reason

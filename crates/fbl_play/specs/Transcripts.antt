@@ -1,11 +1,12 @@
 -- The transcript of a run: the text that its commands print, or its history.
-use Rattle.std.specs.Prelude.{◌≡◌, ℕ, ◌<◌, List, [], ◌∷◌, ◌++◌, length, take, Option, Some}
+use Rattle.std.specs.Prelude.{◌≡◌, ℕ, ◌<◌, List, [], ◌∷◌, ◌++◌, length, take, Option, None, Some}
 use Rattle.std.specs.Io.KnownBytes.{Appends}
 use Rattle.fbl_base.specs.declared.trace.Note.{Note}
 use Rattle.fbl_base.specs.Fold.{Next}
 use Rattle.fbl_history.specs.declared.column.Column.{Column}
 use Rattle.fbl_history.specs.declared.column.Column.TheVariants.{Strike, Checkpoint}
-use Rattle.fbl_history.specs.Traces.{go_on_to, IsAfterRecovery}
+use Rattle.fbl_history.specs.Traces.{go_on_to, start_columns, IsAfterRecovery, IsHistoryOf}
+use Rattle.fbl_history.specs.Turns.{IsAfterTurns, IsLedTo}
 use Rattle.fbl_input.specs.declared.output.OutputFault.{OutputFault}
 use Rattle.fbl_input.specs.declared.output.OutputFault.TheVariants as faults
 use Rattle.fbl_law.specs.Groups.{GroupRecord}
@@ -18,21 +19,32 @@ pub data Transcript : Type 0 where
   text : Option (List ℕ) → Transcript
   history : Option (List Column) → Transcript
 
--- the transcript of a run that begins with this group: nothing is written, and the history goes on from nothing to the group
+-- the transcript of a run that begins with this new group: nothing is written, and the history has the sends of its starts
 abbrev pub IsBegun : Next ℕ Note → GroupRecord ℕ Note → Transcript → Transcript → Type 0
 IsBegun next r (text had) (text has) = has ≡ had
-IsBegun next r (history had) (history has) = has ≡ Some (go_on_to next [] r)
+IsBegun next r (history had) (history has) = has ≡ Some (start_columns r.config.starts)
 IsBegun next r _ _ = ⊥
 
--- the history after a command with this answer, which left the group like this: it goes on to the group after a delivery or a
--- run, and has a column of a strike, a recovery or a checkpoint; any other command adds nothing, and no refused one does
+-- the history after a command with this answer, which left the group like this: it goes on to the group after a delivery, over the
+-- turns of a run, and has a column of a strike, a recovery or a checkpoint; any other command adds nothing, and no refused one does
 abbrev pub GoesOn : Next ℕ Note → GroupRecord ℕ Note → Answer → List Column → List Column → Type 0
 GoesOn next r (answers.Delivery to from receipt) old new = new ≡ go_on_to next old r
-GoesOn next r (answers.Run _ _ _ _ _) old new = new ≡ go_on_to next old r
+GoesOn next r (answers.Run recorded _ _ _ _) old new = IsAfterTurns next r recorded.turns.items old new
 GoesOn next r (answers.Strike members _ _ _) old new = new ≡ old ++ Strike members ∷ []
 GoesOn next r (answers.Recovery members _ _) old new = IsAfterRecovery next r members old new
 GoesOn next r (answers.Checkpoint p received) old new = new ≡ old ++ Checkpoint p ∷ []
 GoesOn next r _ old new = new ≡ old
+
+-- where the transcript is a history, it is one of the group
+abbrev pub IsOfGroup : Next ℕ Note → GroupRecord ℕ Note → Transcript → Type 0
+IsOfGroup next r (text had) = Unit {0}
+IsOfGroup next r (history None) = Unit {0}
+IsOfGroup next r (history (Some columns)) = IsHistoryOf next r columns
+
+-- where the answer is of a run and the transcript is a history, the run's turns lead to the group from one of which it is a history
+abbrev pub IsLedOn : Next ℕ Note → GroupRecord ℕ Note → Answer → Transcript → Type 0
+IsLedOn next r (answers.Run recorded _ _ _ _) (history (Some columns)) = ∥ IsLedTo next columns recorded.turns.items r ∥₁
+IsLedOn next r _ _ = Unit {0}
 
 -- a command with this answer, which left the group like this, is added: its text is written, or the history goes on
 abbrev pub IsAdded : Next ℕ Note → GroupRecord ℕ Note → Answer → Transcript → Transcript → Type 0

@@ -2,11 +2,14 @@
 
 use crate::answer::Answer;
 use fbl_base::{Determinant, Strike};
+use fbl_group::{CrashRecord, Recovered, RecoveryRecord};
 use fbl_texts::Command;
+use fbl_threads::Recorded;
 use std::fmt;
 
 /// A command's place and words with what it did beside what its lines say, as in `command 7, deliver to 1 from 2: nothing is in
-/// flight from 2 to 1`, in a line of its own; nothing where there is no more to say.
+/// flight from 2 to 1`, in a line of its own; nothing where there is no more to say. Before the line of a run each of its crashes
+/// has one, as in `command 7, strike [1] at receipt 5: receipts lost 2, replayed 3, undone 2; messages sent again 1`.
 #[derive(Clone, Copy)]
 pub struct Account<'a> {
     /// The command's place in its script, from 0.
@@ -38,6 +41,14 @@ impl fmt::Display for Account<'_> {
         }
         let place = self.place;
         let command = self.command;
+        if let Answer::Run {
+            recorded,
+            made_before,
+            ..
+        } = self.answer
+        {
+            write_crashes(f, place, recorded, *made_before)?;
+        }
         write!(f, "command {place}, {command}: ")?;
         match self.answer {
             Answer::Refusal { reason, .. } => write!(f, "{reason}")?,
@@ -108,6 +119,49 @@ fn write_entries<W: fmt::Write>(
     Ok(())
 }
 
+/// Writes a line for each crash of a run that began where so many receipts had been made.
+fn write_crashes<W: fmt::Write>(
+    f: &mut fmt::Formatter<W>,
+    place: usize,
+    recorded: &Recorded,
+    made_before: u64,
+) -> fmt::Result {
+    let mut at = made_before;
+    for turn in &recorded.turns {
+        at = at.saturating_add(1);
+        if let Some(crash) = &turn.crash {
+            let set = crash.set;
+            write!(f, "command {place}, strike {set} at receipt {at}: ")?;
+            write_crash(f, crash)?;
+        }
+    }
+    Ok(())
+}
+
+/// Writes what a crash lost, replayed, undid and sent again.
+fn write_crash<W: fmt::Write>(f: &mut fmt::Formatter<W>, crash: &CrashRecord) -> fmt::Result {
+    let Some(
+        RecoveryRecord {
+            struck,
+            recovered,
+            ..
+        },
+    ) = &crash.recovery
+    else {
+        return f.write_str("not recovered\n");
+    };
+    let lost = struck.lost;
+    let Recovered {
+        replayed,
+        resent,
+        undone,
+    } = *recovered;
+    write!(
+        f,
+        "receipts lost {lost}, replayed {replayed}, undone {undone}; messages sent again {resent}\n"
+    )
+}
+
 /// Writes how many receipts a run made and undid, which entries of its plan struck nobody, and what each worker did.
 fn write_run<W: fmt::Write>(
     f: &mut fmt::Formatter<W>,
@@ -117,7 +171,7 @@ fn write_run<W: fmt::Write>(
     let (
         Command::Run(plan),
         Answer::Run {
-            drained,
+            recorded,
             made_before,
             made_after,
             undone_before,
@@ -133,6 +187,7 @@ fn write_run<W: fmt::Write>(
     let plan = plan.strikes();
     write_entries(f, plan, "; passed before the run: entry", 0, *made_before)?;
     write_entries(f, plan, "; never reached: entry", *made_after, u64::MAX)?;
+    let drained = &recorded.drained;
     let workers = drained
         .by_worker
         .iter()

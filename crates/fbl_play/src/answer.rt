@@ -2,14 +2,14 @@
 
 ghost use Rattle.std.specs.Prelude.{◌≡◌, ◌<◌, ◌++◌, IfOk, string_bytes};
 ghost use Rattle.fbl_play.specs.Steps.{is_refusal as is_refusal_of};
-ghost use Rattle.fbl_play.specs.Texts.{AreTotals, IsReport, IsText, end_word as end_word_of, member_line as line_of, of_members, refusal_line, states_line, total_lines};
+ghost use Rattle.fbl_play.specs.Texts.{AreTotals, IsReport, IsText, delivery_line, end_word as end_word_of, member_line as line_of, of_members, recovery_line, refusal_line, states_line, total_lines};
 
 use crate::reason::Reason;
 use fbl_base::audit::{Audit, Dump};
 use fbl_base::{Behaviour, Determinant, Member, MemberSet, Note, PlanFault};
 use fbl_group::{DumpGroupRefusal, Group, Receipted, Recovered, Struck};
 use fbl_texts::{dump_text, set_text};
-use fbl_threads::Drained;
+use fbl_threads::{Drained, Recorded};
 use std::alloc::{AllocError, Global};
 
 /// What a command did: what its lines say, before it is text, and what they don't. The states and the report are those of the
@@ -38,9 +38,9 @@ pub enum Answer {
         undone: Vec<Determinant>,
     },
     Dump(Dump),
-    /// The run by workers, and how many receipts the group ever made and undid before it and after it.
+    /// The run by workers, with their turns, and how many receipts the group ever made and undid before it and after it.
     Run {
-        drained: Drained,
+        recorded: Recorded,
         made_before: u64,
         made_after: u64,
         undone_before: u64,
@@ -76,18 +76,7 @@ impl Answer {
         ensures { IfOk result (λ text. IsText group.now self.now (string_bytes text)) }
     {
         match self {
-            Answer::Delivery { to, from, receipt } => {
-                let to = to.number();
-                let from = from.number();
-                let Receipted {
-                    rsn,
-                    carried,
-                    state,
-                } = *receipt;
-                format!(in alloc;
-                    "deliver {to} {from} receipt {rsn} carried {carried} state {state}\n"
-                )
-            }
+            Answer::Delivery { to, from, receipt } => delivery_text(alloc, *to, *from, receipt),
             Answer::States => states_text(alloc, group),
             Answer::Report => report_text(alloc, group),
             Answer::Strike {
@@ -99,17 +88,10 @@ impl Answer {
                 let lost = struck.lost;
                 format!(in alloc; "strike {set} lost {lost}\n")
             }
-            Answer::Recovery { recovered, .. } => {
-                let Recovered {
-                    replayed,
-                    resent,
-                    undone,
-                } = *recovered;
-                format!(in alloc; "recover replayed {replayed} resent {resent} undone {undone}\n")
-            }
+            Answer::Recovery { recovered, .. } => recovery_text(alloc, recovered),
             Answer::Dump(dump) => dump_text(alloc, dump),
-            Answer::Run { drained, .. } => {
-                let word = end_word(drained);
+            Answer::Run { recorded, .. } => {
+                let word = end_word(&recorded.drained);
                 format!(in alloc; "run {word}\n")
             }
             Answer::Checkpoint { member, received } => {
@@ -123,6 +105,37 @@ impl Answer {
             } => refusal_text(alloc, command, refusal, reason),
         }
     }
+}
+
+/// The line of a delivery to one member from another.
+fn delivery_text(
+    alloc: Global,
+    to: Member,
+    from: Member,
+    receipt: &Receipted,
+) -> Result<String, AllocError>
+    ensures { IfOk result (λ text. string_bytes text ≡ delivery_line to from receipt.now) }
+{
+    let to = to.number();
+    let from = from.number();
+    let Receipted {
+        rsn,
+        carried,
+        state,
+    } = *receipt;
+    format!(in alloc; "deliver {to} {from} receipt {rsn} carried {carried} state {state}\n")
+}
+
+/// The line of a recovery.
+fn recovery_text(alloc: Global, recovered: &Recovered) -> Result<String, AllocError>
+    ensures { IfOk result (λ text. string_bytes text ≡ recovery_line recovered.now) }
+{
+    let Recovered {
+        replayed,
+        resent,
+        undone,
+    } = *recovered;
+    format!(in alloc; "recover replayed {replayed} resent {resent} undone {undone}\n")
 }
 
 /// How a run ended: with nothing in flight and nobody down, else with a worker that met the end of the trace's room, or neither.

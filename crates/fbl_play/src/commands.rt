@@ -15,7 +15,7 @@ use crate::reason::{
 use fbl_base::{Behaviour, Determinant, Member, MemberSet, Note, Strike};
 use fbl_group::{CheckpointRefusal, DeliverRefusal, DumpGroupRefusal, Group, RecoverRefusal};
 use fbl_texts::{Command, Plan};
-use fbl_threads::{DrainRefusal, Drained, NoGate, drain};
+use fbl_threads::{DrainRefusal, NoGate, Recorded, drain_recorded};
 use std::alloc::{AllocError, Global};
 use std::sync::Wait;
 use std::thread::Threads;
@@ -182,19 +182,19 @@ fn run_answer<B: Behaviour<State = u64, Note = Note>>(
     plan: &[Strike],
     made_before: u64,
     undone_before: u64,
-    drained: Result<Drained, DrainRefusal>,
+    answer: Result<Recorded, DrainRefusal>,
 ) -> Result<Answer, AllocError>
-    requires { IfErr drained (IsPlanRefused plan.now group.now.config) }
-    ensures step { IfOk result (IsRunAnswer plan.now made_before undone_before group.now drained) }
+    requires { IfErr answer (IsPlanRefused plan.now group.now.config) }
+    ensures step { IfOk result (IsRunAnswer plan.now made_before undone_before group.now answer) }
     ensures within { IfOk result (HasMembers group.now) }
 {
-    match drained {
-        Ok(drained) => {
-            if drained.memory {
+    match answer {
+        Ok(recorded) => {
+            if recorded.drained.memory {
                 return Err(AllocError);
             }
             Ok(Answer::Run {
-                drained,
+                recorded,
                 made_before,
                 made_after: group.receipts_ever(),
                 undone_before,
@@ -224,8 +224,8 @@ fn run_plan<B: Behaviour<State = u64, Note = Note> + Send + Sync, T: Threads + W
     let made = group.receipts_ever();
     let undone = group.undone_ever();
     let strikes = plan.strikes();
-    let (group, drained) = drain(rt, alloc, group, strikes, workers, TURNS, &NoGate);
-    let answer = run_answer(&group, strikes, made, undone, drained);
+    let (group, recorded) = drain_recorded(rt, alloc, group, strikes, workers, TURNS, &NoGate);
+    let answer = run_answer(&group, strikes, made, undone, recorded);
     (group, answer)
 }
 

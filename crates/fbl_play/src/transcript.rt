@@ -1,7 +1,7 @@
 //! What is kept of a run while it goes on: the text of its commands, or its history.
 
-ghost use Rattle.std.specs.Prelude.{◌≡◌, IfErr, IfOk, OnErr, OnOk};
-ghost use Rattle.fbl_play.specs.Transcripts.{GoesOn, IsAdded, IsBegun, IsCut};
+ghost use Rattle.std.specs.Prelude.{◌≡◌, IfErr, IfOk, OnErr, OnOk, Some};
+ghost use Rattle.fbl_play.specs.Transcripts.{history as as_history, GoesOn, IsAdded, IsBegun, IsCut, IsLedOn};
 ghost use Rattle.fbl_play.specs.Steps.{HasMembers};
 
 use crate::answer::Answer;
@@ -40,7 +40,7 @@ impl Transcribed for HistorySoFar {
 
 /// A transcript to which a run adds its commands.
 pub(crate) trait Transcriber: Transcribed {
-    /// The run begins with this group.
+    /// The run begins with this new group.
     fn begin<B: Behaviour<State = u64, Note = Note>>(
         &mut self,
         alloc: Global,
@@ -56,7 +56,8 @@ pub(crate) trait Transcriber: Transcribed {
         group: &Group<B>,
         answer: &Answer,
     ) -> Result<(), OutputFault>
-        requires { HasMembers group.now answer.now }
+        requires members { HasMembers group.now answer.now }
+        requires led { IsLedOn B.next group.now answer.now (Self.transcript self.old) }
         ensures added { OnOk result (IsAdded B.next group.now answer.now (Self.transcript self.old) (Self.transcript self.new)) }
         ensures cut { IfErr result (λ fault. IsCut group.now answer.now fault (Self.transcript self.old) (Self.transcript self.new)) };
 }
@@ -87,7 +88,7 @@ impl Transcriber for HistorySoFar {
         alloc: Global,
         group: &Group<B>,
     ) -> Result<(), AllocError> {
-        self.history = Some(History::new(alloc, group)?);
+        self.history = Some(History::new(alloc, group.config())?);
         Ok(())
     }
 
@@ -112,11 +113,13 @@ fn history_after<B: Behaviour<State = u64, Note = Note>>(
     group: &Group<B>,
     answer: &Answer,
 ) -> Result<History, AllocError>
-    requires { HasMembers group.now answer.now }
+    requires members { HasMembers group.now answer.now }
+    requires led { IsLedOn B.next group.now answer.now (as_history (Some history)) }
     ensures { IfOk result (GoesOn B.next group.now answer.now history) }
 {
     match answer {
-        Answer::Delivery { .. } | Answer::Run { .. } => history.go_on(alloc, group),
+        Answer::Delivery { .. } => history.go_on(alloc, group),
+        Answer::Run { recorded, .. } => history.run(alloc, recorded.turns.as_slice(), group),
         Answer::Strike { members, .. } => history.strike(*members),
         Answer::Recovery { members, .. } => history.recover(alloc, group, *members),
         Answer::Checkpoint { member, .. } => history.checkpoint(*member),

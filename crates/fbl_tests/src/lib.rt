@@ -11,6 +11,7 @@ mod audits;
 mod group;
 #[cfg(test)]
 mod logs;
+#[cfg(test)]
 mod merged_logs;
 #[cfg(test)]
 mod moments;

@@ -29,6 +29,7 @@ pub use Rattle.fbl_base.specs.declared.strike.Strike.{Strike}
 pub use Rattle.fbl_base.specs.declared.trace.Event.{Event}
 pub use Rattle.fbl_base.specs.declared.trace.Mark.{Mark}
 pub use Rattle.fbl_group.proofs.Striking.{is_allowed}
+pub use Rattle.fbl_group.specs.Records.{Commits, IsPlannedCrash, IsRecoveryRecord, StrikeLeads, TurnLeads, TurnsLead}
 pub use Rattle.fbl_group.specs.Strikes.{CrashLeaves, Crashes, Recovers, strike_refusal}
 pub use Rattle.fbl_group.specs.Deliveries.{MayCommit, RefusesCommit, Delivers}
 pub use Rattle.fbl_group.specs.declared.answers.Receipted.{Receipted}
@@ -56,10 +57,10 @@ pub use Rattle.fbl_threads.specs.Crossing.{StrikesAsPlanned, planned_at, struck_
 pub use Rattle.fbl_threads.specs.Drains.{IsAccepted}
 pub use Rattle.fbl_threads.specs.Pasts.{Keeps, TurnsKeep, events_of}
 pub use Rattle.fbl_threads.specs.Plans.{is_named, struck_at}
-pub use Rattle.fbl_threads.specs.Recorded.{HasReceived, IsReceiptRecord, IsRecordedAs, IsRecoveryRecord, ReachedBy, TellsCounts, crash_undid, made_by, undone_in, undone_of}
+pub use Rattle.fbl_threads.specs.Recorded.{IsReceiptRecord, IsRecordedAs, ReachedBy, RecordedTurnsLead, TellsCounts, crash_undid, made_by, undone_in, undone_of}
 pub use Rattle.fbl_threads.specs.Recorded.ReachedBy.{begins, goes_on}
 pub use Rattle.fbl_threads.specs.Recorders.{CrashesAs, HasRoom, IsAdded, ReachedAs, TurnAs, recorded, with_record}
-pub use Rattle.fbl_threads.specs.Runs.{Commits, Counts, IsPlannedCrash, Reached, Turn, commits_one, lacks_memory, meets_full, more_at, nothing_done, undoes}
+pub use Rattle.fbl_threads.specs.Runs.{Counts, Reached, Turn, commits_one, lacks_memory, meets_full, more_at, nothing_done, undoes}
 pub use Rattle.fbl_threads.specs.Runs.Reached.{starts, turns}
 pub use Rattle.fbl_threads.specs.Runs.Turn.{commits, crashes, is_full, is_late, strikes, wants}
 pub use Rattle.fbl_threads.specs.Stages.{IsOf}

@@ -1,16 +1,15 @@
 -- Runs of turns that are recorded: of each turn that made a receipt, what it did.
 use Rattle.std.specs.Prelude.{◌≡◌, ℕ, ◌+◌, ◌<◌, ◌==◌, Bool, List, [], ◌∷◌, ◌++◌, length, slice_get, slice_index, sum, sum_by, count_by, Option, Some, None, option_map, if◌then◌else◌}
 use Rattle.fbl_base.specs.Fold.{Next}
-use Rattle.fbl_base.specs.MemberSets.{Members}
 use Rattle.fbl_base.specs.declared.strike.Strike.{Strike}
 use Rattle.fbl_base.specs.declared.ticket.Ticket.{Ticket}
 use Rattle.fbl_law.specs.Groups.{GroupRecord, member}
-use Rattle.fbl_group.specs.declared.answers.Recovered.{Recovered}
 use Rattle.fbl_group.specs.declared.record.TurnRecord.{TurnRecord}
 use Rattle.fbl_group.specs.declared.record.CrashRecord.{CrashRecord}
 use Rattle.fbl_group.specs.declared.record.RecoveryRecord.{RecoveryRecord}
+use Rattle.fbl_group.specs.Records.{IsRecoveryRecord, TurnsLead}
 use Rattle.fbl_threads.specs.Plans.{struck_at}
-use Rattle.fbl_threads.specs.Runs.{Counts, IsPlannedCrash, Turn, nothing_done}
+use Rattle.fbl_threads.specs.Runs.{Counts, Turn, nothing_done}
 use Rattle.fbl_threads.specs.Runs.Turn.{commits, crashes, strikes, is_full, wants, is_late}
 
 -- the receipt that worker w committed with this ticket, which led to this record, is recorded so
@@ -18,18 +17,6 @@ pub record IsReceiptRecord {S N : Type 0} (w : ℕ) (given : Ticket S N) (new : 
   pub worker : t.worker ≡ w
   pub ticket : t.ticket ≡ given
   pub sent : t.sent ≡ length (member new given.to).log
-
--- so many receipts each member has
-pub record HasReceived {S N : Type 0} (r : GroupRecord S N) (received : List ℕ) : Type 0 where
-  pub size : length received ≡ r.config.members
-  pub each : (m : ℕ) → m < r.config.members → slice_index received m ≡ (member r m).received
-
--- the recovery of this crash, which led to new, is recorded so
-pub record IsRecoveryRecord {S N : Type 0} {next : Next S N} {old new : GroupRecord S N} {set : Members} {answer : Recovered}
-    (crash : IsPlannedCrash next old new set answer) (r : RecoveryRecord) : Type 0 where
-  pub struck : r.struck ≡ crash.1.0
-  pub recovered : r.recovered ≡ answer
-  pub received : HasReceived new r.received.items
 
 -- these are the records of a turn: one of a turn that made a receipt, and none of one that was refused
 abbrev pub IsRecordedAs : {S N : Type 0} → {next : Next S N} {plan : List Strike} {w : ℕ} {ticket : Ticket S N} {old new : GroupRecord S N} {before after : Counts} {ends : Bool}
@@ -86,3 +73,9 @@ pub record TellsCounts {S N : Type 0} (plan : List Strike) (workers : ℕ) (star
   pub all_made : sum counts.by_worker ≡ length list
   pub all_undone : sum counts.undone_by_worker ≡ sum_by undone_in list
   pub planned : (place : ℕ) (t : TurnRecord S N) → slice_get list place ≡ Some t → option_map (λ c. c.set) t.crash ≡ struck_at plan (start.receipts_ever + (place + 1))
+
+-- such turns lead from start to this record, whichever workers made them and whichever were refused between them
+abbrev pub RecordedTurnsLead : Type 0 → Type 0 → Type 0
+RecordedTurnsLead S N =
+    (next : Next S N) (plan : List Strike) (workers : ℕ) (start new : GroupRecord S N) (list : List (TurnRecord S N)) (counts : Counts)
+    → ReachedBy next plan workers start list new counts → TurnsLead next start list new

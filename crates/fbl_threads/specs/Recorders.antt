@@ -8,9 +8,10 @@ use Rattle.fbl_base.specs.declared.ticket.Ticket.{Ticket}
 use Rattle.fbl_law.specs.Groups.{GroupRecord}
 use Rattle.fbl_group.specs.declared.record.TurnRecord.{TurnRecord}
 use Rattle.fbl_group.specs.declared.record.RecoveryRecord.{RecoveryRecord}
-use Rattle.fbl_threads.specs.Runs.{Counts, IsPlannedCrash, Reached, Turn, lacks_memory, undoes}
+use Rattle.fbl_threads.specs.Runs.{Counts, Reached, Turn, lacks_memory, undoes}
+use Rattle.fbl_group.specs.Records.{IsPlannedCrash, IsRecoveryRecord}
 use Rattle.fbl_group.specs.Strikes.{IsStrikeAlone}
-use Rattle.fbl_threads.specs.Recorded.{ReachedBy, IsRecordedAs, IsRecoveryRecord}
+use Rattle.fbl_threads.specs.Recorded.{ReachedBy, IsRecordedAs}
 
 -- the records, if they are kept
 abbrev pub recorded : {S N A : Type 0} → Option (Vec (TurnRecord S N) A) → Option (List (TurnRecord S N))

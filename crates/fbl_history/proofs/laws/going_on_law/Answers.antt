@@ -1,4 +1,3 @@
-use Rattle.fbl_history.proofs.Counting.{totals_counted}
 use Rattle.fbl_history.proofs.Standing.{nothing_comes_back, standing_is_trace}
 use Rattle.fbl_history.proofs.laws.going_on_law.Goals as goal
 
@@ -6,5 +5,4 @@ pub returns : goal.returns
 returns c = record {
   standing = standing_is_trace;
   nothing_comes_back = nothing_comes_back;
-  totals = totals_counted;
 }

@@ -12,6 +12,6 @@ add-requires-clause-fits g c =
 pub returns-in-Ok : goal.returns-in-Ok
 returns-in-Ok g c = (
   (c.in-Ok.ensures.crashed.0, (c.in-Ok.struck, c.in-Ok.ensures.crashed.1), c.in-Ok.ensures.holders),
-  record { struck = refl; recovered = refl; received = c.received.ensures },
+  record { struck = refl; recovered = refl; received = c.received_each.ensures; sent = c.sent_each.ensures },
   undone_more (counts_of c.args.counted.now) c.args.worker c.add.ensures c.from-undone.ensures,
 )

@@ -1,0 +1,144 @@
+-- A history of a group that goes on after a recovery has the later events of the members that were down undone.
+use Rattle.fbl_base.specs.declared.trace.Event.TheVariants as event
+use Rattle.fbl_base.specs.declared.trace.Note.{Note}
+use Rattle.fbl_base.specs.declared.trace.Mark.TheVariants as mark
+use Rattle.fbl_history.proofs.Common.{◌≡◌, ℕ, zero, ◌<◌, ◌||◌, suc, Bool, WellFormed, Settings, filter-At, filter-passes, false_from_ne_true, get_or, list_any_none, slice_get-get_or, true, false, cond, not, inl, inr, List, [], ◌∷◌, length, map, Some, slice_get, refl, sym, subst, ap, ◌∙◌, arith, nat_tests}
+use Rattle.fbl_history.proofs.Common.{Column, Event, GroupRecord, HasEachOnce, IsAfterRecovery, IsHistoryOf, IsRecovery, IsRecoveryColumn, IsSound, MemberRecord, Members, Next, Receipt, Recovery, Send}
+use Rattle.fbl_history.proofs.Common.{cut-one, cut-was, cut-obeys, cut-causes, down_or_up, event_column, filter, filter-agree, fold-received, fold-replayed, go_on, go_on_to, group_recovery_keeps, is_beyond, is_receipt, is_standing}
+use Rattle.fbl_history.proofs.Common.{list_any, log_counted, mark-at, mark_of, marks, member, note-was, receipt-number, received_counted, receipts_at, receipts_made, same_standing, sent-number, standing, stays_by, stays_by-cut}
+use Rattle.fbl_history.proofs.Common.{trace_columns, undo, undone_beyond, undone_without}
+use Rattle.fbl_history.proofs.Counting.{counted_from, made-changed, undo-receipt}
+use Rattle.fbl_history.proofs.Cutting.{others_undone, same-self}
+use Rattle.fbl_history.proofs.Parts.{IsPart, same_columns}
+use Rattle.fbl_history.proofs.Standing.{standing_is_trace, trace_once}
+use Rattle.fbl_history.proofs.Steps.{pushed}
+use Rattle.fbl_history.proofs.Undoing.{same-is}
+
+filter-map : {X Y : Type 0} (f : X → Y) (p : Y → Bool) (xs : List X) → map f (filter (λ x. p (f x)) xs) ≡ filter p (map f xs)
+filter-map f p [] = refl
+filter-map f p (x ∷ xs) = grind (arith, filter-map f p xs)
+
+pub map-agree : {X Y : Type 0} (f g : X → Y) (xs : List X) → ((i : ℕ) (x : X) → slice_get xs i ≡ Some x → f x ≡ g x) → map f xs ≡ map g xs
+map-agree f g [] same = refl
+map-agree f g (x ∷ xs) same = rw (same 0 x refl, map-agree f g xs (λ i y here. same (suc i) y here)) refl
+
+undo-lies : (c : Column) → is_standing c ≡ false → undo c ≡ c
+undo-lies (Send q k p true) lies = refl
+undo-lies (Receipt p r q k s true) lies = refl
+undo-lies (Send q k p false) lies = absurd cc
+undo-lies (Receipt p r q k s false) lies = absurd cc
+undo-lies _ lies = refl
+
+any-at : (p : Column → Bool) (xs : List Column) (i : ℕ) (c : Column) → slice_get xs i ≡ Some c → p c ≡ true → list_any p xs ≡ true
+any-at p [] i c here passes = absurd cc
+any-at p (x ∷ xs) zero c here passes = (let same : x ≡ c = cc in rw (same, passes) refl)
+any-at p (x ∷ xs) (suc i) c here passes = rw (any-at p xs i c here passes) (elim (p x) as (λ b. (b || true) ≡ true) [ true ↦ refl | false ↦ refl ])
+
+-- a standing event is among those that stay exactly where it stays
+any-stays : (stays : Column → Bool) (columns : List Column) (i : ℕ) (c : Column) → slice_get columns i ≡ Some c → is_standing c ≡ true
+    → list_any (same_standing c) (filter stays (standing columns)) ≡ stays c
+any-stays stays columns i c here stands = at (stays c) refl where
+  at : (b : Bool) → stays c ≡ b → list_any (same_standing c) (filter stays (standing columns)) ≡ b
+  at true stay =
+      let standing-at = filter-At is_standing columns i c here stands in
+      let left-at = filter-At stays (standing columns) standing-at.0 c standing-at.1 stay in
+      any-at (same_standing c) (filter stays (standing columns)) left-at.0 c left-at.1 (same-self c stands)
+  at false goes = list_any_none (same_standing c) (filter stays (standing columns)) (λ k d below. false_from_ne_true (same_standing c (get_or (filter stays (standing columns)) k d)) (λ same.
+      (let is = (same-is c (get_or (filter stays (standing columns)) k d) same).0 in
+      let passes = filter-passes stays (standing columns) k (get_or (filter stays (standing columns)) k d) (slice_get-get_or (filter stays (standing columns)) k d below) in
+      let stay : stays c ≡ true = ap stays is ∙ passes in
+      cc)))
+
+module _ (next : Next ℕ Note) (old new : GroupRecord ℕ Note) (step : IsRecovery next old new) (sound : IsSound next old) (received sent : ℕ → ℕ)
+    (is_received : (m : ℕ) → m < old.config.members → received m ≡ (member new m).received) (is_sent : (m : ℕ) → m < old.config.members → sent m ≡ length (member new m).log) where
+  pub sound-new : IsSound next new
+  sound-new = group_recovery_keeps next old new step sound
+
+  obeys-new : WellFormed old.config.members (marks new)
+  obeys-new = cut-obeys sound step.trace
+
+  -- the events that stay are those that are within the counts
+  stays-within : (i : ℕ) (e : Event Note) → slice_get old.trace i ≡ Some e → stays_by old.down (member new) (mark_of e) ≡ not (is_beyond received sent (event_column next old.config.members old.trace e))
+  stays-within i (event.Send q k p note) here =
+      let at = mark-at old.trace i (event.Send q k p note) here in
+      let below = (sound.lawful.well_formed i (mark.Send q k p) at).0 in
+      elim (down_or_up old.down q) [
+        | inl down ↦ rw (down, is_sent q below) (grind (arith, nat_tests))
+        | inr up ↦
+            let number = sent-number old.config.members (marks old) sound.lawful.well_formed q k p (i, at) in
+            let had = log_counted next old sound q below up in
+            let survives = ap (λ (m : MemberRecord ℕ Note). length m.log) (step.rest.survivors q up) in
+            rw (up, is_sent q below, survives, had) (grind (arith, nat_tests))
+      ]
+  stays-within i (event.Receipt p r q k) here =
+      let at = mark-at old.trace i (event.Receipt p r q k) here in
+      let below = (sound.lawful.well_formed i (mark.Receipt p r q k) at).1 in
+      elim (down_or_up old.down p) [
+        | inl down ↦ rw (down, is_received p below) (grind (arith, nat_tests))
+        | inr up ↦
+            let number = receipt-number old.config.members (marks old) p r q k sound.lawful.well_formed (i, at) in
+            let had = received_counted next old sound p below up in
+            let survives = ap (λ (m : MemberRecord ℕ Note). m.received) (step.rest.survivors p up) in
+            rw (up, is_received p below, survives, had) (grind (arith, nat_tests))
+      ]
+
+  left : new.trace ≡ filter (λ e. stays_by old.down (member new) (mark_of e)) old.trace
+  left = cut-one sound step.trace ∙ sym (stays_by-cut sound (member new)
+      (λ p below down. rw (step.rest.config, cut-one sound step.trace) at (fold-replayed {r = new} sound-new.lawful.well_formed (step.folds p below down)))
+      (λ p below down. fold-received {r = new} sound-new.lawful.well_formed (step.folds p below down) ∙ ap (λ (t : List (Event Note)). length (receipts_at (map mark_of t) p)) (cut-one sound step.trace)))
+
+  part : IsPart old.config.members new.trace old.trace
+  part = record {
+    obeys = obeys-new;
+    whole_obeys = sound.lawful.well_formed;
+    has = λ e there. (cut-was sound step.trace e there).0;
+    notes = λ q k x is. note-was old.config.members step.trace.0 old.trace sound.lawful.well_formed (cut-causes sound step.trace) q k x (rw step.trace.1 at is);
+  }
+
+  pub trace_less : trace_columns next new ≡ filter (λ c. not (is_beyond received sent c)) (trace_columns next old)
+  trace_less =
+      let column = event_column next old.config.members old.trace in
+      let stays : Column → Bool = λ c. not (is_beyond received sent c) in
+      ap (λ (c : Settings Note). map (event_column next c.members new.trace) new.trace) step.rest.config
+      ∙ same_columns part next
+      ∙ ap (map column) (left ∙ filter-agree _ (λ e. stays (column e)) old.trace stays-within)
+      ∙ filter-map column stays old.trace
+
+  undone-beyond : (columns : List Column) (i : ℕ) (c : Column) → slice_get columns i ≡ Some c
+      → undone_without (filter (λ x. not (is_beyond received sent x)) (standing columns)) c ≡ undone_beyond received sent c
+  undone-beyond columns i c here = at (is_standing c) refl where
+    stays : Column → Bool
+    stays x = not (is_beyond received sent x)
+
+    at : (s : Bool) → is_standing c ≡ s → undone_without (filter stays (standing columns)) c ≡ undone_beyond received sent c
+    at false lies = rw lies (elim (is_beyond received sent c) as (λ b. c ≡ cond b (undo c) c) [ true ↦ sym (undo-lies c lies) | false ↦ refl ])
+    at true stands =
+        let any = any-stays stays columns i c here stands in
+        rw (stands, any) (elim (is_beyond received sent c) as (λ b. cond (not (not b)) (undo c) c ≡ cond b (undo c) c) [ true ↦ refl | false ↦ refl ])
+
+  pub gone_back : (columns : List Column) → IsHistoryOf next old columns → go_on_to next columns new ≡ map (undone_beyond received sent) columns
+  gone_back columns history =
+      let stays : Column → Bool = λ c. not (is_beyond received sent c) in
+      ap (go_on columns) (trace_less ∙ ap (filter stays) (sym history.standing))
+      ∙ others_undone columns stays (subst HasEachOnce (sym history.standing) (trace_once next old sound))
+      ∙ map-agree _ _ columns (undone-beyond columns)
+
+  same-kind : (c : Column) → is_receipt (undone_beyond received sent c) ≡ is_receipt c
+  same-kind c = elim (is_beyond received sent c) as (λ b. is_receipt (cond b (undo c) c) ≡ is_receipt c) [ true ↦ undo-receipt c | false ↦ refl ]
+
+  pub follows_on : (columns : List Column) → IsHistoryOf next old columns → IsHistoryOf next new (go_on_to next columns new)
+  follows_on columns history =
+      let made = ap receipts_made (gone_back columns history) ∙ made-changed (undone_beyond received sent) columns same-kind in
+      counted_from next new (go_on_to next columns new) sound-new (standing_is_trace next new columns) (made ∙ history.counted.0 ∙ sym step.rest.receipts_ever)
+
+-- the column of a recovery is of no event
+pub recovery-lies : (r : GroupRecord ℕ Note) (received : ℕ → ℕ) (members : Members) (c : Column) → IsRecoveryColumn r received members c → (is_standing c ≡ false) × (is_receipt c ≡ false)
+recovery-lies r received members (Recovery replays) is = (refl, refl)
+recovery-lies r received members _ is = absurd is
+
+pub follows_recovery : (next : Next ℕ Note) (old new : GroupRecord ℕ Note) (members : Members) (columns after : List Column) → IsSound next old → IsRecovery next old new
+    → IsAfterRecovery next new members columns after → IsHistoryOf next old columns → IsHistoryOf next new after
+follows_recovery next old new members columns after sound step is history =
+    let lies = recovery-lies new (λ m. (member new m).received) members is.0 is.1 in
+    let gone = follows_on next old new step sound (λ m. (member new m).received) (λ m. length (member new m).log) (λ m below. refl) (λ m below. refl) columns history in
+    rw is.2 (pushed next new new (go_on_to next columns new) is.0 lies.0 lies.1 refl refl refl refl gone)

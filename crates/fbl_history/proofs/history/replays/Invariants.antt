@@ -1,8 +1,0 @@
-use Rattle.fbl_history.proofs.Common.{◌≡◌, map, take, member_list, replay_of}
-use Rattle.fbl_history.proofs.history.replays.Given as goal
-
-abbrev pub invariant-loop-member : goal.invariant-loop-member
-invariant-loop-member g l = record {
-  listed : l.member-items ≡ member_list l.fn.members;
-  replays : l.replays.items ≡ map (replay_of l.group) (take l.member-index l.member-items);
-}
