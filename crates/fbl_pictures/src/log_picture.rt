@@ -1,9 +1,121 @@
 //! The picture of a log.
 
+use crate::columns::Columns;
+use crate::cut::moment_columns;
+use crate::entries::Recorded;
+use crate::found::found_shapes;
+use crate::headings::{audit_words, heading, unsafe_words};
+use crate::picture::picture_text;
+use crate::run_events::{push_arrows, push_marks};
+use crate::run_members::{Lines, push_members};
+use crate::shape::{Legend, Shape};
+use fbl_audit::UnsafeReceipt;
+use fbl_base::audit::Audit;
 use fbl_input::{OutputFault, put};
-use fbl_moments::RunLog;
-use std::alloc::Global;
+use fbl_moments::{RunLog, UnsafeMoment, audit_log, last_dump, moment_reason, unsafe_moments};
+use std::alloc::{AllocError, Global};
 use std::io::Write;
+
+/// The shapes of a log that is safe at each moment, at its last one.
+fn safe_shapes(
+    alloc: Global,
+    audit: &Audit,
+    recorded: &Recorded,
+) -> Result<Vec<Shape>, AllocError> {
+    let dump = audit.dump();
+    let entries = recorded.entries();
+    let lines = Lines {
+        struck: dump.strike(),
+        starts: Columns::none(),
+        moment: Columns::none(),
+    };
+    let mut shapes = Vec::new(alloc);
+    push_members(&mut shapes, dump.members(), entries.len(), &lines)?;
+    push_arrows(&mut shapes, alloc, entries)?;
+    push_marks(&mut shapes, audit, recorded, None)?;
+    Ok(shapes)
+}
+
+fn safe_picture(
+    alloc: Global,
+    log: &RunLog,
+    audit: &Audit,
+    recorded: &Recorded,
+) -> Result<String, AllocError> {
+    let count = log.entries().len();
+    let last = audit_log(alloc, log)?;
+    let words = audit_words(alloc, log.strike(), last.lost.len(), last.orphans)?;
+    let title = heading(
+        alloc,
+        log.members(),
+        log.f(),
+        count,
+        "entries",
+        words.as_str(),
+    )?;
+    let shapes = safe_shapes(alloc, audit, recorded)?;
+    picture_text(
+        alloc,
+        title.as_str(),
+        log.members(),
+        count,
+        Legend::Log,
+        shapes.as_slice(),
+    )
+}
+
+fn unsafe_picture(
+    alloc: Global,
+    log: &RunLog,
+    audit: &Audit,
+    recorded: &Recorded,
+    said: &UnsafeMoment,
+) -> Result<String, AllocError> {
+    let count = log.entries().len();
+    let words = unsafe_words(
+        alloc,
+        &said.determinant,
+        Some(said.place),
+        said.strike,
+        said.orphans,
+    )?;
+    let title = heading(
+        alloc,
+        log.members(),
+        log.f(),
+        count,
+        "entries",
+        words.as_str(),
+    )?;
+    let reason = moment_reason(alloc, log, said)?;
+    let moment = moment_columns(log.members(), log.entries(), &reason.cut);
+    let found = UnsafeReceipt {
+        determinant: said.determinant,
+        strike: said.strike,
+        orphans: said.orphans,
+    };
+    let shapes = found_shapes(alloc, audit, recorded, &found, moment)?;
+    picture_text(
+        alloc,
+        title.as_str(),
+        log.members(),
+        count,
+        Legend::UnsafeLog,
+        shapes.as_slice(),
+    )
+}
+
+/// The picture of the log.
+fn log_picture(alloc: Global, log: &RunLog) -> Result<String, AllocError> {
+    let said = unsafe_moments(alloc, log)?;
+    let last = last_dump(alloc, log)?;
+    let audit = Audit::of(alloc, &last)?;
+    let recorded = Recorded::of(alloc, log.entries())?;
+    match said.first() {
+        Some(first) => unsafe_picture(alloc, log, &audit, &recorded, first),
+        None => safe_picture(alloc, log, &audit, &recorded),
+    }
+}
 
 /// Draws the log, and writes the picture as SVG: a line for each member, a mark for each entry and an arrow for each message. Where the
 /// log is unsafe at some moment, the picture is that of the first unsafe receipt at its first moment, and else of the last moment.
@@ -12,8 +124,6 @@ pub fn write_log_picture<W: Write>(
     log: &RunLog,
     writer: &mut W,
 ) -> Result<(), OutputFault> {
-    // to be written and proved
-    let _alloc = alloc;
-    let _entries = log.entries();
-    put(writer, b"")
+    let text = log_picture(alloc, log)?;
+    put(writer, text.as_bytes())
 }

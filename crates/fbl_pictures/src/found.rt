@@ -1,0 +1,51 @@
+//! What a picture shows of a receipt that a check found unsafe.
+
+use crate::columns::Columns;
+use crate::entries::{Recorded, placed_events};
+use crate::run_events::{push_arrows, push_marks};
+use crate::run_members::{Lines, push_members, push_moment};
+use crate::run_paths::{push_paths_to, starts_of};
+use crate::shape::Shape;
+use fbl_audit::{Paths, UnsafeReceipt};
+use fbl_base::audit::Audit;
+use fbl_base::{Determinant, Mark};
+use std::alloc::{AllocError, Global};
+
+/// The place of the receipt with the determinant.
+fn place_of(events: &[Mark], determinant: &Determinant) -> usize
+{
+    for place in 0..events.len() {
+        if events[place].determinant() == Some(*determinant) {
+            return place;
+        }
+    }
+    unreachable!()
+}
+
+/// The shapes of a run of which a check found this receipt, at a moment if there is one.
+pub(crate) fn found_shapes(
+    alloc: Global,
+    audit: &Audit,
+    recorded: &Recorded,
+    found: &UnsafeReceipt,
+    moment: Columns,
+) -> Result<Vec<Shape>, AllocError>
+{
+    let dump = audit.dump();
+    let entries = recorded.entries();
+    let events = placed_events(alloc, entries)?;
+    let paths = Paths::of(audit, place_of(dump.events(), &found.determinant));
+    let starts = starts_of(alloc, &paths, events.as_slice(), found.orphans)?;
+    let lines = Lines {
+        struck: found.strike,
+        starts,
+        moment,
+    };
+    let mut shapes = Vec::new(alloc);
+    push_members(&mut shapes, dump.members(), entries.len(), &lines)?;
+    push_arrows(&mut shapes, alloc, entries)?;
+    push_moment(&mut shapes, dump.members(), &lines.moment)?;
+    push_paths_to(&mut shapes, alloc, &paths, events.as_slice(), found.orphans)?;
+    push_marks(&mut shapes, audit, recorded, Some(found.determinant))?;
+    Ok(shapes)
+}
