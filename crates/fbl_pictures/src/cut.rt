@@ -1,5 +1,10 @@
 //! Where the line of a moment crosses the members' lines.
 
+ghost use Rattle.std.specs.Prelude.{◌≡◌, ◌<◌, ◌+◌, ◌≤◌, ℕ, Some, length, slice_get};
+ghost use Rattle.fbl_moments.specs.Entries.{entry_member, log_of};
+ghost use Rattle.fbl_moments.specs.Reasons.{cut_in};
+ghost use Rattle.fbl_pictures.specs.LogPictures.{AreCrossings, IsCrossingOf, IsEnd};
+
 use crate::columns::Columns;
 use fbl_base::Member;
 use fbl_moments::Entry;

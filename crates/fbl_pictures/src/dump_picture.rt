@@ -1,5 +1,10 @@
 //! The picture of a dump.
 
+ghost use Rattle.std.specs.Prelude.{◌≡◌, ◌⊎◌, IfOk, MatchOption, string_bytes};
+ghost use Rattle.fbl_audit.specs.Checking.{IsSafe};
+ghost use Rattle.fbl_input.specs.Faults.{PutsOut};
+ghost use Rattle.fbl_pictures.specs.DumpPictures.{AreShapesOf, HasOrphan, IsAuditedPicture, IsFirstUnsafe, IsPicture, IsUnsafePicture, dump_entries};
+
 use crate::columns::Columns;
 use crate::entries::{Recorded, entries_of, placed_events};
 use crate::found::found_shapes;
@@ -20,7 +25,10 @@ fn audited_shapes(
     alloc: Global,
     audit: &Audit,
     recorded: &Recorded,
-) -> Result<Vec<Shape>, AllocError> {
+) -> Result<Vec<Shape>, AllocError>
+    requires { recorded.now ≡ dump_entries audit.now }
+    ensures { IfOk result (λ shapes. AreShapesOf audit.now shapes.items) }
+{
     let dump = audit.dump();
     let entries = recorded.entries();
     let events = placed_events(alloc, entries)?;
@@ -42,7 +50,10 @@ fn audited_picture(
     alloc: Global,
     audit: &Audit,
     recorded: &Recorded,
-) -> Result<String, AllocError> {
+) -> Result<String, AllocError>
+    requires { recorded.now ≡ dump_entries audit.now }
+    ensures { IfOk result (λ text. IsAuditedPicture audit.now (string_bytes text)) }
+{
     let dump = audit.dump();
     let count = dump.events().len();
     let lost = audit.lost(alloc)?;
@@ -72,7 +83,11 @@ fn unsafe_picture(
     audit: &Audit,
     recorded: &Recorded,
     found: &UnsafeReceipt,
-) -> Result<String, AllocError> {
+) -> Result<String, AllocError>
+    requires recorded { recorded.now ≡ dump_entries audit.now }
+    requires found { IsFirstUnsafe audit.now found.now }
+    ensures { IfOk result (λ text. IsUnsafePicture audit.now found.now (string_bytes text)) }
+{
     let dump = audit.dump();
     let count = dump.events().len();
     let words = unsafe_words(alloc, &found.determinant, None, found.strike, found.orphans)?;
@@ -96,7 +111,9 @@ fn unsafe_picture(
 }
 
 /// The first receipt that a check finds unsafe, where the audit finds no orphan.
-fn first_found(alloc: Global, audit: &Audit) -> Result<Option<UnsafeReceipt>, AllocError> {
+fn first_found(alloc: Global, audit: &Audit) -> Result<Option<UnsafeReceipt>, AllocError>
+    ensures { IfOk result (λ r. MatchOption r (HasOrphan audit.now ⊎ IsSafe audit.now) (λ found. (¬ (HasOrphan audit.now)) × IsFirstUnsafe audit.now found)) }
+{
     if !audit.orphans().is_empty() {
         return Ok(None);
     }
@@ -105,7 +122,9 @@ fn first_found(alloc: Global, audit: &Audit) -> Result<Option<UnsafeReceipt>, Al
 }
 
 /// The picture of the dump.
-fn dump_picture(alloc: Global, dump: &Dump) -> Result<String, AllocError> {
+fn dump_picture(alloc: Global, dump: &Dump) -> Result<String, AllocError>
+    ensures { IfOk result (λ text. IsPicture dump.now (string_bytes text)) }
+{
     let audit = Audit::of(alloc, dump)?;
     let entries = entries_of(alloc, dump)?;
     let recorded = Recorded::of(alloc, entries.as_slice())?;
@@ -115,13 +134,15 @@ fn dump_picture(alloc: Global, dump: &Dump) -> Result<String, AllocError> {
     }
 }
 
-/// Draws the dump, and writes the picture as SVG: a line for each member, a mark for each event and an arrow for each message.
-/// The time taken is nearly linear in the events and the held pairs.
+/// Draws the dump, and writes the picture as SVG: a line for each member, a mark for each event and an arrow for each message. Where its
+/// strike set leaves no orphan and a check finds it unsafe, the picture shows the first unsafe receipt. The time taken is nearly linear in the events and the held pairs.
 pub fn write_picture<W: Write>(
     alloc: Global,
     dump: &Dump,
     writer: &mut W,
-) -> Result<(), OutputFault> {
+) -> Result<(), OutputFault>
+    ensures { PutsOut (λ _. IsPicture dump.now) (W.contents writer.old) (W.contents writer.new) result }
+{
     let text = dump_picture(alloc, dump)?;
     put(writer, text.as_bytes())
 }

@@ -1,5 +1,12 @@
 //! What a picture shows of a receipt that a check found unsafe.
 
+ghost use Rattle.std.specs.Prelude.{◌≡◌, ℕ, true, IfOk};
+ghost use Rattle.std.specs.FinSet as set;
+ghost use Rattle.fbl_base.specs.Events.{At, receipt_of};
+ghost use Rattle.fbl_base.specs.Precedence.{Depends, Has};
+ghost use Rattle.fbl_moments.specs.Entries.{marks};
+ghost use Rattle.fbl_pictures.specs.FoundPictures.{AreFoundShapes};
+
 use crate::columns::Columns;
 use crate::entries::{Recorded, placed_events};
 use crate::run_events::{push_arrows, push_marks};
@@ -13,6 +20,8 @@ use std::alloc::{AllocError, Global};
 
 /// The place of the receipt with the determinant.
 fn place_of(events: &[Mark], determinant: &Determinant) -> usize
+    requires { Has events.now (receipt_of determinant.now) }
+    ensures { At events.now result (receipt_of determinant.now) }
 {
     for place in 0..events.len() {
         if events[place].determinant() == Some(*determinant) {
@@ -30,6 +39,10 @@ pub(crate) fn found_shapes(
     found: &UnsafeReceipt,
     moment: Columns,
 ) -> Result<Vec<Shape>, AllocError>
+    requires events { audit.now.events ≡ marks recorded.now }
+    requires receipt { Has audit.now.events (receipt_of found.now.determinant) }
+    requires orphans { (q : ℕ) → set.contains found.now.orphans q ≡ true → Depends audit.now.events q (receipt_of found.now.determinant) }
+    ensures { IfOk result (λ shapes. AreFoundShapes audit.now recorded.now found.now (λ columns. columns ≡ moment) shapes.items) }
 {
     let dump = audit.dump();
     let entries = recorded.entries();
@@ -45,7 +58,14 @@ pub(crate) fn found_shapes(
     push_members(&mut shapes, dump.members(), entries.len(), &lines)?;
     push_arrows(&mut shapes, alloc, entries)?;
     push_moment(&mut shapes, dump.members(), &lines.moment)?;
-    push_paths_to(&mut shapes, alloc, &paths, events.as_slice(), found.orphans)?;
+    push_paths_to(
+        &mut shapes,
+        alloc,
+        &paths,
+        events.as_slice(),
+        found.orphans,
+        dump.members(),
+    )?;
     push_marks(&mut shapes, audit, recorded, Some(found.determinant))?;
     Ok(shapes)
 }

@@ -1,5 +1,14 @@
 //! The picture of a log.
 
+ghost use Rattle.std.specs.Prelude.{◌≡◌, [], None, IfOk, string_bytes};
+ghost use Rattle.fbl_input.specs.Faults.{PutsOut};
+ghost use Rattle.fbl_moments.specs.LastMoments.{dump_of};
+ghost use Rattle.fbl_moments.specs.Unsafe.{IsSaidOf};
+ghost use Rattle.fbl_pictures.specs.FoundPictures.{NoColumns};
+ghost use Rattle.fbl_pictures.specs.LogPictures.{IsLogPicture, IsSafePicture, IsUnsafePicture};
+ghost use Rattle.fbl_pictures.specs.RunPictures.{run_shapes};
+ghost use Rattle.fbl_pictures.specs.declared.run_members.Lines.{Lines};
+
 use crate::columns::Columns;
 use crate::cut::moment_columns;
 use crate::entries::Recorded;
@@ -21,7 +30,9 @@ fn safe_shapes(
     alloc: Global,
     audit: &Audit,
     recorded: &Recorded,
-) -> Result<Vec<Shape>, AllocError> {
+) -> Result<Vec<Shape>, AllocError>
+    ensures { IfOk result (λ shapes. (lines : Lines) × (lines.struck ≡ audit.now.strike) × NoColumns lines.starts × NoColumns lines.moment × (shapes.items ≡ run_shapes audit.now recorded.now None lines [])) }
+{
     let dump = audit.dump();
     let entries = recorded.entries();
     let lines = Lines {
@@ -36,12 +47,17 @@ fn safe_shapes(
     Ok(shapes)
 }
 
+/// The picture of the log's last moment.
 fn safe_picture(
     alloc: Global,
     log: &RunLog,
     audit: &Audit,
     recorded: &Recorded,
-) -> Result<String, AllocError> {
+) -> Result<String, AllocError>
+    requires audit { audit.now ≡ dump_of log.now }
+    requires recorded { recorded.now ≡ log.now.entries }
+    ensures { IfOk result (λ text. IsSafePicture log.now (string_bytes text)) }
+{
     let count = log.entries().len();
     let last = audit_log(alloc, log)?;
     let words = audit_words(alloc, log.strike(), last.lost.len(), last.orphans)?;
@@ -64,13 +80,19 @@ fn safe_picture(
     )
 }
 
+/// The picture of the log with what is said of one of its receipts.
 fn unsafe_picture(
     alloc: Global,
     log: &RunLog,
     audit: &Audit,
     recorded: &Recorded,
     said: &UnsafeMoment,
-) -> Result<String, AllocError> {
+) -> Result<String, AllocError>
+    requires audit { audit.now ≡ dump_of log.now }
+    requires recorded { recorded.now ≡ log.now.entries }
+    requires said { IsSaidOf log.now said.now.determinant said.now }
+    ensures { IfOk result (λ text. IsUnsafePicture log.now said.now (string_bytes text)) }
+{
     let count = log.entries().len();
     let words = unsafe_words(
         alloc,
@@ -106,7 +128,9 @@ fn unsafe_picture(
 }
 
 /// The picture of the log.
-fn log_picture(alloc: Global, log: &RunLog) -> Result<String, AllocError> {
+fn log_picture(alloc: Global, log: &RunLog) -> Result<String, AllocError>
+    ensures { IfOk result (λ text. IsLogPicture log.now (string_bytes text)) }
+{
     let said = unsafe_moments(alloc, log)?;
     let last = last_dump(alloc, log)?;
     let audit = Audit::of(alloc, &last)?;
@@ -123,7 +147,9 @@ pub fn write_log_picture<W: Write>(
     alloc: Global,
     log: &RunLog,
     writer: &mut W,
-) -> Result<(), OutputFault> {
+) -> Result<(), OutputFault>
+    ensures { PutsOut (λ _. IsLogPicture log.now) (W.contents writer.old) (W.contents writer.new) result }
+{
     let text = log_picture(alloc, log)?;
     put(writer, text.as_bytes())
 }

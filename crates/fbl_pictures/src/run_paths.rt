@@ -1,10 +1,13 @@
 //! Paths from lost receipts to orphans.
 
-ghost use Rattle.std.specs.Prelude.{◌≡◌, ◌++◌, List, IfOk, OnOk, slice_get};
+ghost use Rattle.std.specs.Prelude.{◌≡◌, ◌++◌, ◌<◌, ℕ, List, true, false, IfOk, IfNone, IfSome, OnOk, length, map, slice_get};
+ghost use Rattle.std.specs.FinSet as set;
 ghost use Rattle.std.specs.List.{range_with_len};
-ghost use Rattle.fbl_pictures.specs.RunPictures.{path_shapes, placed_from, step_between as step_between_of, step_shape};
-ghost use Rattle.fbl_pictures.specs.DumpPictures.{ArePathsDrawn};
-ghost use Rattle.fbl_pictures.specs.FoundPictures.{AreFoundPaths, AreFoundStarts, IsFound};
+ghost use Rattle.fbl_base.specs.Precedence.{DependsOnPlace};
+ghost use Rattle.fbl_audit.specs.Paths.{IsPathTo};
+ghost use Rattle.fbl_pictures.specs.RunPictures.{column_in, path_shapes, placed_from, step_between as step_between_of, step_shape};
+ghost use Rattle.fbl_pictures.specs.DumpPictures.{ArePathsDrawn, dump_entries};
+ghost use Rattle.fbl_pictures.specs.FoundPictures.{ArePaths, IsStart};
 ghost use Rattle.fbl_pictures.specs.declared.shape.Shape.{Shape};
 
 use crate::columns::Columns;
@@ -74,6 +77,8 @@ pub(crate) fn push_paths(
     audit: &Audit,
     events: &[Placed],
 ) -> Result<(), AllocError>
+    requires { events.now ≡ placed_from 0 (dump_entries audit.now) }
+    ensures { OnOk result ((paths : List Shape) × ArePathsDrawn audit.now (range_with_len 0 audit.now.members) paths × (shapes.new.items ≡ shapes.old.items ++ paths)) }
 {
     for number in 0..audit.dump().members() {
         if let Some(path) = orphan_path(alloc, audit, Member::at(number))? {
@@ -83,49 +88,87 @@ pub(crate) fn push_paths(
     Ok(())
 }
 
-/// Adds a path to each of the members.
+/// A path to the member, if it is an orphan.
+fn path_to(
+    alloc: Global,
+    paths: &Paths<'_>,
+    orphans: MemberSet,
+    member: Member,
+) -> Result<Option<Vec<usize>>, AllocError>
+    requires { (q : ℕ) → set.contains orphans q ≡ true → DependsOnPlace paths.now.events q paths.now.place }
+    ensures path { IfOk result (λ found. IfSome found (λ path. (set.contains orphans member ≡ true) × IsPathTo paths.now member path.items)) }
+    ensures none { IfOk result (λ found. IfNone found (set.contains orphans member ≡ false)) }
+{
+    if orphans.has(member) {
+        paths.to(alloc, member)
+    } else {
+        Ok(None)
+    }
+}
+
+/// Adds a path to each orphan among so many members.
 pub(crate) fn push_paths_to(
     shapes: &mut Vec<Shape>,
     alloc: Global,
     paths: &Paths<'_>,
     events: &[Placed],
     orphans: MemberSet,
+    members: u8,
 ) -> Result<(), AllocError>
+    requires { (q : ℕ) → set.contains orphans q ≡ true → DependsOnPlace paths.now.events q paths.now.place }
+    ensures { OnOk result ((drawn : List Shape) × ArePaths paths.now events.now orphans (range_with_len 0 members) drawn × (shapes.new.items ≡ shapes.old.items ++ drawn)) }
 {
-    for number in 0..16u8 {
+    for number in 0..members {
         let member = Member::at(number);
-        if orphans.has(member) {
-            if let Some(path) = paths.to(alloc, member)? {
-                push_path(shapes, events, path.as_slice())?;
-            }
+        if let Some(path) = path_to(alloc, paths, orphans, member)? {
+            push_path(shapes, events, path.as_slice())?;
         }
     }
     Ok(())
 }
 
 /// The column of the last event of a path.
-fn end_of(events: &[Placed], path: &[usize]) -> Option<usize> {
+fn end_of(events: &[Placed], path: &[usize]) -> Option<usize>
+    ensures { result ≡ end_column events.now path.now }
+{
     let end = events.get(*path.last()?)?;
     Some(end.column)
 }
 
-/// The columns at which the members start to depend on where the paths begin.
+/// The column of the member's first event that depends on where the paths begin, if it is an orphan.
+fn start_of(
+    alloc: Global,
+    paths: &Paths<'_>,
+    events: &[Placed],
+    orphans: MemberSet,
+    member: Member,
+) -> Result<Option<usize>, AllocError>
+    requires depend { (q : ℕ) → set.contains orphans q ≡ true → DependsOnPlace paths.now.events q paths.now.place }
+    requires events { length events.now ≡ length paths.now.events }
+    ensures { IfOk result (IsStart paths.now events.now orphans member) }
+{
+    match path_to(alloc, paths, orphans, member)? {
+        Some(path) => Ok(end_of(events, path.as_slice())),
+        None => Ok(None),
+    }
+}
+
+/// The columns of the orphans' first events that depend on where the paths begin.
 pub(crate) fn starts_of(
     alloc: Global,
     paths: &Paths<'_>,
     events: &[Placed],
     orphans: MemberSet,
 ) -> Result<Columns, AllocError>
+    requires depend { (q : ℕ) → set.contains orphans q ≡ true → DependsOnPlace paths.now.events q paths.now.place }
+    requires events { length events.now ≡ length paths.now.events }
+    ensures { IfOk result (λ starts. (q : ℕ) → q < 16 → IsStart paths.now events.now orphans q (column_in starts q)) }
 {
     let mut starts = Columns::none();
     for number in 0..16u8 {
         let member = Member::at(number);
-        if orphans.has(member) {
-            if let Some(path) = paths.to(alloc, member)? {
-                if let Some(column) = end_of(events, path.as_slice()) {
-                    starts.set(member, column);
-                }
-            }
+        if let Some(column) = start_of(alloc, paths, events, orphans, member)? {
+            starts.set(member, column);
         }
     }
     Ok(starts)
