@@ -1,5 +1,5 @@
 -- What is drawn of a receipt that a check found: the members whose loss loses it, whom they leave as orphans of it, and why.
-use Rattle.std.specs.Prelude.{ℕ, ◌≡◌, ◌<◌, ◌⊎◌, true, false, List, [], ◌∷◌, ◌++◌, Option, Some, None, slice_get}
+use Rattle.std.specs.Prelude.{ℕ, ◌≡◌, ◌-◌, ◌<◌, ◌⊎◌, true, false, List, [], ◌∷◌, ◌++◌, Option, Some, None, length, option_and_then, slice_get}
 use Rattle.std.specs.List.{range_with_len}
 use Rattle.std.specs.FinSet as set
 use Rattle.fbl_base.specs.Audit.{Parts}
@@ -24,6 +24,14 @@ IsStart origin events orphans member None = set.contains orphans member ≡ fals
 IsStart origin events orphans member (Some column) =
     (set.contains orphans member ≡ true)
     × ((j : ℕ) × (e : Placed) × IsFirstDependent origin.events origin.place member j × (slice_get events j ≡ Some e) × (e.column ≡ column))
+
+-- the column of the last event of a path by these places, if there is one
+abbrev pub column_of : Option Placed → Option ℕ
+column_of None = None
+column_of (Some e) = Some e.column
+
+abbrev pub column_of_end : List Placed → List ℕ → Option ℕ
+column_of_end events path = column_of (option_and_then (slice_get events) (slice_get path (length path - 1)))
 
 -- the steps of a path to the member, if it is an orphan, and else none
 abbrev pub AreSteps : Origin → List Placed → Members → ℕ → List Shape → Type 0

@@ -97,15 +97,13 @@ numbers column member d =
 unfoldable pub drawn_hold : ℕ → ℕ → Determinant → List ℕ
 drawn_hold column member d =
     joined (codes "<path class='hold' d='M" ∷ decimal (x column - 5) ∷ codes " " ∷ decimal (y member) ∷ codes "a5 5 0 0 0 10 0z'><title>member " ∷ decimal member ∷ codes " holds receipt " ∷ decimal d.rsn
-    ∷ codes " of member " ∷ decimal d.to ∷ codes "</title></path>\n" ∷ [])
-    ++ numbers column member d
+    ∷ codes " of member " ∷ decimal d.to ∷ codes "</title></path>\n" ∷ numbers column member d ∷ [])
 
 -- a store: a small square on its member's line
 unfoldable pub drawn_store : ℕ → ℕ → Determinant → List ℕ
 drawn_store column member d =
     joined (codes "<rect class='store' x='" ∷ decimal (x column - 4) ∷ codes "' y='" ∷ decimal (y member - 4) ∷ codes "' width='8' height='8'><title>member " ∷ decimal member ∷ codes " stores receipt "
-    ∷ decimal d.rsn ∷ codes " of member " ∷ decimal d.to ∷ codes "</title></rect>\n" ∷ [])
-    ++ numbers column member d
+    ∷ decimal d.rsn ∷ codes " of member " ∷ decimal d.to ∷ codes "</title></rect>\n" ∷ numbers column member d ∷ [])
 
 -- a strike: a bolt on the line of a member that it strikes
 unfoldable pub drawn_strike : ℕ → ℕ → List ℕ

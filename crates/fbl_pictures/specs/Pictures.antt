@@ -49,8 +49,8 @@ unfoldable pub opening : List ℕ → ℕ → ℕ → Legend → List ℕ
 opening title width height legend =
     joined (codes "<svg class='fbl' xmlns='http://www.w3.org/2000/svg' viewBox='0 0 " ∷ decimal width ∷ codes " " ∷ decimal height ∷ codes "' width='"
     ∷ decimal width
-    ∷ codes "' height='" ∷ decimal height ∷ codes "' role='img'>\n<title>" ∷ title ∷ codes "</title>\n" ∷ look ∷ more_look legend ∷ [])
-    ++ joined (codes "<rect class='back' width='" ∷ decimal width ∷ codes "' height='" ∷ decimal height ∷ codes "'/>\n<text class='head' x='16' y='28'>" ∷ title
+    ∷ codes "' height='" ∷ decimal height ∷ codes "' role='img'>\n<title>" ∷ title ∷ codes "</title>\n" ∷ look ∷ [])
+    ++ joined (more_look legend ∷ codes "<rect class='back' width='" ∷ decimal width ∷ codes "' height='" ∷ decimal height ∷ codes "'/>\n<text class='head' x='16' y='28'>" ∷ title
     ∷ codes "</text>\n" ∷ [])
 
 -- what the marks mean

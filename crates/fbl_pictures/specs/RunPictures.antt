@@ -186,8 +186,11 @@ path_shapes events (start ∷ end ∷ places) = option_to_list (step_between (sl
 
 -- ---- the whole
 
--- the members' lines, the arrows, over them the moment and paths, and over these the marks; `dump` has who holds what in the end
+-- the members' lines, the arrows, and over them the line of the moment
+abbrev pub lines_and_arrows : ℕ → List Entry → Lines → List Shape
+lines_and_arrows members entries lines =
+    members_drawn members (length entries) lines ++ drawn (entry_arrow entries) 0 entries ++ moment_drawn members lines.moment
+
+-- these, over them paths, and over these the marks; `dump` has who holds what in the end
 unfoldable pub run_shapes : Parts → List Entry → Option Determinant → Lines → List Shape → List Shape
-run_shapes dump entries found lines paths =
-    members_drawn dump.members (length entries) lines ++ drawn (entry_arrow entries) 0 entries ++ moment_drawn dump.members lines.moment ++ paths
-    ++ drawn (entry_marks dump entries found) 0 entries
+run_shapes dump entries found lines paths = lines_and_arrows dump.members entries lines ++ paths ++ drawn (entry_marks dump entries found) 0 entries

@@ -10,9 +10,10 @@ use crate::entries::{Recorded, entries_of, placed_events};
 use crate::found::found_shapes;
 use crate::headings::{audit_words, heading, unsafe_words};
 use crate::picture::picture_text;
-use crate::run_events::{push_arrows, push_marks};
-use crate::run_members::{Lines, push_members};
+use crate::run_events::{Receipts, push_marks};
+use crate::run_members::Lines;
 use crate::run_paths::push_paths;
+use crate::run_picture::lines_and_arrows;
 use crate::shape::{Legend, Shape};
 use fbl_audit::{UnsafeReceipt, orphan_starts, unsafe_receipts};
 use fbl_base::audit::{Audit, Dump};
@@ -37,11 +38,14 @@ fn audited_shapes(
         starts: Columns::of(orphan_starts(audit)),
         moment: Columns::none(),
     };
-    let mut shapes = Vec::new(alloc);
-    push_members(&mut shapes, dump.members(), entries.len(), &lines)?;
-    push_arrows(&mut shapes, alloc, entries)?;
+    let receipts = Receipts {
+        audit,
+        recorded,
+        found: None,
+    };
+    let mut shapes = lines_and_arrows(alloc, dump.members(), entries, &lines)?;
     push_paths(&mut shapes, alloc, audit, events.as_slice())?;
-    push_marks(&mut shapes, audit, recorded, None)?;
+    push_marks(&mut shapes, &receipts)?;
     Ok(shapes)
 }
 

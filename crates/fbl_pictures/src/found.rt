@@ -9,9 +9,10 @@ ghost use Rattle.fbl_pictures.specs.FoundPictures.{AreFoundShapes};
 
 use crate::columns::Columns;
 use crate::entries::{Recorded, placed_events};
-use crate::run_events::{push_arrows, push_marks};
-use crate::run_members::{Lines, push_members, push_moment};
+use crate::run_events::{Receipts, push_marks};
+use crate::run_members::Lines;
 use crate::run_paths::{push_paths_to, starts_of};
+use crate::run_picture::lines_and_arrows;
 use crate::shape::Shape;
 use fbl_audit::{Paths, UnsafeReceipt};
 use fbl_base::audit::Audit;
@@ -23,8 +24,8 @@ fn place_of(events: &[Mark], determinant: &Determinant) -> usize
     requires { Has events.now (receipt_of determinant.now) }
     ensures { At events.now result (receipt_of determinant.now) }
 {
-    for place in 0..events.len() {
-        if events[place].determinant() == Some(*determinant) {
+    for (place, event) in events.iter().enumerate() {
+        if event.determinant() == Some(*determinant) {
             return place;
         }
     }
@@ -54,10 +55,12 @@ pub(crate) fn found_shapes(
         starts,
         moment,
     };
-    let mut shapes = Vec::new(alloc);
-    push_members(&mut shapes, dump.members(), entries.len(), &lines)?;
-    push_arrows(&mut shapes, alloc, entries)?;
-    push_moment(&mut shapes, dump.members(), &lines.moment)?;
+    let receipts = Receipts {
+        audit,
+        recorded,
+        found: Some(found.determinant),
+    };
+    let mut shapes = lines_and_arrows(alloc, dump.members(), entries, &lines)?;
     push_paths_to(
         &mut shapes,
         alloc,
@@ -66,6 +69,6 @@ pub(crate) fn found_shapes(
         found.orphans,
         dump.members(),
     )?;
-    push_marks(&mut shapes, audit, recorded, Some(found.determinant))?;
+    push_marks(&mut shapes, &receipts)?;
     Ok(shapes)
 }

@@ -23,6 +23,7 @@ mod places;
 mod run_events;
 mod run_members;
 mod run_paths;
+mod run_picture;
 mod shape;
 mod words;
 

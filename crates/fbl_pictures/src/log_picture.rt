@@ -15,8 +15,9 @@ use crate::entries::Recorded;
 use crate::found::found_shapes;
 use crate::headings::{audit_words, heading, unsafe_words};
 use crate::picture::picture_text;
-use crate::run_events::{push_arrows, push_marks};
-use crate::run_members::{Lines, push_members};
+use crate::run_events::{Receipts, push_marks};
+use crate::run_members::Lines;
+use crate::run_picture::lines_and_arrows;
 use crate::shape::{Legend, Shape};
 use fbl_audit::UnsafeReceipt;
 use fbl_base::audit::Audit;
@@ -40,10 +41,13 @@ fn safe_shapes(
         starts: Columns::none(),
         moment: Columns::none(),
     };
-    let mut shapes = Vec::new(alloc);
-    push_members(&mut shapes, dump.members(), entries.len(), &lines)?;
-    push_arrows(&mut shapes, alloc, entries)?;
-    push_marks(&mut shapes, audit, recorded, None)?;
+    let receipts = Receipts {
+        audit,
+        recorded,
+        found: None,
+    };
+    let mut shapes = lines_and_arrows(alloc, dump.members(), entries, &lines)?;
+    push_marks(&mut shapes, &receipts)?;
     Ok(shapes)
 }
 

@@ -1,8 +1,6 @@
 //! The marks of entries and the arrows of messages.
 
-ghost use Rattle.std.specs.Prelude.{◌≡◌, ◌++◌, Option, IfOk, OnOk, option_and_then};
-ghost use Rattle.fbl_base.specs.declared.trace.Determinant.{Determinant};
-ghost use Rattle.fbl_moments.specs.Entries.{mark_in};
+ghost use Rattle.std.specs.Prelude.{◌≡◌, ◌++◌, IfOk, OnOk};
 ghost use Rattle.fbl_pictures.specs.RunPictures.{IsPlacesOf, entry_arrow, entry_mark, entry_marks, event_arrow, event_mark, kind_in, kind_of, message_arrow, taken_by, taken_in};
 ghost use Rattle.fbl_pictures.specs.Places.{drawn};
 
@@ -18,6 +16,17 @@ use std::hash::{BuildHasherDefault, FoldHasher};
 /// For each message that is received, the place of its receipt.
 type ReceiptPlaces = HashMap<MessageName, usize, BuildHasherDefault<FoldHasher>>;
 
+/// What is known of the receipts of a run.
+#[derive(Clone, Copy)]
+pub(crate) struct Receipts<'a> {
+    /// Who holds each in the end.
+    pub(crate) audit: &'a Audit<'a>,
+    /// Which ones are on stable storage.
+    pub(crate) recorded: &'a Recorded<'a>,
+    /// The one that a check found, if it found one.
+    pub(crate) found: Option<Determinant>,
+}
+
 /// The kind of the receipt with the determinant, by who holds it.
 fn held_kind(audit: &Audit, determinant: &Determinant) -> Kind
     ensures { result ≡ kind_of audit.now determinant.now }
@@ -30,22 +39,6 @@ fn held_kind(audit: &Audit, determinant: &Determinant) -> Kind
         Kind::Stable
     } else {
         Kind::Recorded
-    }
-}
-
-/// The kind of the receipt with the determinant, where a check found this one.
-fn receipt_kind(
-    audit: &Audit,
-    recorded: &Recorded,
-    found: Option<Determinant>,
-    determinant: &Determinant,
-) -> Kind
-    ensures { result ≡ kind_in audit.now recorded.now found determinant.now }
-{
-    match found {
-        Some(lost) if lost == *determinant => Kind::Lost,
-        _ if recorded.is_stored(determinant) => Kind::Stable,
-        _ => held_kind(audit, determinant),
     }
 }
 
@@ -81,79 +74,77 @@ fn receipt_places(alloc: Global, entries: &[Entry]) -> Result<ReceiptPlaces, All
     Ok(places)
 }
 
-/// The mark of an event.
-fn mark_of_event(
-    audit: &Audit,
-    recorded: &Recorded,
-    found: Option<Determinant>,
-    place: usize,
-    event: Mark,
-) -> Shape
-    ensures { result ≡ event_mark audit.now recorded.now found place event }
-{
-    match event {
-        Mark::Send { from, ssn, to } => Shape::Send {
-            column: place,
-            from,
-            ssn,
-            to,
-            undone: false,
-        },
-        Mark::Receipt { to, rsn, from, ssn } => {
-            let determinant = Determinant { from, ssn, to, rsn };
-            Shape::Held {
+impl Receipts<'_> {
+    /// The kind of the receipt with the determinant.
+    fn kind(&self, determinant: &Determinant) -> Kind
+        ensures { result ≡ kind_in self.now.audit.now self.now.recorded.now self.now.found determinant.now }
+    {
+        if self.found == Some(*determinant) {
+            Kind::Lost
+        } else if self.recorded.is_stored(determinant) {
+            Kind::Stable
+        } else {
+            held_kind(self.audit, determinant)
+        }
+    }
+
+    /// The mark of an event.
+    fn event_mark(&self, place: usize, event: Mark) -> Shape
+        ensures { result ≡ event_mark self.now.audit.now self.now.recorded.now self.now.found place event }
+    {
+        match event {
+            Mark::Send { from, ssn, to } => Shape::Send {
                 column: place,
-                determinant,
-                kind: receipt_kind(audit, recorded, found, &determinant),
-                holders: audit.holders(&determinant),
+                from,
+                ssn,
+                to,
+                undone: false,
+            },
+            Mark::Receipt { to, rsn, from, ssn } => {
+                let determinant = Determinant { from, ssn, to, rsn };
+                Shape::Held {
+                    column: place,
+                    determinant,
+                    kind: self.kind(&determinant),
+                    holders: self.audit.holders(&determinant),
+                }
             }
+        }
+    }
+
+    /// The mark of an entry.
+    fn mark(&self, place: usize, entry: Entry) -> Shape
+        ensures { result ≡ entry_mark self.now.audit.now self.now.recorded.now self.now.found place entry }
+    {
+        match entry {
+            Entry::Event(event) => self.event_mark(place, event),
+            Entry::Hold {
+                holder,
+                determinant,
+            } => Shape::Hold {
+                column: place,
+                member: holder,
+                determinant,
+            },
+            Entry::Store {
+                member,
+                determinant,
+            } => Shape::Store {
+                column: place,
+                member,
+                determinant,
+            },
         }
     }
 }
 
-/// The mark of an entry.
-fn mark(
-    audit: &Audit,
-    recorded: &Recorded,
-    found: Option<Determinant>,
-    place: usize,
-    entry: Entry,
-) -> Shape
-    ensures { result ≡ entry_mark audit.now recorded.now found place entry }
+/// Adds the marks of all entries.
+pub(crate) fn push_marks(shapes: &mut Vec<Shape>, receipts: &Receipts<'_>) -> Result<(), AllocError>
+    ensures { OnOk result (shapes.new.items ≡ shapes.old.items ++ drawn (entry_marks receipts.now.audit.now receipts.now.recorded.now receipts.now.found) 0 receipts.now.recorded.now) }
 {
-    match entry {
-        Entry::Event(event) => mark_of_event(audit, recorded, found, place, event),
-        Entry::Hold {
-            holder,
-            determinant,
-        } => Shape::Hold {
-            column: place,
-            member: holder,
-            determinant,
-        },
-        Entry::Store {
-            member,
-            determinant,
-        } => Shape::Store {
-            column: place,
-            member,
-            determinant,
-        },
-    }
-}
-
-/// Adds the marks of all entries, where a check found this receipt.
-pub(crate) fn push_marks(
-    shapes: &mut Vec<Shape>,
-    audit: &Audit,
-    recorded: &Recorded,
-    found: Option<Determinant>,
-) -> Result<(), AllocError>
-    ensures { OnOk result (shapes.new.items ≡ shapes.old.items ++ drawn (entry_marks audit.now recorded.now found) 0 recorded.now) }
-{
-    let entries = recorded.entries();
+    let entries = receipts.recorded.entries();
     for place in 0..entries.len() {
-        shapes.push(mark(audit, recorded, found, place, entries[place]))?;
+        shapes.push(receipts.mark(place, entries[place]))?;
     }
     Ok(())
 }

@@ -1,6 +1,6 @@
 //! The labels and the lines of members, and the line of a moment.
 
-ghost use Rattle.std.specs.Prelude.{◌≡◌, ◌++◌, ◌+◌, OnOk};
+ghost use Rattle.std.specs.Prelude.{◌≡◌, ◌++◌, ◌≤◌, OnOk};
 ghost use Rattle.std.specs.Option.{option_to_list};
 ghost use Rattle.fbl_pictures.specs.RunPictures.{column_in, member_line, member_shapes, members_drawn, moment_drawn, moment_part as moment_part_of, run_status};
 
@@ -82,6 +82,7 @@ pub(crate) fn push_members(
     columns: usize,
     lines: &Lines,
 ) -> Result<(), AllocError>
+    requires { members ≤ 16 }
     ensures { OnOk result (shapes.new.items ≡ shapes.old.items ++ members_drawn members columns lines.now) }
 {
     for number in 0..members {
@@ -118,6 +119,7 @@ pub(crate) fn push_moment(
     members: u8,
     moment: &Columns,
 ) -> Result<(), AllocError>
+    requires { members ≤ 16 }
     ensures { OnOk result (shapes.new.items ≡ shapes.old.items ++ moment_drawn members moment.now) }
 {
     for number in 0..members {

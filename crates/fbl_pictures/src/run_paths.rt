@@ -1,13 +1,13 @@
 //! Paths from lost receipts to orphans.
 
-ghost use Rattle.std.specs.Prelude.{◌≡◌, ◌++◌, ◌<◌, ℕ, List, true, false, IfOk, IfNone, IfSome, OnOk, length, map, slice_get};
+ghost use Rattle.std.specs.Prelude.{◌≡◌, ◌++◌, ◌<◌, ◌≤◌, ℕ, List, true, false, IfOk, IfNone, IfSome, OnOk, length, map, slice_get};
 ghost use Rattle.std.specs.FinSet as set;
 ghost use Rattle.std.specs.List.{range_with_len};
 ghost use Rattle.fbl_base.specs.Precedence.{DependsOnPlace};
 ghost use Rattle.fbl_audit.specs.Paths.{IsPathTo};
 ghost use Rattle.fbl_pictures.specs.RunPictures.{column_in, path_shapes, placed_from, step_between as step_between_of, step_shape};
 ghost use Rattle.fbl_pictures.specs.DumpPictures.{ArePathsDrawn, dump_entries};
-ghost use Rattle.fbl_pictures.specs.FoundPictures.{ArePaths, IsStart};
+ghost use Rattle.fbl_pictures.specs.FoundPictures.{ArePaths, IsStart, column_of_end};
 ghost use Rattle.fbl_pictures.specs.declared.shape.Shape.{Shape};
 
 use crate::columns::Columns;
@@ -115,7 +115,8 @@ pub(crate) fn push_paths_to(
     orphans: MemberSet,
     members: u8,
 ) -> Result<(), AllocError>
-    requires { (q : ℕ) → set.contains orphans q ≡ true → DependsOnPlace paths.now.events q paths.now.place }
+    requires members { members ≤ 16 }
+    requires depend { (q : ℕ) → set.contains orphans q ≡ true → DependsOnPlace paths.now.events q paths.now.place }
     ensures { OnOk result ((drawn : List Shape) × ArePaths paths.now events.now orphans (range_with_len 0 members) drawn × (shapes.new.items ≡ shapes.old.items ++ drawn)) }
 {
     for number in 0..members {
@@ -129,7 +130,7 @@ pub(crate) fn push_paths_to(
 
 /// The column of the last event of a path.
 fn end_of(events: &[Placed], path: &[usize]) -> Option<usize>
-    ensures { result ≡ end_column events.now path.now }
+    ensures { result ≡ column_of_end events.now path.now }
 {
     let end = events.get(*path.last()?)?;
     Some(end.column)

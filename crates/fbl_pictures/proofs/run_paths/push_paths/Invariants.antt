@@ -1,6 +1,6 @@
 -- the paths so far, and those to the members to come, are the paths to all
 use Rattle.fbl_pictures.proofs.Common.{List, ◌≡◌, ◌++◌, ◌-◌, range_with_len, ArePathsDrawn, Shape}
-use Rattle.fbl_pictures.proofs.dump_paths.push_paths.Given as goal
+use Rattle.fbl_pictures.proofs.run_paths.push_paths.Given as goal
 
 abbrev pub invariant-loop-number : goal.invariant-loop-number
 invariant-loop-number l =
