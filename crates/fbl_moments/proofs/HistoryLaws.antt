@@ -1,10 +1,9 @@
 -- What the clocks of a history say.
-use Rattle.fbl_moments.proofs.Common.{ℕ, suc, Bool, true, false, cond, ◌≡◌, ◌==◌, ◌<◌, ◌≤◌, ◌+◌, ◌⊎◌, ◌↔◌, inl, inr, List, [], ◌∷◌, ◌++◌, length, length-append, max, refl, sym, ap, subst, ◌∙◌, arith}
-use Rattle.fbl_moments.proofs.Common.{At-push, nat_tests, cases_eq, cases_lt, eqb-true, slice_get_within, Entry, Logs, log_of, Position, Precedes, at, Cut, HasCome}
+use Rattle.fbl_moments.proofs.Common.{ℕ, suc, Bool, true, false, cond, ◌≡◌, ◌==◌, ◌<◌, ◌≤◌, ◌+◌, ◌⊎◌, ◌↔◌, inl, inr, List, [], ◌∷◌, ◌++◌, length, length-append, Some, slice_get, max, refl, sym, ap, subst, ◌∙◌, arith}
+use Rattle.fbl_moments.proofs.Common.{At-push, nat_tests, cases_eq, cases_lt, eqb-true, slice_get_within, Entry, entry_member, Logs, log_of, Position, Precedes, at, Cut, HasCome}
 use Rattle.std.proofs.Common.{nat_lt}
-use Rattle.fbl_moments.specs.declared.clock.Clock.{Clock}
 use Rattle.fbl_moments.specs.declared.clocks.Advance.{Advance}
-use Rattle.fbl_moments.specs.Clocks.{AreClocks, IsAdvance, IsClock, PrecedesSome, StandsAt, cut_of, seen}
+use Rattle.fbl_moments.specs.Clocks.{AreAdvances, IsAdvance, IsClock, PrecedesSome, StandsAt, cut_of, seen}
 use Rattle.fbl_moments.specs.Histories.{IsFirstAfter, IsLeastMomentOfReceipt}
 use Rattle.fbl_moments.specs.Indexes.{EndsStep}
 use Rattle.fbl_moments.proofs.ClockLaws.{IsClock-none, first_there, last_there}
@@ -89,21 +88,33 @@ moment_within logs m l end clock cut within is_clock ends counts q = at_member (
 
 -- ---- a pass
 
-pub AreClocks-none : (entries : List Entry) (clocks : List Clock) → clocks ≡ [] → AreClocks entries 0 clocks
-AreClocks-none entries clocks none = subst (λ (cs : List Clock). AreClocks entries 0 cs) (sym none) (record { count = refl; each = λ k c i there. cc })
+pub AreAdvances-none : (entries : List Entry) (advances : List Advance) → advances ≡ [] → AreAdvances entries 0 advances
+AreAdvances-none entries advances none = subst (λ (xs : List Advance). AreAdvances entries 0 xs) (sym none) (record { count = refl; each = λ k a there. cc })
 
 -- one entry more
-pub AreClocks-push : (entries : List Entry) (p : ℕ) (clocks : List Clock) (advance : Advance) → AreClocks entries p clocks → IsAdvance entries p advance → AreClocks entries (p + 1) (clocks ++ advance.with ∷ [])
-AreClocks-push entries p clocks advance are is = record {
-  count = (let c = are.count in omega (arith, c, length-append clocks (advance.with ∷ [])));
-  each = λ k c i there stands. elim (At-push clocks advance.with k c there) [
-    | inl old ↦ are.each k c i old stands
+pub AreAdvances-push : (entries : List Entry) (p : ℕ) (advances : List Advance) (advance : Advance) → AreAdvances entries p advances → IsAdvance entries p advance → AreAdvances entries (p + 1) (advances ++ advance ∷ [])
+AreAdvances-push entries p advances advance are is = record {
+  count = (let c = are.count in omega (arith, c, length-append advances (advance ∷ [])));
+  each = λ k a there. elim (At-push advances advance k a there) [
+    | inl old ↦ are.each k a old
     | inr new ↦
         let at_p : p ≡ k = (let n = are.count in omega (arith, new.0, n)) in
-        let stands' : StandsAt entries p i = subst (λ (k : ℕ). StandsAt entries k i) (sym at_p) stands in
-        let member : advance.member ≡ i.member = sym (is.member stands'.0 stands'.1) ∙ stands'.2 in
-        let number : advance.number ≡ i.number = is.number ∙ ap (seen entries p) member ∙ stands'.3 in
-        subst (λ (c : Clock). IsClock (log_of entries) i.member (i.number + 1) (cut_of c)) new.1
-        (subst (λ (k : ℕ). IsClock (log_of entries) i.member (k + 1) (cut_of advance.with)) number (subst (λ (m : ℕ). IsClock (log_of entries) m (advance.number + 1) (cut_of advance.with)) member is.with))
+        subst (λ (a : Advance). IsAdvance entries k a) new.1 (subst (λ (k : ℕ). IsAdvance entries k advance) at_p is)
   ];
 }
+
+-- what a pass knows of an entry at its position
+pub advance_at : (entries : List Entry) (p : ℕ) (i : Position) (advance : Advance) → IsAdvance entries p advance → StandsAt entries p i → (advance.member ≡ i.member) × (advance.number ≡ i.number)
+advance_at entries p i advance is stands =
+    let member : advance.member ≡ i.member = sym (is.member stands.0 stands.1) ∙ stands.2 in
+    (member, is.number ∙ ap (seen entries p) member ∙ stands.3)
+
+pub advance_clock : (entries : List Entry) (p : ℕ) (i : Position) (advance : Advance) → IsAdvance entries p advance → StandsAt entries p i → IsClock (log_of entries) i.member (i.number + 1) (cut_of advance.with)
+advance_clock entries p i advance is stands =
+    let same = advance_at entries p i advance is stands in
+    subst (λ (k : ℕ). IsClock (log_of entries) i.member (k + 1) (cut_of advance.with)) same.1
+    (subst (λ (m : ℕ). IsClock (log_of entries) m (advance.number + 1) (cut_of advance.with)) same.0 is.with)
+
+-- and the position by what it knows
+pub advance_stands : (entries : List Entry) (p : ℕ) (e : Entry) (advance : Advance) → IsAdvance entries p advance → slice_get entries p ≡ Some e → StandsAt entries p (at (entry_member e) advance.number)
+advance_stands entries p e advance is here = (e, here, refl, sym (is.number ∙ ap (seen entries p) (sym (is.member e here))))

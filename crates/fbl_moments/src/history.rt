@@ -20,20 +20,28 @@ use std::marker::Model;
 pub(crate) struct History<'a> {
     log: &'a RunLog,
     index: Index<'a>,
+    /// The clock at which nothing has come.
+    none: Clock,
     /// For each entry, at its place, what a pass over them knows of it.
     advances: Vec<Advance>,
 }
 
 impl<'a> Model for History<'a> {
-    ghost use Rattle.std.specs.Prelude.{◌≡◌, length};
+    ghost use Rattle.fbl_moments.specs.Histories.{AreOf};
     ghost use Rattle.fbl_moments.specs.Logs.{LogParts};
-    ghost use Rattle.fbl_moments.specs.Clocks.{AreAdvances};
 
     ghost Value = { LogParts };
 
+    ghost use Rattle.std.specs.Coded.{codes, coded_ℕ};
+    ghost use Rattle.std.specs.Ordering.{nat_cmp};
+    ghost use Rattle.std.specs.FinSet as set;
+    ghost use Rattle.fbl_moments.specs.contracts.entry.Entry as entry;
+
+    ghost coded = { Prim.hlevel (codes, entry.the_row.coded, set.code {R = nat_cmp} coded_ℕ) };
+
     ghost view = { λ h. h.log.now };
 
-    ghost invariant = { λ h. (h.index ≡ h.log.now.entries) × AreAdvances h.index (length h.index) h.advances.items };
+    ghost invariant = { λ h. AreOf h.log.now.entries h.index h.none h.advances.items };
 }
 
 impl<'a> History<'a> {
@@ -50,6 +58,7 @@ impl<'a> History<'a> {
         Ok(History {
             log,
             index,
+            none: Clock::none(),
             advances,
         })
     }
@@ -77,14 +86,14 @@ impl<'a> History<'a> {
     }
 
     /// The clock of the member's first entries, this many.
-    fn clock(&self, member: Member, count: usize) -> Clock
+    fn clock(&self, member: Member, count: usize) -> &Clock
         requires { count ≤ length (log_of self.now.entries member) }
-        ensures { IsClock (log_of self.now.entries) member count (cut_of result) }
+        ensures { IsClock (log_of self.now.entries) member count (cut_of result.now) }
     {
         if count == 0 {
-            return Clock::none();
+            return &self.none;
         }
-        self.advances[self.index.place(member, count - 1)].with
+        &self.advances[self.index.place(member, count - 1)].with
     }
 
     /// Whether the source's entry with the number precedes one of the member's first entries, this many.

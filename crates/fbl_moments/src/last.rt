@@ -75,18 +75,17 @@ fn loses(history: &History<'_>, determinant: &Determinant, moment: &Clock) -> bo
     !index.is_stored(determinant, moment) && holders.without(history.log().strike()).is_empty()
 }
 
-/// The audit of the log's last moment. The time taken is that of the entries times the members. `Err` comes only where there is no memory
-/// for the index, the clocks or the answer.
-pub fn audit_log(alloc: Global, log: &RunLog) -> Result<LogAudit, AllocError>
-    ensures { IfOk result (IsLogAudit log.now) }
+/// The audit of the last moment of the history's log.
+fn audit_of(alloc: Global, history: &History<'_>) -> Result<LogAudit, AllocError>
+    ensures { IfOk result (IsLogAudit history.now) }
 {
-    let history = History::of(alloc, log)?;
+    let log = history.log();
     let last = history.index().last();
     let mut lost = Vec::new(alloc);
     let mut dependents = MemberSet::empty();
     for (place, entry) in log.entries().iter().enumerate() {
         if let Some(determinant) = entry.receipt() {
-            if loses(&history, &determinant, &last) {
+            if loses(history, &determinant, &last) {
                 lost.push(determinant)?;
                 let reached = history.reached(determinant.to, history.number(place), &last);
                 dependents = dependents.union(reached);
@@ -95,4 +94,13 @@ pub fn audit_log(alloc: Global, log: &RunLog) -> Result<LogAudit, AllocError>
     }
     let orphans = dependents.without(log.strike());
     Ok(LogAudit { lost, orphans })
+}
+
+/// The audit of the log's last moment. The time taken is that of the entries times the members. `Err` comes only where there is no memory
+/// for the index, the clocks or the answer.
+pub fn audit_log(alloc: Global, log: &RunLog) -> Result<LogAudit, AllocError>
+    ensures { IfOk result (IsLogAudit log.now) }
+{
+    let history = History::of(alloc, log)?;
+    audit_of(alloc, &history)
 }

@@ -34,6 +34,13 @@ impl Model for RunLog {
 
     ghost Value = { LogParts };
 
+    ghost use Rattle.std.specs.Coded.{codes, coded_ℕ};
+    ghost use Rattle.std.specs.Ordering.{nat_cmp};
+    ghost use Rattle.std.specs.FinSet as set;
+    ghost use Rattle.fbl_moments.specs.contracts.entry.Entry as entry;
+
+    ghost coded = { Prim.hlevel (codes, entry.the_row.coded, set.code {R = nat_cmp} coded_ℕ) };
+
     ghost view = { λ l. parts_of_log l.raw };
 
     ghost invariant = { λ l. IsLog (parts_of_log l.raw) };

@@ -1,10 +1,10 @@
 //! Why a receipt is unsafe at a moment.
 
-ghost use Rattle.std.specs.Prelude.{◌≡◌, ◌<◌, ℕ, IfOk, MatchOption, Some, length, slice_get};
+ghost use Rattle.std.specs.Prelude.{◌≡◌, ◌<◌, ◌↔◌, ℕ, true, IfOk, MatchOption, Some, length, map, slice_get, slice_index};
 ghost use Rattle.fbl_base.specs.Events.{At, receipt_of};
 ghost use Rattle.fbl_base.specs.Precedence.{Has};
 ghost use Rattle.fbl_moments.specs.Clocks.{cut_of};
-ghost use Rattle.fbl_moments.specs.Entries.{marks};
+ghost use Rattle.fbl_moments.specs.Entries.{marks, recorded_in};
 ghost use Rattle.fbl_moments.specs.Lawful.{IsEventPlace};
 ghost use Rattle.fbl_moments.specs.Logs.{IsLog};
 ghost use Rattle.fbl_moments.specs.Reasons.{AreMomentReasons, IsEventPath, IsMomentReason, IsNextPlace, IsPathFrom};
@@ -37,14 +37,22 @@ pub struct MomentReason {
     pub path: Vec<usize>,
 }
 
+/// Whether the entry is a hold or a store of the determinant.
+fn records(entry: &Entry, determinant: &Determinant) -> bool
+    ensures { (result ≡ true) ↔ (recorded_in entry.now ≡ Some determinant.now) }
+{
+    match entry.recorded() {
+        Some(recorded) => recorded == *determinant,
+        None => false,
+    }
+}
+
 /// The place of the first hold or store of the determinant that has not come at the clock's cut.
 fn next_place(history: &History<'_>, determinant: &Determinant, moment: &Clock) -> Option<usize>
     ensures { IsNextPlace history.now.entries (cut_of moment.now) determinant.now result }
 {
     for (place, entry) in history.log().entries().iter().enumerate() {
-        if entry.recorded() == Some(*determinant)
-            && history.number(place) >= moment.count(entry.member())
-        {
+        if records(entry, determinant) && history.number(place) >= moment.count(entry.member()) {
             return Some(place);
         }
     }
@@ -94,12 +102,11 @@ fn event_path(
     Ok(path.unwrap_or(Vec::new(alloc)))
 }
 
-/// The path whose places among the sends and receipts are these.
-fn among_entries(
-    alloc: Global,
-    places: &[usize],
-    path: &[usize],
-) -> Result<Vec<usize>, AllocError> {
+/// The path whose places among the sends and receipts are these, where those stand at these places.
+fn among_entries(alloc: Global, places: &[usize], path: &[usize]) -> Result<Vec<usize>, AllocError>
+    requires { (k event : ℕ) → slice_get path.now k ≡ Some event → event < length places.now }
+    ensures { IfOk result (λ v. v.items ≡ map (slice_index places.now) path.now) }
+{
     let mut among = Vec::new(alloc);
     for event in path {
         among.push(places[*event])?;

@@ -1,5 +1,5 @@
-use Rattle.fbl_moments.specs.Unsafe.{IsFirstFound, run_of}
+use Rattle.fbl_moments.specs.Unsafe.{IsFirstFound}
 use Rattle.fbl_moments.proofs.check.said_of.Given as goal
 
 abbrev pub invariant-loop-member_number : goal.invariant-loop-member_number
-invariant-loop-member_number l = IsFirstFound (run_of l.group l.history) l.history l.determinant l.member_number l.first
+invariant-loop-member_number l = IsFirstFound l.history l.determinant l.member_number l.first

@@ -4,4 +4,4 @@ use Rattle.fbl_moments.proofs.HistoryLaws.{precedes_iff}
 use Rattle.fbl_moments.proofs.history.History.precedes.Goals as goal
 
 pub returns : goal.returns
-returns c = precedes_iff (log_of c.args.self.now) c.args.source c.args.number c.args.member c.args.count c.count.result (cut_of c.clock.result) c.clock.ensures c.count.ensures
+returns c = precedes_iff (log_of c.args.self.now.entries) c.args.source c.args.number c.args.member c.args.count c.count.result (cut_of c.clock.result.now) c.clock.ensures c.count.ensures

@@ -5,4 +5,4 @@ use Rattle.fbl_moments.proofs.history.History.reached.Given as goal
 
 abbrev pub invariant-loop-number_of_member : goal.invariant-loop-number_of_member
 invariant-loop-number_of_member l =
-    (q : ℕ) → (set.contains l.reached q ≡ true) ↔ (q < l.number_of_member) × PrecedesSome (log_of l.self) (at l.source l.number) q (cut_of l.moment q)
+    (q : ℕ) → (set.contains l.reached q ≡ true) ↔ (q < l.number_of_member) × PrecedesSome (log_of l.self.entries) (at l.source l.number) q (cut_of l.moment q)

@@ -1,0 +1,47 @@
+use Rattle.fbl_moments.proofs.Common.{arith, ap, ◌≡◌, ◌∙◌, ◌≤◌, subst, [], ◌∷◌, inl, inr, refl, append-nil, append_assoc, List, Entry, length, Some, slice_get, slice_get_read}
+use Rattle.std.proofs.lemmas.List.{drop_all}
+use Rattle.fbl_base.proofs.Gets.{drop_next}
+use Rattle.fbl_moments.specs.Logs.{IsLog, LogParts}
+use Rattle.fbl_moments.proofs.UnsafeLaws.{says_safe}
+use Rattle.fbl_moments.proofs.check.moments_of.Goals as goal
+use Rattle.fbl_moments.proofs.check.moments_of.Goals.{After-entries-entry-items}
+
+rules : (c : After-entries-entry-items) → IsLog c.args.history.now
+rules c = subst IsLog c.log.ensures c.entries-entry-items.ensures.rules
+
+listed : (c : After-entries-entry-items) → c.entries-entry-items.result.now ≡ c.args.history.now.entries
+listed c = c.entries-entry-items.ensures.entries ∙ ap (λ (log : LogParts). log.entries) c.log.ensures
+
+pub unsafe_moment-requires : goal.unsafe_moment-requires
+unsafe_moment-requires c = rules (goal.at.unsafe_moment-requires c).After-entries-entry-items
+
+pub loop-entry-init : goal.loop-entry-init
+loop-entry-init c rest says = rw c.new-moments.ensures.items says
+
+pub loop-entry-preserved : goal.loop-entry-preserved
+loop-entry-preserved c rest says =
+    let es = c.args.history.now.entries in
+    let k = c.loop-entry.entry-index in
+    let here : slice_get es k ≡ Some c.entry-item.result = subst (λ (es : List Entry). slice_get es k ≡ Some c.entry-item.result) (listed (goal.at.loop-entry-preserved c).After-entries-entry-items)
+    (slice_get_read c.entries-entry-items.result.now (length c.entries-entry-items.result.now) k c.entry-item.result refl c.loop-entry-test.true c.entry-item.is) in
+    let next = drop_next es k c.entry-item.result here in
+    let so_far = (rw next at c.loop-entry.invariant) in
+    elim c.match-receipt.branch [
+      | goal.in-Some+in-Some-unsafe_moment+in_ok-push w ↦ rw (w.moments-is, w.in_ok-push.ensures.items, append_assoc)
+          (so_far (w.in-Some-unsafe_moment.moment ∷ rest) (rw (← w.in-Some.ensures) (inr (_, rest, refl, w.in-Some-unsafe_moment.ensures, says))))
+      | goal.in-Some+in_default-unsafe_moment w ↦ rw w.moments-is (so_far rest (rw (← w.in-Some.ensures) (inl (w.in_default-unsafe_moment.ensures, says))))
+      | goal.in_default w ↦ rw w.moments-is (so_far rest (rw (← w.in_default.ensures) says))
+    ]
+
+pub returns-clause-said : goal.returns-clause-said
+returns-clause-said c =
+    let es = c.args.history.now.entries in
+    let all : length es ≤ c.loop-entry.entry-index = (let same = ap (λ (es : List Entry). length es) (listed (goal.at.returns-clause-said c).After-entries-entry-items) in let t = c.loop-entry-test.false in omega (arith, same, t)) in
+    let none = drop_all c.loop-entry.entry-index es all in
+    let said = c.loop-entry.invariant [] (rw none refl) in
+    (rw append-nil at said)
+
+pub returns-clause-safe : goal.returns-clause-safe
+returns-clause-safe c =
+    let is = rules (goal.at.returns-clause-safe c).After-entries-entry-items in
+    says_safe c.args.history.now is.lawful is.strike c.loop-entry.moments.items (returns-clause-said c)

@@ -1,0 +1,27 @@
+use Rattle.fbl_moments.proofs.Common.{ap, sym, subst, ◌≡◌, ◌∙◌, List, Mark, receipt_of, entry_member, marks}
+use Rattle.std.proofs.Common.{IfNone, IfSome}
+use Rattle.fbl_audit.specs.Paths.{IsPathTo, Origin}
+use Rattle.fbl_base.specs.Audit.{Parts}
+use Rattle.fbl_base.specs.Events.{At}
+use Rattle.fbl_base.specs.Precedence.{DependsOnPlace, Has}
+use Rattle.fbl_moments.proofs.PathLaws.{entry_read, found_path, has_receipt}
+use Rattle.fbl_moments.proofs.reason.event_path.Goals as goal
+use Rattle.fbl_moments.proofs.reason.event_path.Goals.{After-events, in-Some+in_ok-path-in-Some, in-None}
+
+trace : (c : After-events) → c.events.result.now ≡ marks c.args.log.now.entries
+trace c = c.events.ensures.events ∙ ap (λ (dump : Parts). dump.events) c.dump.ensures.dump ∙ c.requires.events
+
+pub returns : goal.returns
+returns c = elim c.match-receipt_place.branch [
+  | in-Some+in_ok-path-in-Some w ↦
+      let es = c.args.log.now.entries in
+      let stands = c.requires.said.shows.stands in
+      let read = entry_read es w.entries.result.now c.args.said.now.place stands.0 w.index-entries-said.result w.entries.ensures.entries stands.1 w.index-entries-said.is in
+      let own : w.member-member.result ≡ c.requires.said.shows.position.member = w.member-member.ensures ∙ ap entry_member read ∙ stands.2 in
+      let at_i = subst (λ (t : List Mark). At t w.in-Some.place (receipt_of c.args.said.now.determinant)) (trace (goal.at.returns c).After-events) w.in-Some.ensures in
+      let origin : w.of.result ≡ record { events = marks es; place = w.in-Some.place } = w.of.ensures ∙ ap (λ (t : List Mark). record { events = t; place = w.in-Some.place }) c.requires.events in
+      let some = subst (λ (o : Origin). IfSome w.in_ok-path-in-Some.path (λ path. IsPathTo o w.member-member.result path.items)) origin w.in_ok-path-in-Some.ensures.paths in
+      let none = subst (λ (o : Origin). IfNone w.in_ok-path-in-Some.path (¬ (DependsOnPlace o.events w.member-member.result o.place))) origin w.in_ok-path-in-Some.ensures.to_all in
+      rw (c.unwrap_or.ensures, w.path-is) (found_path c.args.log.now w.entries.ensures.rules c.args.said.now c.requires.said w.in-Some.place at_i w.member-member.result own w.in_ok-path-in-Some.path some none c.new.result)
+  | in-None w ↦ absurd (w.in-None.ensures (subst (λ (t : List Mark). Has t (receipt_of c.args.said.now.determinant)) (sym (trace (goal.at.returns c).After-events)) (has_receipt c.args.log.now c.args.said.now c.requires.said)))
+]
