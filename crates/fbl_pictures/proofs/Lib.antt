@@ -1,6 +1,8 @@
 pub mod Common
 pub mod Steps
 pub mod Indexing
+pub mod Stores
+pub mod Finding
 pub mod Lasts
 pub mod Layers
 pub mod HistoryLaws

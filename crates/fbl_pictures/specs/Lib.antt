@@ -8,4 +8,8 @@ pub mod HistoryMessages
 pub mod HistoryMarks
 pub mod HistoryPictures
 pub mod HistoryLaws
+pub mod RunPictures
+pub mod Headings
+pub mod FoundPictures
 pub mod DumpPictures
+pub mod LogPictures

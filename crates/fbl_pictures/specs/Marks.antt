@@ -1,5 +1,5 @@
 -- The texts of marks. A mark is one element, whose title says what it stands for.
-use Rattle.std.specs.Prelude.{ℕ, ◌+◌, ◌-◌, ◌*◌, Bool, true, false, List, [], ◌∷◌, ◌++◌, length, nat_lt, codes, decimal}
+use Rattle.std.specs.Prelude.{ℕ, ◌+◌, ◌-◌, ◌*◌, Bool, true, false, List, [], ◌∷◌, ◌++◌, length, Option, Some, None, nat_lt, codes, decimal}
 use Rattle.std.specs.Ordering.{nat_cmp}
 use Rattle.std.specs.FinSet as set
 use Rattle.fbl_base.specs.declared.trace.Determinant.{Determinant}
@@ -7,7 +7,7 @@ use Rattle.fbl_texts.specs.Lines.{line}
 use Rattle.fbl_texts.specs.Sets.{set_words}
 use Rattle.fbl_pictures.specs.declared.shape.Kind.{Kind}
 use Rattle.fbl_pictures.specs.declared.shape.Kind.TheVariants.{Stable, Recorded, Lost}
-use Rattle.fbl_pictures.specs.Places.{below, x, y}
+use Rattle.fbl_pictures.specs.Places.{before, below, x, y}
 use Rattle.fbl_pictures.specs.Words.{kind_class, receipts_word, words_if}
 
 -- the pieces one after another
@@ -75,6 +75,35 @@ drawn_held_receipt column d kind holders =
     ∷ receipt_words d
     ∷ codes ", held by " ∷ set_words holders ∷ codes "</title></path>\n" ∷ [])
     ++ number (x column) (y d.to + 20) false (decimal d.rsn)
+
+-- how the line of a moment goes on to the height at which it crosses the next member's line, if there is one
+abbrev pub onward : ℕ → Option ℕ → List ℕ
+onward height None = []
+onward height (Some column) = joined (codes "L" ∷ decimal (before column) ∷ codes " " ∷ decimal height ∷ [])
+
+-- the part of a moment's line at a member: across its line, from 30 above to 40 below, and on to 30 above the next one
+unfoldable pub drawn_moment : ℕ → ℕ → Option ℕ → List ℕ
+drawn_moment member column next =
+    line (codes "<path class='moment' d='M" ∷ decimal (before column) ∷ codes " " ∷ decimal (y member - 30) ∷ codes "V" ∷ decimal (y member + 40) ∷ onward (y member + 50) next
+    ∷ codes "'><title>the moment: what has come is on its left</title></path>" ∷ [])
+
+-- the numbers under a hold or a store: that of the receipt, and that of its receiver
+unfoldable pub numbers : ℕ → ℕ → Determinant → List ℕ
+numbers column member d =
+    number (x column) (y member + 20) false (decimal d.rsn)
+    ++ number (x column) (y member + 32) false (joined (codes "of " ∷ decimal d.to ∷ []))
+
+-- a hold: half a circle under its member's line
+unfoldable pub drawn_hold : ℕ → ℕ → Determinant → List ℕ
+drawn_hold column member d =
+    joined (codes "<path class='hold' d='M" ∷ decimal (x column - 5) ∷ codes " " ∷ decimal (y member) ∷ codes "a5 5 0 0 0 10 0z'><title>member " ∷ decimal member ∷ codes " holds receipt " ∷ decimal d.rsn
+    ∷ codes " of member " ∷ decimal d.to ∷ codes "</title></path>\n" ∷ numbers column member d ∷ [])
+
+-- a store: a small square on its member's line
+unfoldable pub drawn_store : ℕ → ℕ → Determinant → List ℕ
+drawn_store column member d =
+    joined (codes "<rect class='store' x='" ∷ decimal (x column - 4) ∷ codes "' y='" ∷ decimal (y member - 4) ∷ codes "' width='8' height='8'><title>member " ∷ decimal member ∷ codes " stores receipt "
+    ∷ decimal d.rsn ∷ codes " of member " ∷ decimal d.to ∷ codes "</title></rect>\n" ∷ numbers column member d ∷ [])
 
 -- a strike: a bolt on the line of a member that it strikes
 unfoldable pub drawn_strike : ℕ → ℕ → List ℕ

@@ -1,5 +1,7 @@
 -- Where shapes stand, counted from the left and from the top, and shapes in columns one after another.
-use Rattle.std.specs.Prelude.{ℕ, ◌+◌, ◌*◌, ◌/◌, ◌%◌, ◌==◌, ◌&&◌, Bool, max, nat_lt, List, [], ◌∷◌, ◌++◌, Option, Some, None, if◌then◌else◌}
+use Rattle.std.specs.Prelude.{ℕ, ◌+◌, ◌-◌, ◌*◌, ◌/◌, ◌%◌, ◌==◌, ◌&&◌, Bool, max, nat_lt, List, [], ◌∷◌, ◌++◌, Option, Some, None, if◌then◌else◌}
+use Rattle.fbl_pictures.specs.declared.shape.Legend.{Legend}
+use Rattle.fbl_pictures.specs.declared.shape.Legend.TheVariants as legend
 use Rattle.fbl_pictures.specs.declared.shape.Shape.{Shape}
 
 -- where a column stands: before each that follows 24 others there is room for the members' names
@@ -10,6 +12,10 @@ x column = 190 + 46 * column + 90 * (column / 24)
 abbrev pub left : Option ℕ → ℕ
 left (Some column) = x column
 left None = 170
+
+-- where a moment stands before a column: between it and the one before, or at the lines' left end
+abbrev pub before : ℕ → ℕ
+before column = x column - 20
 
 -- where the line of a member stands
 abbrev pub y : ℕ → ℕ
@@ -27,9 +33,10 @@ towards from to down up = if nat_lt from to then down else up
 abbrev pub width : ℕ → ℕ
 width columns = max (x columns + 30) 760
 
--- below the members' lines there is room for the legend
-abbrev pub height : ℕ → ℕ
-height members = y members + 62
+-- below the members' lines there is room for the legend, which has four lines at a moment, and else three
+abbrev pub height : ℕ → Legend → ℕ
+height members legend.UnsafeLog = y members + 84
+height members other = y members + 62
 
 -- what is drawn of each of these in turn, the first of which stands in this column
 abbrev pub drawn : {A : Type 0} → (ℕ → A → List Shape) → ℕ → List A → List Shape

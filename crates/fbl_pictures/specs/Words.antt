@@ -9,7 +9,7 @@ use Rattle.fbl_pictures.specs.declared.shape.ArrowKind.{ArrowKind}
 use Rattle.fbl_pictures.specs.declared.shape.ArrowKind.TheVariants as arrow_kind
 use Rattle.fbl_pictures.specs.declared.shape.Kind.{Kind}
 use Rattle.fbl_pictures.specs.declared.shape.Kind.TheVariants as kind
-use Rattle.fbl_pictures.specs.Places.{below, left, towards, x, y}
+use Rattle.fbl_pictures.specs.Places.{before, below, left, towards, x, y}
 
 -- these words, if so
 abbrev pub words_if : Bool → List ℕ → List ℕ
@@ -78,6 +78,12 @@ segment class x1 y1 x2 y2 =
 -- a part of a member's line, from the left end or a column to a column
 unfoldable pub drawn_line : ℕ → Option ℕ → ℕ → LineKind → List ℕ
 drawn_line member start end kind = segment (line_class kind) (left start) (y member) (x end) (y member)
+
+-- the line of a member that is down from the moment before a column on: drawn through up to it, and dashed from there
+unfoldable pub drawn_down_from : ℕ → ℕ → ℕ → List ℕ
+drawn_down_from member column end =
+    segment (line_class line_kind.Up) (left None) (y member) (before column) (y member)
+    ++ segment (line_class line_kind.Down) (before column) (y member) (x end) (y member)
 
 -- an arrow from a send to a receipt of its message
 unfoldable pub drawn_arrow : ℕ → ℕ → ℕ → ℕ → ArrowKind → List ℕ

@@ -1,53 +1,128 @@
 //! The picture of a dump.
 
-ghost use Rattle.std.specs.Prelude.{◌≡◌, IfOk, string_bytes};
+ghost use Rattle.std.specs.Prelude.{◌≡◌, ◌⊎◌, IfOk, MatchOption, string_bytes};
+ghost use Rattle.fbl_audit.specs.Checking.{IsSafe};
 ghost use Rattle.fbl_input.specs.Faults.{PutsOut};
-ghost use Rattle.fbl_pictures.specs.DumpPictures.{AreShapesOf, IsPicture, title};
+ghost use Rattle.fbl_pictures.specs.DumpPictures.{AreShapesOf, HasOrphan, IsAuditedPicture, IsFirstUnsafe, IsPicture, IsUnsafePicture, dump_entries};
 
-use crate::dump_events::{push_arrows, push_marks};
-use crate::dump_members::push_members;
-use crate::dump_paths::push_paths;
+use crate::columns::Columns;
+use crate::entries::{Recorded, entries_of, placed_events};
+use crate::found::found_shapes;
+use crate::headings::{audit_words, heading, unsafe_words};
 use crate::picture::picture_text;
+use crate::run_events::{Receipts, push_marks};
+use crate::run_members::Lines;
+use crate::run_paths::push_paths;
+use crate::run_picture::lines_and_arrows;
 use crate::shape::{Legend, Shape};
-use fbl_audit::orphan_starts;
-use fbl_base::MemberSet;
+use fbl_audit::{UnsafeReceipt, orphan_starts, unsafe_receipts};
 use fbl_base::audit::{Audit, Dump};
 use fbl_input::{OutputFault, put};
-use fbl_texts::set_text;
 use std::alloc::{AllocError, Global};
 use std::io::Write;
 
-/// The numbers of the dump, and those that its audit prints.
-fn title_text(
+/// The shapes of a dump by its audit.
+fn audited_shapes(
     alloc: Global,
-    dump: &Dump,
-    lost: usize,
-    orphans: MemberSet,
-) -> Result<String, AllocError>
-    ensures { IfOk result (λ text. string_bytes text ≡ title dump.now lost orphans) }
-{
-    let members = dump.members();
-    let f = dump.f();
-    let events = dump.events().len();
-    let struck = set_text(alloc, dump.strike())?;
-    let orphans = set_text(alloc, orphans)?;
-    format!(in alloc;
-        "{members} members, f {f}, {events} events: struck {struck}, lost {lost}, orphans {orphans}"
-    )
-}
-
-/// The shapes of a dump.
-#[tactic(auto, unfolding(crate::specs::DumpPictures::dump_shapes))]
-fn shapes(alloc: Global, audit: &Audit) -> Result<Vec<Shape>, AllocError>
+    audit: &Audit,
+    recorded: &Recorded,
+) -> Result<Vec<Shape>, AllocError>
+    requires { recorded.now ≡ dump_entries audit.now }
     ensures { IfOk result (λ shapes. AreShapesOf audit.now shapes.items) }
 {
     let dump = audit.dump();
-    let mut shapes = Vec::new(alloc);
-    push_members(&mut shapes, dump, &orphan_starts(audit))?;
-    push_arrows(&mut shapes, alloc, dump)?;
-    push_paths(&mut shapes, alloc, audit)?;
-    push_marks(&mut shapes, audit)?;
+    let entries = recorded.entries();
+    let events = placed_events(alloc, entries)?;
+    let lines = Lines {
+        struck: dump.strike(),
+        starts: Columns::of(orphan_starts(audit)),
+        moment: Columns::none(),
+    };
+    let receipts = Receipts {
+        audit,
+        recorded,
+        found: None,
+    };
+    let mut shapes = lines_and_arrows(alloc, dump.members(), entries, &lines)?;
+    push_paths(&mut shapes, alloc, audit, events.as_slice())?;
+    push_marks(&mut shapes, &receipts)?;
     Ok(shapes)
+}
+
+/// The picture of the dump by its audit.
+fn audited_picture(
+    alloc: Global,
+    audit: &Audit,
+    recorded: &Recorded,
+) -> Result<String, AllocError>
+    requires { recorded.now ≡ dump_entries audit.now }
+    ensures { IfOk result (λ text. IsAuditedPicture audit.now (string_bytes text)) }
+{
+    let dump = audit.dump();
+    let count = dump.events().len();
+    let lost = audit.lost(alloc)?;
+    let words = audit_words(alloc, dump.strike(), lost.len(), audit.orphans())?;
+    let title = heading(
+        alloc,
+        dump.members(),
+        dump.f(),
+        count,
+        "events",
+        words.as_str(),
+    )?;
+    let shapes = audited_shapes(alloc, audit, recorded)?;
+    picture_text(
+        alloc,
+        title.as_str(),
+        dump.members(),
+        count,
+        Legend::Dump,
+        shapes.as_slice(),
+    )
+}
+
+/// The picture of the dump with the receipt that a check found.
+fn unsafe_picture(
+    alloc: Global,
+    audit: &Audit,
+    recorded: &Recorded,
+    found: &UnsafeReceipt,
+) -> Result<String, AllocError>
+    requires recorded { recorded.now ≡ dump_entries audit.now }
+    requires found { IsFirstUnsafe audit.now found.now }
+    ensures { IfOk result (λ text. IsUnsafePicture audit.now found.now (string_bytes text)) }
+{
+    let dump = audit.dump();
+    let count = dump.events().len();
+    let words = unsafe_words(alloc, &found.determinant, None, found.strike, found.orphans)?;
+    let title = heading(
+        alloc,
+        dump.members(),
+        dump.f(),
+        count,
+        "events",
+        words.as_str(),
+    )?;
+    let shapes = found_shapes(alloc, audit, recorded, found, Columns::none())?;
+    picture_text(
+        alloc,
+        title.as_str(),
+        dump.members(),
+        count,
+        Legend::UnsafeDump,
+        shapes.as_slice(),
+    )
+}
+
+/// The first receipt that a check finds unsafe, where the audit finds no orphan.
+fn first_found(alloc: Global, audit: &Audit) -> Result<Option<UnsafeReceipt>, AllocError>
+    ensures { IfOk result (λ r. MatchOption r (HasOrphan audit.now ⊎ IsSafe audit.now) (λ found. (¬ (HasOrphan audit.now)) × IsFirstUnsafe audit.now found)) }
+{
+    if !audit.orphans().is_empty() {
+        return Ok(None);
+    }
+    let found = unsafe_receipts(alloc, audit)?;
+    Ok(found.first().copied())
 }
 
 /// The picture of the dump.
@@ -55,21 +130,16 @@ fn dump_picture(alloc: Global, dump: &Dump) -> Result<String, AllocError>
     ensures { IfOk result (λ text. IsPicture dump.now (string_bytes text)) }
 {
     let audit = Audit::of(alloc, dump)?;
-    let lost = audit.lost(alloc)?;
-    let title = title_text(alloc, dump, lost.len(), audit.orphans())?;
-    let shapes = shapes(alloc, &audit)?;
-    picture_text(
-        alloc,
-        title.as_str(),
-        dump.members(),
-        dump.events().len(),
-        Legend::Dump,
-        shapes.as_slice(),
-    )
+    let entries = entries_of(alloc, dump)?;
+    let recorded = Recorded::of(alloc, entries.as_slice())?;
+    match first_found(alloc, &audit)? {
+        Some(found) => unsafe_picture(alloc, &audit, &recorded, &found),
+        None => audited_picture(alloc, &audit, &recorded),
+    }
 }
 
-/// Draws the dump, and writes the picture as SVG: a line for each member, a mark for each event and an arrow for each message.
-/// The time taken is nearly linear in the events and the held pairs.
+/// Draws the dump, and writes the picture as SVG: a line for each member, a mark for each event and an arrow for each message. Where its
+/// strike set leaves no orphan and a check finds it unsafe, the picture shows the first unsafe receipt. The time taken is nearly linear in the events and the held pairs.
 pub fn write_picture<W: Write>(
     alloc: Global,
     dump: &Dump,

@@ -2,10 +2,12 @@
 //! heading and a legend.
 #![tactic(auto)]
 
-mod dump_events;
-mod dump_members;
-mod dump_paths;
+mod columns;
+mod cut;
 mod dump_picture;
+mod entries;
+mod found;
+mod headings;
 mod history_marks;
 mod history_members;
 mod history_messages;
@@ -18,6 +20,10 @@ mod marks;
 mod names;
 mod picture;
 mod places;
+mod run_events;
+mod run_members;
+mod run_paths;
+mod run_picture;
 mod shape;
 mod words;
 

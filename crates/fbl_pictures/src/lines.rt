@@ -1,7 +1,7 @@
 //! The texts of labels, of lines and of arrows.
 
 ghost use Rattle.std.specs.Prelude.{◌≡◌, IfOk, string_bytes};
-ghost use Rattle.fbl_pictures.specs.Words.{drawn_arrow, drawn_down_from, drawn_in_flight, drawn_label, drawn_line, drawn_moment, drawn_name, onward, segment};
+ghost use Rattle.fbl_pictures.specs.Words.{drawn_arrow, drawn_down_from, drawn_in_flight, drawn_label, drawn_line, drawn_name, segment};
 
 use crate::places::{before, below, left, towards, x, y};
 use crate::shape::{ArrowKind, LineKind, Status};
@@ -89,40 +89,6 @@ pub(crate) fn down_from_text(
     let rest = segment_text(alloc, LineKind::Down.class(), moment, end)?;
     text.push_str(rest.as_str())?;
     Ok(text)
-}
-
-/// How the line of a moment goes on to where it crosses the line of the next member, if there is one.
-fn onward_text(alloc: Global, y: u32, next: Option<usize>) -> Result<String, AllocError>
-    requires { y < 30000 }
-    ensures { IfOk result (λ text. string_bytes text ≡ onward y next) }
-{
-    match next {
-        Some(column) => {
-            let x = before(column);
-            format!(in alloc; "L{x} {y}")
-        }
-        None => Ok(String::new(alloc)),
-    }
-}
-
-/// The text of the part of a moment's line at a member.
-#[tactic(auto, unfolding(crate::specs::Words::drawn_moment))]
-pub(crate) fn moment_text(
-    alloc: Global,
-    member: Member,
-    column: usize,
-    next: Option<usize>,
-) -> Result<String, AllocError>
-    ensures { IfOk result (λ text. string_bytes text ≡ drawn_moment member column next) }
-{
-    let x = before(column);
-    let y = y(member.number());
-    let top = y - 30;
-    let bottom = y + 40;
-    let onward = onward_text(alloc, y + 50, next)?;
-    format!(in alloc;
-        "<path class='moment' d='M{x} {top}V{bottom}{onward}'><title>the moment: what has come is on its left</title></path>\n"
-    )
 }
 
 /// The text of an arrow from a send to a receipt.

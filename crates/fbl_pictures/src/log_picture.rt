@@ -1,9 +1,149 @@
 //! The picture of a log.
 
+ghost use Rattle.std.specs.Prelude.{◌≡◌, [], None, IfOk, string_bytes};
+ghost use Rattle.fbl_input.specs.Faults.{PutsOut};
+ghost use Rattle.fbl_moments.specs.LastMoments.{dump_of};
+ghost use Rattle.fbl_moments.specs.Unsafe.{IsSaidOf};
+ghost use Rattle.fbl_pictures.specs.FoundPictures.{NoColumns};
+ghost use Rattle.fbl_pictures.specs.LogPictures.{IsLogPicture, IsSafePicture, IsUnsafePicture};
+ghost use Rattle.fbl_pictures.specs.RunPictures.{run_shapes};
+ghost use Rattle.fbl_pictures.specs.declared.run_members.Lines.{Lines};
+
+use crate::columns::Columns;
+use crate::cut::moment_columns;
+use crate::entries::Recorded;
+use crate::found::found_shapes;
+use crate::headings::{audit_words, heading, unsafe_words};
+use crate::picture::picture_text;
+use crate::run_events::{Receipts, push_marks};
+use crate::run_members::Lines;
+use crate::run_picture::lines_and_arrows;
+use crate::shape::{Legend, Shape};
+use fbl_audit::UnsafeReceipt;
+use fbl_base::audit::Audit;
 use fbl_input::{OutputFault, put};
-use fbl_moments::RunLog;
-use std::alloc::Global;
+use fbl_moments::{RunLog, UnsafeMoment, audit_log, last_dump, moment_reason, unsafe_moments};
+use std::alloc::{AllocError, Global};
 use std::io::Write;
+
+/// The shapes of a log that is safe at each moment, at its last one.
+fn safe_shapes(
+    alloc: Global,
+    audit: &Audit,
+    recorded: &Recorded,
+) -> Result<Vec<Shape>, AllocError>
+    ensures { IfOk result (λ shapes. (lines : Lines) × (lines.struck ≡ audit.now.strike) × NoColumns lines.starts × NoColumns lines.moment × (shapes.items ≡ run_shapes audit.now recorded.now None lines [])) }
+{
+    let dump = audit.dump();
+    let entries = recorded.entries();
+    let lines = Lines {
+        struck: dump.strike(),
+        starts: Columns::none(),
+        moment: Columns::none(),
+    };
+    let receipts = Receipts {
+        audit,
+        recorded,
+        found: None,
+    };
+    let mut shapes = lines_and_arrows(alloc, dump.members(), entries, &lines)?;
+    push_marks(&mut shapes, &receipts)?;
+    Ok(shapes)
+}
+
+/// The picture of the log's last moment.
+fn safe_picture(
+    alloc: Global,
+    log: &RunLog,
+    audit: &Audit,
+    recorded: &Recorded,
+) -> Result<String, AllocError>
+    requires audit { audit.now ≡ dump_of log.now }
+    requires recorded { recorded.now ≡ log.now.entries }
+    ensures { IfOk result (λ text. IsSafePicture log.now (string_bytes text)) }
+{
+    let count = log.entries().len();
+    let last = audit_log(alloc, log)?;
+    let words = audit_words(alloc, log.strike(), last.lost.len(), last.orphans)?;
+    let title = heading(
+        alloc,
+        log.members(),
+        log.f(),
+        count,
+        "entries",
+        words.as_str(),
+    )?;
+    let shapes = safe_shapes(alloc, audit, recorded)?;
+    picture_text(
+        alloc,
+        title.as_str(),
+        log.members(),
+        count,
+        Legend::Log,
+        shapes.as_slice(),
+    )
+}
+
+/// The picture of the log with what is said of one of its receipts.
+fn unsafe_picture(
+    alloc: Global,
+    log: &RunLog,
+    audit: &Audit,
+    recorded: &Recorded,
+    said: &UnsafeMoment,
+) -> Result<String, AllocError>
+    requires audit { audit.now ≡ dump_of log.now }
+    requires recorded { recorded.now ≡ log.now.entries }
+    requires said { IsSaidOf log.now said.now.determinant said.now }
+    ensures { IfOk result (λ text. IsUnsafePicture log.now said.now (string_bytes text)) }
+{
+    let count = log.entries().len();
+    let words = unsafe_words(
+        alloc,
+        &said.determinant,
+        Some(said.place),
+        said.strike,
+        said.orphans,
+    )?;
+    let title = heading(
+        alloc,
+        log.members(),
+        log.f(),
+        count,
+        "entries",
+        words.as_str(),
+    )?;
+    let reason = moment_reason(alloc, log, said)?;
+    let moment = moment_columns(log.members(), log.entries(), &reason.cut);
+    let found = UnsafeReceipt {
+        determinant: said.determinant,
+        strike: said.strike,
+        orphans: said.orphans,
+    };
+    let shapes = found_shapes(alloc, audit, recorded, &found, moment)?;
+    picture_text(
+        alloc,
+        title.as_str(),
+        log.members(),
+        count,
+        Legend::UnsafeLog,
+        shapes.as_slice(),
+    )
+}
+
+/// The picture of the log.
+fn log_picture(alloc: Global, log: &RunLog) -> Result<String, AllocError>
+    ensures { IfOk result (λ text. IsLogPicture log.now (string_bytes text)) }
+{
+    let said = unsafe_moments(alloc, log)?;
+    let last = last_dump(alloc, log)?;
+    let audit = Audit::of(alloc, &last)?;
+    let recorded = Recorded::of(alloc, log.entries())?;
+    match said.first() {
+        Some(first) => unsafe_picture(alloc, log, &audit, &recorded, first),
+        None => safe_picture(alloc, log, &audit, &recorded),
+    }
+}
 
 /// Draws the log, and writes the picture as SVG: a line for each member, a mark for each entry and an arrow for each message. Where the
 /// log is unsafe at some moment, the picture is that of the first unsafe receipt at its first moment, and else of the last moment.
@@ -11,9 +151,9 @@ pub fn write_log_picture<W: Write>(
     alloc: Global,
     log: &RunLog,
     writer: &mut W,
-) -> Result<(), OutputFault> {
-    // to be written and proved
-    let _alloc = alloc;
-    let _entries = log.entries();
-    put(writer, b"")
+) -> Result<(), OutputFault>
+    ensures { PutsOut (λ _. IsLogPicture log.now) (W.contents writer.old) (W.contents writer.new) result }
+{
+    let text = log_picture(alloc, log)?;
+    put(writer, text.as_bytes())
 }

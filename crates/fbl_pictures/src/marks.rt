@@ -1,9 +1,9 @@
 //! The texts of marks.
 
 ghost use Rattle.std.specs.Prelude.{◌≡◌, ◌<◌, IfOk, length, string_bytes};
-ghost use Rattle.fbl_pictures.specs.Marks.{drawn_checkpoint, cross, drawn_held_receipt, drawn_hold, number, numbers, drawn_receipt, receipt_words, drawn_recovery, drawn_send, drawn_store, drawn_strike, stroke};
+ghost use Rattle.fbl_pictures.specs.Marks.{drawn_checkpoint, cross, drawn_held_receipt, drawn_hold, drawn_moment, number, numbers, onward, drawn_receipt, receipt_words, drawn_recovery, drawn_send, drawn_store, drawn_strike, stroke};
 
-use crate::places::{below, x, y};
+use crate::places::{before, below, x, y};
 use crate::shape::Kind;
 use crate::words::{receipts_word, words_if};
 use fbl_base::{Determinant, Member, MemberSet};
@@ -161,6 +161,40 @@ pub(crate) fn held_text(
     let number = number_text(alloc, x, y + 20, false, words.as_str())?;
     format!(in alloc;
         "<path class='{class}' d='M{x} {y}{outline}'>{title}, held by {holders}</title></path>\n{number}"
+    )
+}
+
+/// How the line of a moment goes on to where it crosses the line of the next member, if there is one.
+fn onward_text(alloc: Global, y: u32, next: Option<usize>) -> Result<String, AllocError>
+    requires { y < 30000 }
+    ensures { IfOk result (λ text. string_bytes text ≡ onward y next) }
+{
+    match next {
+        Some(column) => {
+            let x = before(column);
+            format!(in alloc; "L{x} {y}")
+        }
+        None => Ok(String::new(alloc)),
+    }
+}
+
+/// The text of the part of a moment's line at a member.
+#[tactic(auto, unfolding(crate::specs::Marks::drawn_moment))]
+pub(crate) fn moment_text(
+    alloc: Global,
+    member: Member,
+    column: usize,
+    next: Option<usize>,
+) -> Result<String, AllocError>
+    ensures { IfOk result (λ text. string_bytes text ≡ drawn_moment member column next) }
+{
+    let x = before(column);
+    let y = y(member.number());
+    let top = y - 30;
+    let bottom = y + 40;
+    let onward = onward_text(alloc, y + 50, next)?;
+    format!(in alloc;
+        "<path class='moment' d='M{x} {top}V{bottom}{onward}'><title>the moment: what has come is on its left</title></path>\n"
     )
 }
 

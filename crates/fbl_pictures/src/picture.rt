@@ -4,12 +4,12 @@ ghost use Rattle.std.specs.Prelude.{◌≡◌, ◌++◌, IfOk, OnOk, string_byte
 ghost use Rattle.fbl_pictures.specs.Pictures.{ending, opening, picture, text_of, text_of_mark, texts_of};
 
 use crate::lines::{
-    arrow_text, down_from_text, in_flight_text, label_text, line_text, moment_text, name_text,
+    arrow_text, down_from_text, in_flight_text, label_text, line_text, name_text,
 };
 use crate::look::{entries, look, more_look};
 use crate::marks::{
-    checkpoint_text, held_text, hold_text, receipt_text, recovery_text, send_text, store_text,
-    strike_text,
+    checkpoint_text, held_text, hold_text, moment_text, receipt_text, recovery_text,
+    send_text, store_text, strike_text,
 };
 use crate::places::{height, width, y};
 use crate::shape::{Legend, Shape};
@@ -39,6 +39,11 @@ fn mark_text(alloc: Global, shape: Shape) -> Result<String, AllocError>
             kind,
             holders,
         } => held_text(alloc, column, &determinant, kind, holders),
+        Shape::Moment {
+            member,
+            column,
+            next,
+        } => moment_text(alloc, member, column, next),
         Shape::Hold {
             column,
             member,
@@ -78,11 +83,6 @@ fn shape_text(alloc: Global, shape: Shape) -> Result<String, AllocError>
             column,
             end,
         } => down_from_text(alloc, member, column, end),
-        Shape::Moment {
-            member,
-            column,
-            next,
-        } => moment_text(alloc, member, column, next),
         Shape::Arrow {
             from,
             sent,

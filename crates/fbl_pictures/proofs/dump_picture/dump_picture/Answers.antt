@@ -1,19 +1,21 @@
-use Rattle.fbl_pictures.proofs.Common.{◌≡◌, ◌∙◌, ap, length, vec_len, rules, IfOk-weaker, lost_determinants, Dump, picture, title}
+use Rattle.fbl_pictures.proofs.Common.{◌≡◌, ◌⊎◌, inl, inr, subst, HasOrphan, IfOk-weaker, IsPicture}
+use Rattle.std.specs.Prelude.{IfOk, string_bytes}
+use Rattle.fbl_base.specs.Audit.{Parts}
+use Rattle.fbl_audit.specs.Checking.{IsSafe}
+use Rattle.fbl_pictures.specs.DumpPictures.{IsFirstUnsafe}
 use Rattle.fbl_pictures.proofs.dump_picture.dump_picture.Goals as goal
+
+pub returns-in-Some : goal.returns-in-Some
+returns-in-Some c =
+    let audit = c.in_ok-audit.audit in
+    let found = c.in-Some.found in
+    let first : (¬ (HasOrphan audit)) × IsFirstUnsafe audit found = rw c.in-Some.is at c.in_ok-found.ensures in
+    subst (λ (d : Parts). IfOk c.unsafe_picture.result (λ text. IsPicture d (string_bytes text))) c.in_ok-audit.ensures
+    (IfOk-weaker c.unsafe_picture.result _ _ (λ text drawn. inr (first.0, (found, first.1, drawn))) c.unsafe_picture.ensures)
 
 pub returns : goal.returns
 returns c =
-    let dump = c.args.dump.now in
-    let is : c.in_ok-audit.audit ≡ dump = c.in_ok-audit.ensures in
-    let orphans = c.orphans.result in
-    let tie : vec_len c.in_ok-lost.lost ≡ length c.in_ok-lost.lost.items = search rules in
-    let lost : c.len.result ≡ length (lost_determinants dump) = c.len.ensures ∙ tie ∙ ap length (rw is at c.in_ok-lost.ensures) in
-    let heading = c.as_str.ensures.value ∙ c.in_ok-title.ensures ∙ ap (λ n. title dump n orphans) lost in
-    let columns = ap length c.events.ensures.events in
-    IfOk-weaker c.picture_text.result _ _ (λ text drawn. (
-      orphans,
-      (rw is at c.orphans.ensures),
-      c.in_ok-shapes.shapes.items,
-      (rw is at c.in_ok-shapes.ensures),
-      drawn ∙ (λ i. picture (heading i) (c.members.ensures i) (columns i) Dump (c.as_slice.ensures.value i)),
-    )) c.picture_text.ensures
+    let audit = c.in_ok-audit.audit in
+    let known : HasOrphan audit ⊎ IsSafe audit = rw c.in-None.is at c.in_ok-found.ensures in
+    subst (λ (d : Parts). IfOk c.audited_picture.result (λ text. IsPicture d (string_bytes text))) c.in_ok-audit.ensures
+    (IfOk-weaker c.audited_picture.result _ _ (λ text drawn. inl (known, drawn)) c.audited_picture.ensures)

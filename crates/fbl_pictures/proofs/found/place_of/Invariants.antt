@@ -1,0 +1,6 @@
+use Rattle.fbl_pictures.proofs.Common.{ℕ, ◌<◌}
+use Rattle.fbl_base.specs.Events.{At, receipt_of}
+use Rattle.fbl_pictures.proofs.found.place_of.Given as goal
+
+abbrev pub invariant-loop-place : goal.invariant-loop-place
+invariant-loop-place l = (k : ℕ) → k < l.place → ¬ (At l.events k (receipt_of l.determinant))

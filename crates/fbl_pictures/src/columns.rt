@@ -1,0 +1,49 @@
+//! A column for each member, or none.
+
+ghost use Rattle.std.specs.Prelude.{◌≡◌, ◌==◌, ◌<◌, ℕ, Some, None, length, if◌then◌else◌};
+
+use fbl_base::Member;
+
+/// For each member's number, a column or none.
+#[derive(Clone, Copy)]
+pub(crate) struct Columns {
+    columns: [Option<usize>; 16],
+    ghost room: { length columns ≡ 16 },
+}
+
+impl Columns {
+    ghost use Rattle.fbl_pictures.specs.RunPictures.{column_in};
+
+    /// No column for any member.
+    pub(crate) fn none() -> Columns
+        ensures { (q : ℕ) → column_in result q ≡ None }
+    {
+        Columns {
+            columns: [None; 16],
+        }
+    }
+
+    pub(crate) fn of(columns: [Option<usize>; 16]) -> Columns
+        requires { length columns ≡ 16 }
+        ensures { result.columns ≡ columns }
+    {
+        Columns { columns }
+    }
+
+    /// That of the member with this number.
+    pub(crate) fn get(&self, number: u8) -> Option<usize>
+        ensures { result ≡ column_in self.now number }
+    {
+        match self.columns.get(usize::from(number)) {
+            Some(column) => *column,
+            None => None,
+        }
+    }
+
+    /// Sets that of the member.
+    pub(crate) fn set(&mut self, member: Member, column: usize)
+        ensures { (q : ℕ) → column_in self.new q ≡ (if q == member then Some column else column_in self.old q) }
+    {
+        self.columns[member.number() as usize] = Some(column);
+    }
+}
