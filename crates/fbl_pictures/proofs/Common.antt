@@ -16,11 +16,11 @@ pub use Rattle.fbl_base.specs.Audit.{lost_determinants, orphan_start_in, IsDumpO
 pub use Rattle.fbl_audit.specs.Paths.{IsOrphanPath}
 pub use Rattle.fbl_base.specs.Events.{is_message, same_message}
 pub use Rattle.fbl_base.specs.declared.trace.MessageName.{MessageName}
-pub use Rattle.fbl_history.specs.Columns.{made_after, receipts_made, ReceiptsFollowSends}
+pub use Rattle.fbl_history.specs.Columns.{ReceiptsFollowSends}
 pub use Rattle.fbl_history.specs.declared.column.Column.{Column}
 pub use Rattle.fbl_input.proofs.Outputs.{puts_text}
 pub use Rattle.fbl_pictures.specs.DumpPictures.{ArePathsDrawn, AreStepsTo, IsPicture, dump_member_shapes, event_arrow, event_marks, members_drawn, path_shapes, receipt_place, shapes_of_member, taken_by, takes, title}
-pub use Rattle.fbl_pictures.specs.HistoryMarks.{column_marks, marks_after, recovery_mark, strike_mark}
+pub use Rattle.fbl_pictures.specs.HistoryMarks.{column_marks, recovery_mark, strike_mark}
 pub use Rattle.fbl_pictures.specs.HistoryMembers.{brings_back, history_member_shapes, is_back, is_down_after, line_parts, members_shapes, strikes}
 pub use Rattle.fbl_pictures.specs.HistoryMessages.{arrow_from, back_before, has_standing_receipt, last_before, last_sent, later, receipt_arrow, sent_before, stub, stub_where, taken_by_column, arrow_between, arrow_kind, is_comeback, sends}
 pub use Rattle.fbl_pictures.specs.Pictures.{picture}
