@@ -17,7 +17,7 @@ pub use Rattle.fbl_audit.specs.Paths.{IsOrphanPath, IsPathTo}
 pub use Rattle.fbl_base.specs.Events.{is_message, same_determinant, same_message}
 pub use Rattle.fbl_base.specs.declared.trace.Determinant.{Determinant}
 pub use Rattle.fbl_base.specs.declared.trace.MessageName.{MessageName}
-pub use Rattle.fbl_history.specs.Columns.{made_after, receipts_made, ReceiptsFollowSends}
+pub use Rattle.fbl_history.specs.Columns.{ReceiptsFollowSends}
 pub use Rattle.fbl_history.specs.declared.column.Column.{Column}
 pub use Rattle.fbl_moments.specs.declared.entry.Entry.{Entry}
 pub use Rattle.fbl_moments.specs.declared.entry.Entry.TheVariants.{Event, Hold, Store}
@@ -25,7 +25,7 @@ pub use Rattle.fbl_input.proofs.Outputs.{puts_text}
 pub use Rattle.fbl_pictures.specs.DumpPictures.{ArePathsDrawn, AreStepsTo, HasOrphan, IsPicture, dump_entries}
 pub use Rattle.fbl_pictures.specs.FoundPictures.{ArePaths, AreSteps, IsStart, NoColumns}
 pub use Rattle.fbl_pictures.specs.RunPictures.{column_in, entry_arrow, entry_marks, is_that, lines_and_arrows, member_shapes, members_drawn, moment_drawn, moment_part, moment_shapes, path_shapes, placed_from, receipt_place, shapes_of_member, stored_by, is_stored, taken_in, takes}
-pub use Rattle.fbl_pictures.specs.HistoryMarks.{column_marks, marks_after, recovery_mark, strike_mark}
+pub use Rattle.fbl_pictures.specs.HistoryMarks.{column_marks, recovery_mark, strike_mark}
 pub use Rattle.fbl_pictures.specs.HistoryMembers.{brings_back, history_member_shapes, is_back, is_down_after, line_parts, members_shapes, strikes}
 pub use Rattle.fbl_pictures.specs.HistoryMessages.{arrow_from, back_before, has_standing_receipt, last_before, last_sent, later, receipt_arrow, sent_before, stub, stub_where, taken_by_column, arrow_between, arrow_kind, is_comeback, sends}
 pub use Rattle.fbl_pictures.specs.Pictures.{picture}

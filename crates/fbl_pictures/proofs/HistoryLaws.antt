@@ -9,7 +9,7 @@ use Rattle.fbl_pictures.proofs.Common.{ℕ, zero, suc, ◌+◌, ◌<◌, ◌≤�
 use Rattle.fbl_pictures.proofs.Common.{slice_get, beq, fold, slice_get-get_or, get_or_from_slice_get, subst, filter, max, refl, sym, ap, ◌∙◌, append-nil, arith, cases_lt, lt-ltb, le-ltb, eqb-self, ne_eqb}
 use Rattle.fbl_pictures.proofs.Common.{or_left, or_right, option_to_list, Decides-and, Decides-not, Decides-or, Column, Shape, ReceiptsFollowSends, arrow_between, arrow_kind}
 use Rattle.fbl_pictures.proofs.Common.{back_before, brings_back, column_marks, history_member_shapes, is_back, is_comeback, is_down_after, label_and_names, last_sent, later, line_kind_of, line_parts}
-use Rattle.fbl_pictures.proofs.Common.{marks_after, receipt_arrow, receipts_made, recovery_mark, sends, sent_before, strike_mark, strikes}
+use Rattle.fbl_pictures.proofs.Common.{receipt_arrow, recovery_mark, sends, sent_before, strike_mark, strikes}
 use Rattle.fbl_pictures.proofs.Indexing.{Decides-same_message}
 use Rattle.fbl_pictures.proofs.Lasts.{last_is, last_some, later_is}
 use Rattle.fbl_pictures.proofs.Layers.{IsNoEvent, arrow_none, arrows_none, drawn_one, filter_map_none, filter_none, filter_nothing, layers, mark_none, marks_none, members_none, names_none, numbers_one, parts_none, stubs_none}
@@ -19,14 +19,14 @@ use Rattle.fbl_pictures.proofs.Steps.{agree, fold_more}
 
 module _ (place : ℕ) where
   no-event : IsNoEvent (is_mark_in place)
-  no-event = record { strike = λ i m. refl; recovery = λ i m k. refl; checkpoint = λ i m. refl; made_and_undone = λ i k. refl }
+  no-event = record { strike = λ i m. refl; recovery = λ i m k. refl; checkpoint = λ i m. refl }
 
-  mark-here : (made : ℕ) (c : Column) → filter (is_mark_in place) (marks_after made place c) ≡ mark_of_event place c
-  mark-here made (columns.Send from ssn to undone) = rw (eqb-self place) refl
-  mark-here made (columns.Receipt to rsn from ssn state undone) = rw (eqb-self place) refl
-  mark-here made (columns.Strike struck) = filter_map_none (is_mark_in place) (strike_mark place) (member_list struck) (λ q. refl)
-  mark-here made (columns.Recovery replays) = filter_map_none (is_mark_in place) (recovery_mark place) replays.items (λ q. refl)
-  mark-here made _ = refl
+  mark-here : (c : Column) → filter (is_mark_in place) (column_marks place c) ≡ mark_of_event place c
+  mark-here (columns.Send from ssn to undone) = rw (eqb-self place) refl
+  mark-here (columns.Receipt to rsn from ssn state undone) = rw (eqb-self place) refl
+  mark-here (columns.Strike struck) = filter_map_none (is_mark_in place) (strike_mark place) (member_list struck) (λ q. refl)
+  mark-here (columns.Recovery replays) = filter_map_none (is_mark_in place) (recovery_mark place) replays.items (λ q. refl)
+  mark-here _ = refl
 
 pub marks_each_event : (members : ℕ) (history : List Column) → MarksEachEvent members history
 marks_each_event members history place column at =
@@ -38,9 +38,9 @@ marks_each_event members history place column at =
       arrows_none p history (λ f s t r k. refl),
       stubs_none p history (λ f s t a. refl),
     )
-    (drawn_one p (column_marks history) place (λ i c apart. mark_none p (no-event place) (receipts_made (take i history)) i c
+    (drawn_one p column_marks place (λ i c apart. mark_none p (no-event place) i c
     (λ f s t u. ne_eqb i place apart) (λ d s u. ne_eqb i place apart)) 0 place history column at here
-    ∙ mark-here place (receipts_made (take place history)) column)
+    ∙ mark-here place column)
 
 -- ---- messages
 
@@ -130,7 +130,7 @@ has_arrow_from_its_send members history follow place to rsn from ssn state undon
         layers p history members,
         members_none p history (λ m s. refl) (λ i m. refl) (λ m s e k. refl) members,
         stubs_none p history (λ f s t a. refl),
-        marks_none p history (record { strike = λ i m. refl; recovery = λ i m k. refl; checkpoint = λ i m. refl; made_and_undone = λ i k. refl })
+        marks_none p history (record { strike = λ i m. refl; recovery = λ i m k. refl; checkpoint = λ i m. refl })
             (λ i f s t u. refl) (λ i d s u. refl),
       )
           (simp append-nil (drawn_one p (receipt_arrow history) place (λ i c apart. arrow_none p i (λ f s t k. ne_eqb i place apart) (sent_before history i) (back_before history i) c)
@@ -252,7 +252,7 @@ is_dashed_while_down members history member place below within =
         layers p history members,
         arrows_none p history (λ f s t r k. refl),
         stubs_none p history (λ f s t a. refl),
-        marks_none p history (record { strike = λ i m. refl; recovery = λ i m k. refl; checkpoint = λ i m. refl; made_and_undone = λ i k. refl })
+        marks_none p history (record { strike = λ i m. refl; recovery = λ i m k. refl; checkpoint = λ i m. refl })
             (λ i f s t u. refl) (λ i d s u. refl),
       )
           (simp append-nil (numbers_one p (history_member_shapes history) member (λ q apart. filter_nothing p (label_and_names (length history) q None) (line_parts q None false 0 history) (names q)

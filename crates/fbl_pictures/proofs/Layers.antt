@@ -11,8 +11,8 @@ use Rattle.fbl_pictures.specs.declared.shape.Status.{Status}
 use Rattle.fbl_pictures.proofs.Common.{ℕ, zero, suc, ◌+◌, ◌*◌, ◌/◌, ◌<◌, ◌≡◌, ◌≢◌, ◌||◌, Bool, true, false, cond, List, [], ◌∷◌, ◌++◌, map, Option, Some, None, slice_get, filter, filter-append}
 use Rattle.std.proofs.lemmas.List.FromFn.{length-range_with_len}
 use Rattle.fbl_pictures.proofs.Common.{append-nil, slice_get-get_or, flat_map, range_with_len, refl, ap, ◌∙◌, arith, length, take, option_to_list, Column, Shape, MessageName, arrow_between, arrow_from, back_before}
-use Rattle.fbl_pictures.proofs.Common.{column_marks, drawn, has_standing_receipt, history_member_shapes, is_down_after, label_and_names, last_sent, line_kind_of, line_parts, marks_after, members_shapes}
-use Rattle.fbl_pictures.proofs.Common.{nat_lt, arrow_kind, receipt_arrow, receipts_made, recovery_mark, sent_before, strike_mark, stub, stub_where}
+use Rattle.fbl_pictures.proofs.Common.{column_marks, drawn, has_standing_receipt, history_member_shapes, is_down_after, label_and_names, last_sent, line_kind_of, line_parts, members_shapes}
+use Rattle.fbl_pictures.proofs.Common.{nat_lt, arrow_kind, receipt_arrow, recovery_mark, sent_before, strike_mark, stub, stub_where}
 
 -- what is drawn of each number, seen as drawn in columns
 numbers-drawn : (f : ℕ → List Shape) (k n : ℕ) → flat_map f (range_with_len k n) ≡ drawn (λ q _. f q) k (range_with_len k n)
@@ -83,25 +83,23 @@ module _ (p : Shape → Bool) where
     at false again = rw (none from i to again) refl
   stub_none none received back i _ = refl
 
-  -- what is drawn at strikes, recoveries and checkpoints, and of receipts that have no column
+  -- what is drawn at strikes, recoveries and checkpoints
   pub record IsNoEvent : Type 0 where
     pub strike : (i m : ℕ) → p (shapes.Strike i m) ≡ false
     pub recovery : (i m receipts : ℕ) → p (shapes.Recovery i m receipts) ≡ false
     pub checkpoint : (i m : ℕ) → p (shapes.Checkpoint i m) ≡ false
-    pub made_and_undone : (i receipts : ℕ) → p (shapes.MadeAndUndone i receipts) ≡ false
 
   one_none : (shape : Shape) → p shape ≡ false → filter p (shape ∷ []) ≡ []
   one_none shape none = rw none refl
 
-  pub mark_none : IsNoEvent → (made i : ℕ) (c : Column)
+  pub mark_none : IsNoEvent → (i : ℕ) (c : Column)
       → ((from ssn to : ℕ) (undone : Bool) → p (shapes.Send i from ssn to undone) ≡ false)
-      → ((d : Determinant) (state : ℕ) (undone : Bool) → p (shapes.Receipt i d state undone) ≡ false) → filter p (marks_after made i c) ≡ []
-  mark_none none made i (columns.Strike struck) send receipt = filter_map_none (strike_mark i) (member_list struck) (none.strike i)
-  mark_none none made i (columns.Recovery replays) send receipt = filter_map_none (recovery_mark i) replays.items (λ r. none.recovery i r.member r.receipts)
-  mark_none none made i (columns.Send from ssn to undone) send receipt = rw (send from ssn to undone) refl
-  mark_none none made i (columns.Receipt to rsn from ssn state undone) send receipt = one_none _ (receipt _ state _)
-  mark_none none made i (columns.Checkpoint m) send receipt = rw (none.checkpoint i m) refl
-  mark_none none made i (columns.ReceiptsMade total) send receipt = rw (none.made_and_undone i _) refl
+      → ((d : Determinant) (state : ℕ) (undone : Bool) → p (shapes.Receipt i d state undone) ≡ false) → filter p (column_marks i c) ≡ []
+  mark_none none i (columns.Strike struck) send receipt = filter_map_none (strike_mark i) (member_list struck) (none.strike i)
+  mark_none none i (columns.Recovery replays) send receipt = filter_map_none (recovery_mark i) replays.items (λ r. none.recovery i r.member r.receipts)
+  mark_none none i (columns.Send from ssn to undone) send receipt = rw (send from ssn to undone) refl
+  mark_none none i (columns.Receipt to rsn from ssn state undone) send receipt = one_none _ (receipt _ state _)
+  mark_none none i (columns.Checkpoint m) send receipt = rw (none.checkpoint i m) refl
 
   pub names_none : ((m : ℕ) (s : Option Status) → p (shapes.Label m s) ≡ false) → ((i m : ℕ) → p (shapes.Name i m) ≡ false)
       → (columns member : ℕ) (s : Option Status) → filter p (label_and_names columns member s) ≡ []
@@ -127,9 +125,9 @@ module _ (p : Shape → Bool) where
 
     pub marks_none : IsNoEvent → ((i from ssn to : ℕ) (undone : Bool) → p (shapes.Send i from ssn to undone) ≡ false)
         → ((i : ℕ) (d : Determinant) (state : ℕ) (undone : Bool) → p (shapes.Receipt i d state undone) ≡ false)
-        → filter p (drawn (column_marks history) 0 history) ≡ []
-    marks_none none send receipt = drawn_none (column_marks history) 0 history
-        (λ i c. mark_none none (receipts_made (take i history)) i c (send i) (receipt i))
+        → filter p (drawn column_marks 0 history) ≡ []
+    marks_none none send receipt = drawn_none column_marks 0 history
+        (λ i c. mark_none none i c (send i) (receipt i))
 
     pub members_none : ((m : ℕ) (s : Option Status) → p (shapes.Label m s) ≡ false) → ((i m : ℕ) → p (shapes.Name i m) ≡ false)
         → ((m : ℕ) (s : Option ℕ) (e : ℕ) (k : LineKind) → p (shapes.Line m s e k) ≡ false) → (members : ℕ) → filter p (members_shapes members history) ≡ []
@@ -140,6 +138,6 @@ module _ (p : Shape → Bool) where
     -- what is left of all layers, one after another
     pub layers : (members : ℕ) → filter p (history_shapes members history)
         ≡ ((filter p (members_shapes members history) ++ filter p (drawn (receipt_arrow history) 0 history)) ++ filter p (drawn (stub history) 0 history))
-        ++ filter p (drawn (column_marks history) 0 history)
+        ++ filter p (drawn column_marks 0 history)
     unfolding history_shapes
     layers members = simp filter-append

@@ -1,6 +1,7 @@
 -- The names that proofs of this crate take from outside: of the standard library, of the crates below, and of the definitions here.
-pub use Rattle.std.proofs.Common.{Err, IfErr, List, None, Ok, Result, Some, [], ap, append-nil, arith, get_or, inl, inr, length, refl, string_bytes, subst}
+pub use Rattle.std.proofs.Common.{Err, IfErr, List, None, Ok, Option, Result, Some, [], ap, append-nil, arith, get_or, inl, inr, length, refl, string_bytes, subst}
 pub use Rattle.std.proofs.Common.{sym, take, drop, ℕ, ◌++◌, ◌+◌, ◌<◌, ◌∙◌, ◌∷◌, ◌≡◌, ◌≤◌, Bool, true, false, not, cond, suc, map, length-drop}
+pub use Rattle.std.proofs.Math.Logic.{∥∥₁_map}
 pub use Rattle.std.proofs.lemmas.Bool.{false≢true, true_from_ne_false}
 pub use Rattle.std.proofs.lemmas.List.{drop_more, get_or_default, map_push, take_all, take_more}
 pub use Rattle.std.proofs.lemmas.List.Elements.{filter-append, filter_passes}
@@ -17,22 +18,31 @@ pub use Rattle.fbl_base.specs.declared.strike.Strike.{Strike}
 pub use Rattle.fbl_base.specs.declared.trace.Determinant.{Determinant}
 pub use Rattle.fbl_base.specs.declared.trace.Event.{Event}
 pub use Rattle.fbl_group.specs.Strikes.{lost_receipts}
+pub use Rattle.fbl_base.specs.Steps.{SendsWell}
+pub use Rattle.fbl_history.proofs.Deliveries.{follows_delivery}
+pub use Rattle.fbl_history.proofs.Recoveries.{follows_recovery}
+pub use Rattle.fbl_history.proofs.Steps.{begins_at_start, follows_checkpoint, follows_strike}
+pub use Rattle.fbl_history.proofs.Turning.{history_led}
+pub use Rattle.fbl_history.specs.Traces.{IsHistoryOf}
+pub use Rattle.fbl_history.specs.Turns.{IsLedTo}
 pub use Rattle.fbl_history.specs.declared.column.Column.{Column}
 pub use Rattle.fbl_input.proofs.Inputs.{over_input}
 pub use Rattle.fbl_input.specs.declared.output.OutputFault.{OutputFault}
 pub use Rattle.fbl_law.proofs.Keeping.{recorded_test, was_up}
 pub use Rattle.fbl_law.proofs.Safe.{no_orphan, up_if_none}
-pub use Rattle.fbl_law.specs.GroupSteps.{IsStrike}
+pub use Rattle.fbl_law.specs.GroupSteps.{IsGroupStart, IsStrike}
 pub use Rattle.fbl_law.specs.Groups.{GroupRecord, is_recorded, knowledge, marks, IsSound}
 pub use Rattle.fbl_law.specs.Knowledge.{IsRecorded, IsUp, Names}
 pub use Rattle.fbl_member.specs.Members.{MemberRecord}
 pub use Rattle.fbl_texts.specs.Scripts.{IsScriptFault, IsScriptOf, outline}
 pub use Rattle.fbl_texts.specs.declared.script.Command.{Command}
-pub use Rattle.fbl_threads.specs.Drains.{Drains}
+pub use Rattle.fbl_threads.proofs.Leading.{turns_lead}
+pub use Rattle.fbl_threads.specs.Drains.{RecordedDrains}
 pub use Rattle.fbl_threads.specs.declared.draining.DrainRefusal.{DrainRefusal}
-pub use Rattle.fbl_threads.specs.declared.draining.Drained.{Drained}
+pub use Rattle.fbl_threads.specs.declared.draining.Recorded.{Recorded}
 pub use Rattle.fbl_play.specs.Plays.{Along, IsPlay, IsRun, IsRunOne, IsStopped, Moment, Observes, PlaysUnobserved, Ran, Runs, next_of}
 pub use Rattle.fbl_play.specs.Reasons.{IsPlanRefused}
 pub use Rattle.fbl_play.specs.Texts.{of_members, member_line, state_word}
-pub use Rattle.fbl_play.specs.Transcripts.{IsAdded, IsBegun, Transcript}
+pub use Rattle.fbl_play.specs.Steps.{RunStep, Step}
+pub use Rattle.fbl_play.specs.Transcripts.{IsAdded, IsBegun, IsLedOn, IsOfGroup, Transcript}
 pub use Rattle.fbl_play.specs.declared.answer.Answer.{Answer}

@@ -2,7 +2,7 @@
 use Rattle.fbl_base.specs.declared.trace.Note.{Note}
 use Rattle.fbl_play.proofs.Common.{◌≡◌, ℕ, ◌<◌, ◌≤◌, ◌+◌, List, [], ◌∷◌, ◌++◌, length, map_push, take, get_or, refl, ap, ◌∙◌, inl, inr, Some, None, Result}
 use Rattle.fbl_play.proofs.Common.{Ok, Err, take_all, take_more, IsErrAnd, err_from_is_err_and, Settings, Next, GroupRecord, Command, OutputFault, Column}
-use Rattle.fbl_play.proofs.Common.{Answer, Along, IsAdded, IsBegun, IsPlay, IsRun, IsRunOne, IsStopped, Moment, Observes, Ran, Runs, Transcript}
+use Rattle.fbl_play.proofs.Common.{Answer, Along, IsAdded, IsBegun, IsOfGroup, IsPlay, IsSound, IsRun, IsRunOne, IsStopped, Moment, Observes, Ran, Runs, Transcript}
 use Rattle.fbl_input.specs.declared.output.OutputFault.TheVariants as outputs
 use Rattle.fbl_play.specs.Transcripts.{history, text}
 
@@ -32,6 +32,15 @@ module _ (next : Next ℕ Note) (workers : ℕ) where
   pub history_ends : (config : Settings Note) (cs : List Command) (has : Transcript) → Runs next workers config cs (history None) has (Ok tt) → (last : List Column) × (has ≡ history (Some last))
   history_ends config cs has (ran, r, run) = (let begun = has_begun run.first run.begun run.begins in all_go_on ran _ _ begun.0 begun.1 run.along)
 
+-- a run comes to a sound group
+along-sound : (next : Next ℕ Note) (workers : ℕ) (ran : List Ran) (old new : Moment) → IsSound next old.group → Along next workers ran old new → IsSound next new.group
+along-sound next workers [] old new sound is = rw is sound
+along-sound next workers (r ∷ ran) old new sound is = along-sound next workers ran r.new new is.1.sound is.2
+
+pub run_sound : (next : Next ℕ Note) (workers : ℕ) (config : Settings Note) (cs : List Command) (had : Transcript) (ran : List Ran) (end : Moment) → IsRun next workers config cs had ran end
+    → IsSound next end.group
+run_sound next workers config cs had ran end run = along-sound next workers ran (record { group = run.first; transcript = run.begun }) end run.sound run.along
+
 module _ {O : Type 0} (before : GroupRecord ℕ Note → Transcript → O → Command → O → Type 0) (after : GroupRecord ℕ Note → Transcript → O → Command → Answer → O → Type 0) where
   observes_more : (ran : List Ran) (one : Ran) (old mid begun new : O) → Observes before after ran old mid → before one.old.group one.old.transcript mid one.command begun
       → after one.new.group one.new.transcript begun one.command one.answer new → Observes before after (ran ++ one ∷ []) old new
@@ -51,8 +60,8 @@ module _ {O : Type 0} (before : GroupRecord ℕ Note → Transcript → O → Co
       module _ (c : Command) (within : i < length cs) (is : c ≡ get_or cs i c) (begun : O) (observed : before at.group at.transcript observer c begun) where
         -- the next one was run
         pub run_more : (answer : Answer) (new : Moment) (last : O) → IsRunOne next workers (record { old = at; command = c; answer = answer; new = new })
-            → after new.group new.transcript begun c answer last → HasRun (i + 1) new last
-        run_more answer new last one seen = (
+            → after new.group new.transcript begun c answer last → IsOfGroup next new.group new.transcript → HasRun (i + 1) new last
+        run_more answer new last one seen told = (
           run.0 ++ record { old = at; command = c; answer = answer; new = new } ∷ [],
           record {
             first = run.1.first;
@@ -62,6 +71,7 @@ module _ {O : Type 0} (before : GroupRecord ℕ Note → Transcript → O → Co
             begins = run.1.begins;
             commands = rw (take_more cs i c within, ← is) (map_push (λ (r : Ran). r.command) run.0 _ ∙ ap (λ l. l ++ c ∷ []) run.1.commands);
             along = along_more next workers run.0 _ _ run.1.along one;
+            told = told;
           },
           observes_more run.0 _ old observer begun last run.2 observed seen,
         )

@@ -2,6 +2,7 @@
 
 ghost use Rattle.std.specs.Prelude.{IfSome, None};
 ghost use Rattle.fbl_base.specs.Configs.{WorkersAllowed};
+ghost use Rattle.fbl_base.specs.Steps.{SendsWell};
 ghost use Rattle.fbl_play.specs.Plays.{IsHistoryPlay, IsPlay, PlaysScript, ReadsAndPlays};
 ghost use Rattle.fbl_play.specs.Transcripts.{text};
 ghost use Rattle.fbl_texts.specs.Scripts.{outline};
@@ -18,6 +19,11 @@ use std::alloc::{AllocError, Global};
 use std::io::{Read, Write};
 use std::sync::Wait;
 use std::thread::Threads;
+
+/// Does nothing but promise what is so of each behaviour: its sends are allowed.
+fn sends_well<B: Behaviour<State = u64, Note = Note>>()
+    ensures { SendsWell B.next }
+{}
 
 /// Runs the commands on a new group, and adds each to the transcript when it ends. The observer is called for each.
 fn run_commands<
@@ -37,6 +43,7 @@ fn run_commands<
     ensures { IsPlay O.observes_before O.observes_after B.next workers config commands.now (K.transcript transcript.old) (K.transcript transcript.new) observer.old observer.new result }
 {
     let mut group: Group<B> = Group::new(alloc, config)?;
+    sends_well::<B>();
     // the group is sound
     group.recoverable();
     transcript.begin(alloc, &group)?;
