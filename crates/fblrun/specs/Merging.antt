@@ -9,7 +9,7 @@ use Rattle.fbl_order.specs.declared.fault.OrderFault.TheVariants as orders
 use Rattle.fbl_order.specs.declared.parts.PartsFault.TheVariants as parts
 use Rattle.fbl_order.specs.Faults.{RefusesUnordered}
 use Rattle.fbl_order.specs.Orders.{SameAnswers, with_events, IsOrder}
-use Rattle.fbl_order.specs.Parts.{IsUnited, RefusesParts}
+use Rattle.fbl_order.specs.Parts.{IsUnited, RefusesParts, dump_group}
 use Rattle.fblrun.specs.declared.merging.MergeFault.{MergeFault}
 use Rattle.fblrun.specs.declared.merging.MergeFault.TheVariants as faults
 
@@ -28,7 +28,7 @@ IsMergeOf dumps dump = (whole : Parts) × IsUnited dumps whole × IsMerged whole
 
 -- the dumps differ; or what they have together has no order, or breaks another rule; or memory ran out
 abbrev pub RefusesMerge : {A : Type 0} → List (RawDump A) → MergeFault → Type 0
-RefusesMerge dumps (faults.Parts fault) = RefusesParts dumps fault
+RefusesMerge dumps (faults.Parts fault) = RefusesParts dump_group dumps fault
 RefusesMerge dumps (faults.Order fault) = (whole : Parts) × IsUnited dumps whole × RefusesUnordered whole fault
 
 -- 4 where memory ran out, and else 2
