@@ -1,24 +1,24 @@
 -- A log may have its entries in any order that keeps the members' logs.
-use Rattle.fbl_order.proofs.Common.{ℕ, List, Some, ◌≡◌, ◌<◌, ◌≤◌, ◌+◌, ◌∙◌, refl, sym, ap, arith, cases_lt, inl, inr, length, member_of, slice_get, slice_get_within, subst, take}
+use Rattle.fbl_order.proofs.Common.{ℕ, List, Some, ◌≡◌, ◌<◌, ◌≤◌, ◌+◌, ◌∙◌, refl, sym, ap, arith, length, slice_get, slice_get_within, subst, take}
 use Rattle.fbl_base.specs.declared.trace.Determinant.{Determinant}
 use Rattle.fbl_moments.specs.declared.entry.Entry.{Entry}
 use Rattle.fbl_moments.specs.Entries.{Logs, entry_member, log_of, marks, recorded_in}
 use Rattle.fbl_moments.specs.Lawful.{IsFewAt, records}
-use Rattle.fbl_moments.specs.Logs.{IsLog, LogParts, run_of}
+use Rattle.fbl_moments.specs.Logs.{IsLog, LogParts}
 use Rattle.fbl_moments.specs.Moments.{DependsOn}
-use Rattle.fbl_moments.specs.HappenedBefore.{Position, IsAt}
-use Rattle.fbl_moments.specs.Runs.{AlwaysSafe, AreEntries, Run}
+use Rattle.fbl_moments.specs.HappenedBefore.{IsAt}
+use Rattle.fbl_moments.specs.Runs.{AlwaysSafe, Run}
 use Rattle.fbl_moments.specs.Unsafe.{IsUnsafe}
 use Rattle.fbl_base.specs.declared.fault.Breach.{Breach}
 use Rattle.fbl_base.specs.declared.fault.Breach.TheVariants as breach
 use Rattle.fbl_base.specs.declared.refusal.DumpRefusal.{DumpRefusal}
-use Rattle.fbl_base.specs.declared.refusal.DumpRefusal.TheVariants.{BadEvent, BadF, BadHeld, BadMembers, BadStrike, Memory}
-use Rattle.fbl_moments.specs.declared.fault.LogBreach.TheVariants.{Record, Trace}
+use Rattle.fbl_base.specs.declared.refusal.DumpRefusal.TheVariants.{BadEvent, BadF, BadMembers, Memory}
+use Rattle.fbl_moments.specs.declared.fault.LogBreach.TheVariants.{Trace}
 use Rattle.fbl_order.specs.Faults.{RefusesGroup, RefusesOrder}
 use Rattle.fbl_order.specs.LogFaults.{AreEventPlaces, RefusesAmong, RefusesInOrder, breach_given, place_given, refusal_given}
 use Rattle.fbl_order.specs.LogOrders.{IsOrderOfEntries, SameEntryLogs, SameLogAnswers, items_at, with_entries}
 use Rattle.fbl_order.specs.Orders.{IsOrder}
-use Rattle.fbl_order.specs.declared.fault.LogOrderFault.TheVariants.{Log, NoOrder}
+use Rattle.fbl_order.specs.declared.fault.LogOrderFault.TheVariants.{Log}
 use Rattle.fbl_order.specs.declared.fault.OrderFault.TheVariants.{Dump}
 use Rattle.fbl_order.proofs.Common.{At, Mark, slice_get-get_or}
 use Rattle.fbl_order.proofs.EventPlaces.{mark_at}

@@ -1,8 +1,8 @@
 -- Laws of the members' own items in a list in which those of different members are mixed: events, or entries.
 use Rattle.fbl_order.proofs.Common.{Bool, List, ℕ, zero, suc, [], ◌∷◌, ◌++◌, ◌+◌, ◌==◌, ◌≡◌, ◌≢◌, ◌≤◌, ◌<◌, ◌∙◌, true, false, None, Option, Some}
 use Rattle.fbl_order.proofs.Common.{cond, refl, sym, ap, subst, length, length-set, take, arith, add-one, take-more, eqb-self, eqb-true, false≢true, get_or, nat_tests, append-nil}
-use Rattle.fbl_order.proofs.Common.{filter, filter-append, take-append-drop, drop, IsPermutation, IsPermutation-cons, IsPermutation-middle, IsPermutation-refl}
-use Rattle.fbl_order.proofs.Common.{IsPermutation-sym, IsPermutation-trans, slice_get, slice_get_within, inl, inr, cases_eq, cases_lt, ◌⊎◌, Begins}
+use Rattle.fbl_order.proofs.Common.{filter-append, take-append-drop, drop, IsPermutation, IsPermutation-cons, IsPermutation-middle, IsPermutation-refl}
+use Rattle.fbl_order.proofs.Common.{IsPermutation-sym, IsPermutation-trans, slice_get, slice_get_within, inl, inr, cases_eq, cases_lt, Begins}
 use Rattle.fbl_order.proofs.Common.{length-append}
 use Rattle.std.proofs.Common.{get_or-set_other, get_or-set_same, set}
 use Rattle.std.proofs.lemmas.List.{take-take, get_or_default}

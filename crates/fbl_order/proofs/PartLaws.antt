@@ -1,13 +1,10 @@
 -- Laws of what parts have one behind another.
-use Rattle.fbl_order.proofs.Common.{ℕ, List, [], ◌∷◌, ◌++◌, ◌+◌, ◌<◌, ◌≡◌, ◌∙◌, Some, suc, zero, refl, sym, ap, arith, add-one, append-nil, append_assoc, At-front, drop, get_or, length}
-use Rattle.fbl_order.proofs.Common.{slice_get, slice_get_read, slice_get_within, take, take-append-drop, take-more}
+use Rattle.fbl_order.proofs.Common.{ℕ, List, [], ◌∷◌, ◌++◌, ◌+◌, ◌≡◌, ◌∙◌, Some, suc, refl, sym, ap, arith, add-one, append-nil, At-front, drop, length}
+use Rattle.fbl_order.proofs.Common.{slice_get, take, take-append-drop, take-more}
 use Rattle.fbl_base.proofs.Gets.{drop_next}
 use Rattle.std.proofs.Common.{flat_map}
 use Rattle.std.proofs.lemmas.Grind.{flat_map-append}
-use Rattle.std.proofs.lemmas.List.{get_or-append-add}
-use Rattle.std.proofs.lemmas.Option.{get_or_from_slice_get, slice_get-get_or}
 use Rattle.fbl_moments.specs.declared.entry.Entry.{Entry}
-use Rattle.fbl_moments.specs.declared.log.EntryOrigin.{EntryOrigin}
 use Rattle.fbl_moments.specs.declared.log.RawLog.{RawLog}
 use Rattle.fbl_order.specs.Parts.{IsOriginOf, entries_of}
 

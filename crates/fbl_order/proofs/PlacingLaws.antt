@@ -1,7 +1,7 @@
 -- What a walk over the entries of a log keeps, step by step, and what it has in the end.
-use Rattle.fbl_order.proofs.Common.{List, Mark, At, At-front, At-push, ℕ, suc, zero, [], ◌∷◌, ◌++◌, ◌+◌, ◌≡◌, ◌≢◌, ◌≤◌, ◌<◌, ◌==◌, ◌∙◌, true, false, None, Some}
-use Rattle.fbl_order.proofs.Common.{SameLogs, add-one, ap, append-nil, append_cancel_left, arith, cases_lt, cond, drop, filter-append, filter_map, filter_map-append, inl, inr, length}
-use Rattle.fbl_order.proofs.Common.{length-append, member_of, nat_tests, refl, slice_get, slice_get_within, subst, sym, take, take-append-drop, take-more, take_all}
+use Rattle.fbl_order.proofs.Common.{List, Mark, At, At-front, At-push, ℕ, suc, [], ◌∷◌, ◌++◌, ◌+◌, ◌≡◌, ◌≤◌, ◌<◌, ◌==◌, ◌∙◌, true, false, None, Some}
+use Rattle.fbl_order.proofs.Common.{SameLogs, ap, append-nil, append_cancel_left, arith, cases_lt, cond, drop, filter-append, filter_map-append, inl, inr, length}
+use Rattle.fbl_order.proofs.Common.{length-append, member_of, nat_tests, refl, slice_get, slice_get_within, sym, take, take-append-drop, take-more, take_all}
 use Rattle.fbl_base.proofs.Gets.{At-seam, drop_next}
 use Rattle.fbl_order.proofs.Common.{false}
 use Rattle.std.proofs.Common.{is_some, set}

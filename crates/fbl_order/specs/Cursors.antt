@@ -40,5 +40,7 @@ IsLeastCursor MayCome cursor (Some place) =
 -- of the cursors before the end, the least for which the answer is yes
 pub record IsLeastGiven (Gives : ℕ → Bool → Type 0) (cursors : List ℕ) (end : ℕ) (least : Option ℕ) : Type 0 where
   pub none : least ≡ None → (member : ℕ) → slice_index_or cursors member end < end → Gives (slice_index_or cursors member end) false
-  pub some : (place : ℕ) → least ≡ Some place → (place < end) × Gives place true × ((member : ℕ) × (slice_index_or cursors member end ≡ place))
-  pub before : (place : ℕ) → least ≡ Some place → (member : ℕ) → slice_index_or cursors member end < place → Gives (slice_index_or cursors member end) false
+  pub some : (place : ℕ) → least ≡ Some place
+      → (place < end) × Gives place true × ((member : ℕ) × (slice_index_or cursors member end ≡ place))
+  pub before : (place : ℕ) → least ≡ Some place
+      → (member : ℕ) → slice_index_or cursors member end < place → Gives (slice_index_or cursors member end) false

@@ -31,7 +31,8 @@ obstacle_given places (Waits place) = Waits (place_given places place)
 obstacle_given places obstacle = obstacle
 
 abbrev pub stuck_given : List ℕ → Stuck → Stuck
-stuck_given places stuck = record { place = place_given places stuck.place; event = stuck.event; obstacle = obstacle_given places stuck.obstacle }
+stuck_given places stuck =
+    record { place = place_given places stuck.place; event = stuck.event; obstacle = obstacle_given places stuck.obstacle }
 
 abbrev pub refusal_given : List ℕ → DumpRefusal → DumpRefusal
 refusal_given places (BadEvent place) = BadEvent (place_given places place)
@@ -61,7 +62,8 @@ pub record ShowsNoOrderAmong (n : ℕ) (entries : List Entry) (chain : List Stuc
 abbrev pub RefusesAmong : ℕ → List Entry → LogOrderFault → Type 0
 RefusesAmong n entries (NoOrder chain) = ShowsNoOrderAmong n entries chain.items
 RefusesAmong n entries (Log (BadEvent place) (Trace (breach.Event fault))) =
-    HasNoOrder n (marks entries) × IsEventPlace entries 8192 place × (fault.place ≡ place) × (slice_get entries place ≡ Some (Event fault.event)) × (fault.rule ≡ TooMany)
+    HasNoOrder n (marks entries) × IsEventPlace entries 8192 place
+    × (fault.place ≡ place) × (slice_get entries place ≡ Some (Event fault.event)) × (fault.rule ≡ TooMany)
 RefusesAmong n entries (Log Memory (Trace breach.Memory)) = Unit {0}
 RefusesAmong n entries (Log _ _) = ⊥
 
@@ -69,7 +71,8 @@ RefusesAmong n entries (Log _ _) = ⊥
 pub record RefusesInOrder (log : LogParts) (fault : LogOrderFault) : Type 0 where
   pub ordered : List Entry
   pub places : List ℕ
-  pub order : MembersAllowed log.members → FAllowed log.members log.f → IsOrderOfEntries log.members log.entries ordered × ArePlaces log.entries ordered places
+  pub order : MembersAllowed log.members → FAllowed log.members log.f
+      → IsOrderOfEntries log.members log.entries ordered × ArePlaces log.entries ordered places
   pub refusal : DumpRefusal
   pub broken : LogBreach
   pub refuses : RefusesLog (with_entries ordered log) refusal

@@ -25,7 +25,8 @@ items_at items places = filter_map (slice_get items) places
 
 -- both lists have the same entry at these places, behind as many others of its member
 abbrev pub IsSameEntry : List Entry → ℕ → List Entry → ℕ → Type 0
-IsSameEntry a i b j = (e : Entry) × (slice_get a i ≡ Some e) × (slice_get b j ≡ Some e) × (seen a i (entry_member e) ≡ seen b j (entry_member e))
+IsSameEntry a i b j =
+    (e : Entry) × (slice_get a i ≡ Some e) × (slice_get b j ≡ Some e) × (seen a i (entry_member e) ≡ seen b j (entry_member e))
 
 -- for each entry of the order, at its place, the place at which it was given
 pub record ArePlaces (entries ordered : List Entry) (places : List ℕ) : Type 0 where
@@ -42,6 +43,11 @@ with_entries entries log = record log { entries = entries }
 pub record SameLogAnswers (a b : LogParts) : Type 0 where
   pub safe : AlwaysSafe (run_of a) ↔ AlwaysSafe (run_of b)
   pub unsafe : (d : Determinant) → IsUnsafe (run_of a) d ↔ IsUnsafe (run_of b) d
+
+-- whichever order the entries had, a check answers as that of this one does
+abbrev pub AnswersAlike : LogParts → LogParts → Type 0
+AnswersAlike log ordered =
+    (entries : List Entry) → IsOrderOfEntries log.members log.entries entries → SameLogAnswers (with_entries entries log) ordered
 
 -- a log may have its entries in any other order
 abbrev pub LogAnswersLaw : Type 0

@@ -47,7 +47,8 @@ Differs i a b Memory = ⊥
 abbrev pub IsFirstOther : {P : Type 0} → (P → Group) → List P → PartsFault → Type 0
 IsFirstOther {P} group_of parts fault =
     (i : ℕ) × IsFirstBreach (AgreesAt group_of parts) i
-    × ((first : P) × (other : P) × (slice_get parts 0 ≡ Some first) × (slice_get parts i ≡ Some other) × Differs i (group_of first) (group_of other) fault)
+    × ((first : P) × (other : P) × (slice_get parts 0 ≡ Some first) × (slice_get parts i ≡ Some other)
+    × Differs i (group_of first) (group_of other) fault)
 
 abbrev pub RefusesParts : {P : Type 0} → (P → Group) → List P → PartsFault → Type 0
 RefusesParts group_of parts fault = (fault ≡ Memory) ⊎ IsFirstOther group_of parts fault

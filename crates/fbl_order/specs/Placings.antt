@@ -1,5 +1,5 @@
 -- What a walk keeps that places the entries of a log in an order.
-use Rattle.std.specs.Prelude.{ℕ, ◌≡◌, ◌<◌, List, Option, Some, length, slice_get, take}
+use Rattle.std.specs.Prelude.{ℕ, ◌≡◌, List, Option, Some, length, slice_get, take}
 use Rattle.fbl_base.specs.declared.trace.Mark.{Mark}
 use Rattle.fbl_base.specs.Events.{At}
 use Rattle.fbl_moments.specs.declared.entry.Entry.{Entry}

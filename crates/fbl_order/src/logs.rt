@@ -1,12 +1,11 @@
 //! Logs whose entries stand in any order that keeps the members' logs.
 
-ghost use Rattle.std.specs.Prelude.{◌≡◌, ◌≤◌, List, IfErr, IfOk};
+ghost use Rattle.std.specs.Prelude.{◌≡◌, ◌≤◌, IfErr, IfOk};
 ghost use Rattle.fbl_base.specs.Rules.{WellFormed};
 ghost use Rattle.fbl_moments.specs.Entries.{marks};
 ghost use Rattle.fbl_moments.specs.Logs.{IsLog, parts_of_log};
-ghost use Rattle.fbl_moments.specs.declared.entry.Entry.{Entry};
 ghost use Rattle.fbl_order.specs.LogFaults.{RefusesAmong, RefusesUnorderedLog};
-ghost use Rattle.fbl_order.specs.LogOrders.{ArePlaces, IsOrderOfEntries, SameLogAnswers, with_entries};
+ghost use Rattle.fbl_order.specs.LogOrders.{AnswersAlike, ArePlaces, IsOrderOfEntries, with_entries};
 ghost use Rattle.fbl_order.specs.Orders.{IsOrder};
 
 use crate::dumps::refused_group;
@@ -55,14 +54,15 @@ fn order_events(alloc: Global, n: u8, entries: &[Entry]) -> Result<Vec<Mark>, Lo
 /// taken, and a hold or a store may always come, so entries whose sends and receipts obey the rules as they stand stay so.
 ///
 /// Where several faults hold, that of the group's numbers is answered before that the sends and receipts have no order, and this before
-/// those that `checked_log` finds in an order of them. Each place in a fault is the one at which the entry was given.
+/// those that `checked_log` finds in an order of them. Each place in a fault is the one at which the entry was given. The time taken is
+/// that of the entries by the members.
 pub fn order_log(alloc: Global, raw: RawLog) -> Result<OrderedLog, LogOrderFault>
     ensures rules { IfOk result (λ o. IsLog o.log) }
     ensures parts { IfOk result (λ o. o.log ≡ with_entries o.log.entries (parts_of_log raw)) }
     ensures order { IfOk result (λ o. IsOrderOfEntries raw.members raw.entries.items o.log.entries) }
     ensures places { IfOk result (λ o. ArePlaces raw.entries.items o.log.entries o.places.items) }
     ensures kept { IfOk result (λ o. WellFormed raw.members (marks raw.entries.items) → o.log ≡ parts_of_log raw) }
-    ensures answers { IfOk result (λ o. (entries : List Entry) → IsOrderOfEntries raw.members raw.entries.items entries → SameLogAnswers (with_entries entries (parts_of_log raw)) o.log) }
+    ensures answers { IfOk result (λ o. AnswersAlike (parts_of_log raw) o.log) }
     ensures refused { IfErr result (RefusesUnorderedLog (parts_of_log raw)) }
 {
     if let Some((refusal, breach)) = refused_group(raw.members, raw.f) {

@@ -1,10 +1,9 @@
 //! Logs of a run, put together in an order.
 
-ghost use Rattle.std.specs.Prelude.{◌<◌};
-
+use crate::moments::{event, first, hold, second, store};
 use crate::orders::{receipt, send};
-use crate::parts::pair;
-use fbl_base::{Breach, Determinant, DumpRefusal, Mark, Member, MemberSet};
+use fbl_base::{Breach, DumpRefusal, Member, MemberSet};
+use fbl_fixtures::first_receipt;
 use fbl_moments::{Entry, EntryOrigin, LogBreach, RawLog, RecordFault, RecordRule, unsafe_moments};
 use fbl_order::{
     LogOrderFault, Obstacle, OrderedLog, PartsFault, Stuck, UnitedLog, at_places, order_log,
@@ -12,24 +11,6 @@ use fbl_order::{
 };
 use std::alloc::Global;
 use std::test::Fail;
-
-fn event(mark: Mark) -> Entry {
-    Entry::Event(mark)
-}
-
-fn hold((holder, determinant): (Member, Determinant)) -> Entry {
-    Entry::Hold {
-        holder,
-        determinant,
-    }
-}
-
-fn store((member, determinant): (Member, Determinant)) -> Entry {
-    Entry::Store {
-        member,
-        determinant,
-    }
-}
 
 /// A log of a group of three, where one may be lost and nobody is struck.
 fn log(alloc: Global, entries: &[Entry]) -> Result<RawLog, Fail> {
@@ -46,7 +27,7 @@ fn zero() -> [Entry; 3] {
     [
         event(send(0, 1, 1)),
         event(receipt(0, 1, 2, 1)),
-        hold(pair(0, 2, 0)),
+        hold(0, first_receipt(Member::at(2), Member::at(0))),
     ]
 }
 
@@ -54,7 +35,7 @@ fn zero() -> [Entry; 3] {
 fn one() -> [Entry; 3] {
     [
         event(receipt(1, 1, 0, 1)),
-        hold(pair(1, 0, 1)),
+        hold(1, first()),
         event(send(1, 1, 2)),
     ]
 }
@@ -63,9 +44,9 @@ fn one() -> [Entry; 3] {
 fn two() -> [Entry; 5] {
     [
         event(receipt(2, 1, 1, 1)),
-        hold(pair(2, 0, 1)),
-        hold(pair(2, 1, 2)),
-        store(pair(2, 0, 1)),
+        hold(2, first()),
+        hold(2, second()),
+        store(2, first()),
         event(send(2, 1, 0)),
     ]
 }
@@ -107,7 +88,7 @@ fn leaves_a_log_in_its_order(rt: HostRuntime) -> Result<(), Fail> {
         event(send(0, 1, 1)),
         event(receipt(1, 1, 0, 1)),
         event(send(0, 2, 2)),
-        hold(pair(1, 0, 1)),
+        hold(1, first()),
     ];
     let ordered = order_log(alloc, log(alloc, &late)?).ok().ok_or("refused")?;
     assert!(rt; ordered.log.entries() == late.as_slice());
@@ -129,14 +110,14 @@ fn names_a_hold_where_it_was_given(rt: HostRuntime) -> Result<(), Fail> {
     let alloc = rt.alloc();
     let early = [
         event(receipt(2, 1, 1, 1)),
-        hold(pair(2, 0, 1)),
+        hold(2, first()),
         event(send(1, 1, 2)),
         event(receipt(1, 1, 0, 1)),
         event(send(0, 1, 1)),
     ];
     let breach = LogBreach::Record(RecordFault {
         place: 1,
-        entry: hold(pair(2, 0, 1)),
+        entry: hold(2, first()),
         rule: RecordRule::NotBefore,
     });
     let found = match fault(alloc, &early)? {
@@ -154,7 +135,7 @@ fn names_a_hold_where_it_was_given(rt: HostRuntime) -> Result<(), Fail> {
 fn names_a_circle_where_it_was_given(rt: HostRuntime) -> Result<(), Fail> {
     let circle = [
         event(receipt(0, 1, 1, 1)),
-        hold(pair(0, 1, 0)),
+        hold(0, first_receipt(Member::at(1), Member::at(0))),
         event(send(0, 1, 1)),
         event(receipt(1, 1, 0, 1)),
         event(send(1, 1, 0)),

@@ -16,7 +16,7 @@ use fbl_moments::{
 use std::alloc::Global;
 use std::test::Fail;
 
-fn hold(holder: u8, determinant: Determinant) -> Entry
+pub(crate) fn hold(holder: u8, determinant: Determinant) -> Entry
     requires { holder < 16 }
 {
     Entry::Hold {
@@ -25,7 +25,7 @@ fn hold(holder: u8, determinant: Determinant) -> Entry
     }
 }
 
-fn store(member: u8, determinant: Determinant) -> Entry
+pub(crate) fn store(member: u8, determinant: Determinant) -> Entry
     requires { member < 16 }
 {
     Entry::Store {
@@ -34,7 +34,7 @@ fn store(member: u8, determinant: Determinant) -> Entry
     }
 }
 
-fn event(event: Mark) -> Entry {
+pub(crate) fn event(event: Mark) -> Entry {
     Entry::Event(event)
 }
 
@@ -45,12 +45,12 @@ fn only(member: u8) -> MemberSet
 }
 
 /// The first receipt of the message, at member 1.
-fn first() -> Determinant {
+pub(crate) fn first() -> Determinant {
     first_receipt(Member::at(0), Member::at(1))
 }
 
 /// The second one, at member 2.
-fn second() -> Determinant {
+pub(crate) fn second() -> Determinant {
     first_receipt(Member::at(1), Member::at(2))
 }
 

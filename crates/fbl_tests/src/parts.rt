@@ -26,7 +26,7 @@ fn part(
 }
 
 /// The member holds the determinant of the first receipt of the member `to`, of the first message of the member `from`.
-pub(crate) fn pair(holder: u8, from: u8, to: u8) -> (Member, Determinant)
+fn pair(holder: u8, from: u8, to: u8) -> (Member, Determinant)
     requires holder { holder < 16 }
     requires from { from < 16 }
     requires to { to < 16 }

@@ -9,7 +9,7 @@ use Rattle.fbl_order.specs.declared.fault.OrderFault.TheVariants as orders
 use Rattle.fbl_order.specs.declared.parts.PartsFault.TheVariants as parts
 use Rattle.fbl_order.specs.Faults.{RefusesUnordered}
 use Rattle.fbl_order.specs.Orders.{SameAnswers, with_events, IsOrder}
-use Rattle.fbl_order.specs.Parts.{IsUnited, RefusesParts}
+use Rattle.fbl_order.specs.Parts.{AreOrigins, IsUnited, IsUnitedLog, RefusesParts, dump_group, log_group}
 use Rattle.fbl_moments.specs.Logs.{LogParts}
 use Rattle.fbl_moments.specs.declared.log.RawLog.{RawLog}
 use Rattle.fbl_order.specs.declared.fault.LogOrderFault.TheVariants as log_orders
@@ -36,7 +36,7 @@ IsMergeOf dumps dump = (whole : Parts) × IsUnited dumps whole × IsMerged whole
 
 -- the dumps differ; or what they have together has no order, or breaks another rule; or memory ran out
 abbrev pub RefusesMerge : {A : Type 0} → List (RawDump A) → MergeFault → Type 0
-RefusesMerge dumps (faults.Parts fault) = RefusesParts dumps fault
+RefusesMerge dumps (faults.Parts fault) = RefusesParts dump_group dumps fault
 RefusesMerge dumps (faults.Order fault) = (whole : Parts) × IsUnited dumps whole × RefusesUnordered whole fault
 RefusesMerge dumps fault = ⊥
 

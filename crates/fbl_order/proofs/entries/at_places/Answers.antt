@@ -1,4 +1,4 @@
-use Rattle.fbl_order.proofs.Common.{ℕ, List, None, Some, [], ◌∷◌, ◌++◌, ◌≡◌, ◌≤◌, ◌∙◌, add-one, ap, append-nil, filter_map-append, get_or, length, refl, slice_get, slice_get-get_or}
+use Rattle.fbl_order.proofs.Common.{ℕ, List, Some, [], ◌∷◌, ◌++◌, ◌≡◌, ◌≤◌, ◌∙◌, add-one, ap, append-nil, filter_map-append, get_or, length, refl, slice_get, slice_get-get_or}
 use Rattle.fbl_order.proofs.Common.{slice_get_read, sym, take, take-more}
 use Rattle.std.proofs.lemmas.Option.{slice_get_past}
 use Rattle.fbl_order.proofs.PlacingLaws.{items_at-push}

@@ -1,4 +1,4 @@
-use Rattle.fbl_order.proofs.Common.{At, Some, ◌≡◌, ◌∙◌, arith, ap, false, refl, rules, slice_get_read, slice_get_within, sym, true}
+use Rattle.fbl_order.proofs.Common.{At, Some, ◌≡◌, ◌∙◌, arith, ap, refl, rules, slice_get_read, slice_get_within, sym, true}
 use Rattle.fbl_order.proofs.entries.has_at.Goals as goal
 
 pub returns-in-Some : goal.returns-in-Some

@@ -1,4 +1,4 @@
-use Rattle.fbl_order.proofs.Common.{List, [], ◌∷◌, ◌++◌, ◌+◌, ◌<◌, ◌≡◌, ◌∙◌, add-one, ap, arith, drop, get_or, length, refl, suc, sym, take, zero, ℕ}
+use Rattle.fbl_order.proofs.Common.{List, [], ◌∷◌, ◌++◌, ◌<◌, ◌≡◌, ◌∙◌, add-one, ap, arith, drop, get_or, length, suc, sym, take, zero, ℕ}
 use Rattle.std.proofs.Common.{map, set}
 use Rattle.fbl_order.specs.LogFaults.{stuck_given}
 use Rattle.fbl_order.proofs.given.given_chain.Goals as goal

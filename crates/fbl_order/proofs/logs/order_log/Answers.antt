@@ -1,10 +1,9 @@
-use Rattle.fbl_order.proofs.Common.{ap, inl, inr, rules, slice_get_within}
-use Rattle.fbl_moments.specs.declared.entry.Entry.{Entry}
+use Rattle.fbl_order.proofs.Common.{ap, inr, rules}
 use Rattle.fbl_moments.specs.Logs.{parts_of_log}
 use Rattle.fbl_order.specs.LogFaults.{breach_given, refusal_given}
 use Rattle.fbl_order.specs.LogOrders.{IsOrderOfEntries}
 use Rattle.fbl_order.specs.declared.fault.LogOrderFault.TheVariants.{Log}
-use Rattle.fbl_order.proofs.EntryLaws.{group_refused, order_log_answers, placed_order}
+use Rattle.fbl_order.proofs.EntryLaws.{group_refused, order_log_answers}
 use Rattle.fbl_order.proofs.logs.order_log.Goals as goal
 
 pub returns-in-Some-clause-refused : goal.returns-in-Some-clause-refused

@@ -1,8 +1,7 @@
-use Rattle.fbl_order.proofs.Common.{[], ◌∷◌, ◌+◌, ◌<◌, ◌≡◌, ap, arith, At-push, inl, inr, length, length-append, refl, rules, slice_get_read, subst, sym, take}
+use Rattle.fbl_order.proofs.Common.{[], ◌∷◌, ◌<◌, ◌≡◌, ap, arith, At-push, inl, inr, length, length-append, refl, slice_get_read}
 use Rattle.fbl_moments.specs.declared.log.EntryOrigin.{EntryOrigin}
 use Rattle.fbl_order.proofs.Own.{At-some}
 use Rattle.fbl_order.proofs.PartLaws.{origin_at}
-use Rattle.fbl_order.specs.Parts.{IsOriginOf, entries_of}
 use Rattle.fbl_order.proofs.parts.origins_of.Goals as goal
 
 pub loop-place-preserved : goal.loop-place-preserved

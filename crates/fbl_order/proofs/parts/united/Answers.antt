@@ -1,4 +1,4 @@
-use Rattle.fbl_order.proofs.Common.{refl, sym, slice_get_read, take_all, ◌∙◌}
+use Rattle.fbl_order.proofs.Common.{refl, sym, slice_get_read, ◌∙◌}
 use Rattle.fbl_order.proofs.PartLaws.{flat_map-more}
 use Rattle.fbl_order.proofs.parts.united.Goals as goal
 

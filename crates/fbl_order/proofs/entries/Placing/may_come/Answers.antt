@@ -1,4 +1,4 @@
-use Rattle.fbl_order.proofs.Common.{ℕ, List, Mark, None, Some, ◌≡◌, ◌∙◌, refl, slice_get_read, sym}
+use Rattle.fbl_order.proofs.Common.{None, Some, ◌≡◌, ◌∙◌, refl, slice_get_read, sym}
 use Rattle.fbl_moments.specs.Entries.{mark_in}
 use Rattle.fbl_order.proofs.entries.Placing.may_come.Goals as goal
 
