@@ -1,5 +1,5 @@
 -- What comes of several dumps, or of several logs: one of all their events, in an order.
-use Rattle.std.specs.Prelude.{◌≡◌, ℕ, ◌<◌, List, Some, map, slice_get}
+use Rattle.std.specs.Prelude.{◌≡◌, ◌≢◌, ℕ, ◌<◌, Bool, true, false, List, Some, map, slice_get}
 use Rattle.fbl_base.specs.declared.raw_dump.RawDump.{RawDump}
 use Rattle.fbl_base.specs.declared.refusal.DumpRefusal.TheVariants as dump
 use Rattle.fbl_base.specs.declared.trace.Mark.{Mark}
@@ -8,9 +8,13 @@ use Rattle.fbl_base.specs.Rules.{WellFormed}
 use Rattle.fbl_order.specs.declared.fault.OrderFault.TheVariants as orders
 use Rattle.fbl_order.specs.declared.parts.PartsFault.TheVariants as parts
 use Rattle.fbl_order.specs.Faults.{RefusesUnordered}
+use Rattle.fbl_order.specs.LogFaults.{RefusesUnorderedLog}
+use Rattle.fbl_order.specs.LogOrders.{AnswersAlike, ArePlaces, IsOrderOfEntries, items_at, with_entries}
 use Rattle.fbl_order.specs.Orders.{SameAnswers, with_events, IsOrder}
 use Rattle.fbl_order.specs.Parts.{AreOrigins, IsUnited, IsUnitedLog, RefusesParts, dump_group, log_group}
-use Rattle.fbl_moments.specs.Logs.{LogParts}
+use Rattle.fbl_moments.specs.Entries.{marks}
+use Rattle.fbl_moments.specs.Logs.{IsLog, LogParts}
+use Rattle.fbl_moments.specs.declared.log.EntryOrigin.{EntryOrigin}
 use Rattle.fbl_moments.specs.declared.log.RawLog.{RawLog}
 use Rattle.fbl_order.specs.declared.fault.LogOrderFault.TheVariants as log_orders
 use Rattle.fbl_texts.specs.declared.recorded.Recorded.{Recorded}
@@ -39,6 +43,52 @@ abbrev pub RefusesMerge : {A : Type 0} → List (RawDump A) → MergeFault → T
 RefusesMerge dumps (faults.Parts fault) = RefusesParts dump_group dumps fault
 RefusesMerge dumps (faults.Order fault) = (whole : Parts) × IsUnited dumps whole × RefusesUnordered whole fault
 RefusesMerge dumps fault = ⊥
+
+-- the log is the whole, but for its entries, which stand in an order, each given at a place; where the sends and receipts obeyed the
+-- rules, all stand as they did; and in whichever order they stand, a check answers the same
+pub record IsMergedLog (whole log : LogParts) (places : List ℕ) : Type 0 where
+  pub rules : IsLog log
+  pub parts : log ≡ with_entries log.entries whole
+  pub order : IsOrderOfEntries whole.members whole.entries log.entries
+  pub places : ArePlaces whole.entries log.entries places
+  pub kept : WellFormed whole.members (marks whole.entries) → log ≡ whole
+  pub answers : AnswersAlike whole log
+
+-- the same of what the logs have together, and where each entry stands in its own log
+pub record IsLogMergeOf (logs : List RawLog) (merged : MergedLog) : Type 0 where
+  pub whole : LogParts
+  pub united : IsUnitedLog logs whole
+  pub places : List ℕ
+  pub log : IsMergedLog whole merged.log places
+  pub own : List EntryOrigin
+  pub are_own : AreOrigins logs own
+  pub origins : merged.origins.items ≡ items_at own places
+
+-- the logs differ; or what they have together has no order, or breaks another rule; or memory ran out
+abbrev pub RefusesLogMerge : List RawLog → MergeFault → Type 0
+RefusesLogMerge logs (faults.Parts fault) = RefusesParts log_group logs fault
+RefusesLogMerge logs (faults.Log fault) = (whole : LogParts) × IsUnitedLog logs whole × RefusesUnorderedLog whole fault
+RefusesLogMerge logs fault = ⊥
+
+-- ---- versions
+
+-- the files record this, in this order
+abbrev pub AreOfOneVersion : List Recorded → Together → Type 0
+AreOfOneVersion files (Dumps dumps) = files ≡ map raws.Dump dumps.items
+AreOfOneVersion files (Logs logs) = files ≡ map raws.Log logs.items
+
+-- whether it is a log, a dump of version 2
+abbrev pub is_log : Recorded → Bool
+is_log (raws.Dump raw) = false
+is_log (raws.Log raw) = true
+
+-- the file is the first that differs in this from the first one; or memory ran out
+abbrev pub IsOtherVersion : List Recorded → MergeFault → Type 0
+IsOtherVersion files (faults.Version part) =
+    (first other : Recorded) × (slice_get files 0 ≡ Some first) × (slice_get files part ≡ Some other) × (is_log other ≢ is_log first)
+    × ((i : ℕ) (file : Recorded) → i < part → slice_get files i ≡ Some file → is_log file ≡ is_log first)
+IsOtherVersion files (faults.Parts parts.Memory) = Unit {0}
+IsOtherVersion files fault = ⊥
 
 -- 4 where memory ran out, and else 2
 abbrev pub merge_status : MergeFault → ℕ
