@@ -25,7 +25,7 @@ pub use Rattle.std.specs.List.{All, Contains, cons_option, filter, filter_map, f
 pub use Rattle.std.specs.Ordering.{eq_by_cmp, nat_cmp}
 pub use Rattle.std.specs.Prelude.{slice_index, slice_set}
 pub use Rattle.fbl_base.specs.Audit.{AreCauses, HeldAt, IsCause, IsDumpOrphan, IsFirstCause, IsHeldOutside, IsLostAt, Parts, is_held_outside, lost_determinants, is_received}
-pub use Rattle.fbl_base.specs.Audit.{parts_of, holders_of}
+pub use Rattle.fbl_base.specs.Audit.{parts_of, holders_of, FitsPair}
 pub use Rattle.fbl_base.specs.MemberSets.{bits_of-set_of, contains-set_of, has_one, Members, contains-insert_other, contains-insert_same, contains-members_where, member_list}
 pub use Rattle.fbl_base.specs.MemberSets.{same_from_contains}
 pub use Rattle.fbl_base.specs.Breaches.{Breaks, BreaksEvent, FitsEvent, first_in_flight, next_number, IsBad, number_before, numbers, set_at}
