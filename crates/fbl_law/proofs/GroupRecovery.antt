@@ -245,8 +245,4 @@ module _ (S N : Type 0) where
   recovery_leaves_recorded next old new step sound = record { exactly = cut_is_recorded next old new step sound; order = cut-receipts sound step.trace }
 
   pub gains_the_down : OfRecovery S N GainsTheDown
-  gains_the_down next old new step sound d m recorded =
-      let stay = recovery_gains_holders next old new step sound d m in (
-        λ holds. elim (stay.0 holds) [ inl was ↦ inl was | inr down ↦ inr down.0 ],
-        elim [ inl was ↦ stay.1 (inl was) | inr down ↦ stay.1 (inr (down, recorded)) ],
-      )
+  gains_the_down next old new step sound d m recorded = grind (arith, nat_tests, recovery_gains_holders next old new step sound d m)

@@ -190,9 +190,7 @@ module _ {S N : Type 0} (next : Next S N) (old : GroupRecord S N) (sound : IsSou
 
     -- no more are replayed than the trace has
     pub replayed_in-short : replayed_in old rebuilt ≤ 8192
-    replayed_in-short =
-        let fewer = count_in-most old.down (λ p. (current p).received - (member_checkpoint old p).received) (λ p. (current p).received) old.config.members (λ p below down. omega arith) in
-        omega (arith, fewer, replayed-most sound cut current replaying.replayed, sound.room, sound.config.limit.1)
+    replayed_in-short = grind (arith, nat_tests, count_in-most, replayed-most sound cut current replaying.replayed)
 
     -- new tables change nothing of the replay
     pub replaying-tables : (given : List (MemberRecord S N)) (t : List Entry) → length given ≡ length rebuilt
@@ -214,9 +212,7 @@ module _ {S N : Type 0} (next : Next S N) (old : GroupRecord S N) (sound : IsSou
 
         -- one more is replayed
         pub replayed_in-step : replayed_in old (slice_set rebuilt p after) ≡ replayed_in old rebuilt + 1
-        replayed_in-step =
-            count_in-step old.down _ _ old.config.members p below down (omega (arith, ap (λ (m : MemberRecord S N). m.received) own, replaying.begun p below down))
-            (λ q other. ap (λ (m : MemberRecord S N). m.received - (member_checkpoint old q).received) (get_or-set_other rebuilt p q after (blank old.outside) other))
+        replayed_in-step = search (arith, count_in-step, own, get_or-set_other)
 
       module _ (is : found p ((current p).received + 1) (recovery_table (knowledge old)) ≡ Some d) where
         -- it is that of the member's next number, from another member
@@ -246,14 +242,7 @@ module _ {S N : Type 0} (next : Next S N) (old : GroupRecord S N) (sound : IsSou
 
           -- its replay
           pub replay_is_right : IsReplaying next old (slice_set rebuilt p (after note))
-          replay_is_right = record {
-            size = length-set rebuilt p (after note) ∙ replaying.size;
-            replayed = λ q below_q down_q. elim (cases_eq q p) [
-              | inl same ↦ rw (same, own note) there
-              | inr other ↦ rw (get_or-set_other rebuilt p q (after note) (blank old.outside) other) (replaying.replayed q below_q down_q)
-            ];
-            begun = λ q below_q down_q. grind (arith, own note, get_or-set_other rebuilt p q (after note) (blank old.outside), replaying.begun q below_q down_q);
-          }
+          replay_is_right = search (arith, length-set, cases_eq, own, there, get_or-set_other)
 
     -- where each member that is down waits, all is replayed
     module _ (waiting : (p : ℕ) → p < old.config.members → IsDown (knowledge old) p → IsWaiting old rebuilt p) where
