@@ -4,7 +4,7 @@ use Rattle.fbl_law.proofs.Common.{nat_tests, filter_map-append, Mark, taken_on, 
 use Rattle.fbl_law.proofs.Common.{in_flight-send, in_flight-receipt, last_taken, append-nil, Send, Receipt, Apart, Apart-later, filter_all, sent-rises, ◌≢◌, ◌+◌, length, map}
 use Rattle.fbl_law.proofs.Common.{option_map, sym, map-append, slice_get-map, Has, receipts_of, map-At, WellFormed-front, in_flight-sent, Message, Knowledge, IsSoundKnowledge}
 use Rattle.fbl_law.proofs.Common.{send_mark, IsInFlight, IsUp, between, taken_off, drop-map, ◌==◌, ◌&&◌, ◌⊎◌, inl, inr, subst, Contains, Event, mark_of, Next, Progress, Logged}
-use Rattle.fbl_law.proofs.Common.{Lawful, note_of, At-filter, Entry, piggybacked, last_from, GroupRecord, member, channel, marks, IsFold, IsMadeAgain, resent_to, logged_beyond}
+use Rattle.fbl_law.proofs.Common.{Lawful, note_of, At-filter, Entry, last_from, GroupRecord, member, channel, marks, IsFold, IsMadeAgain, resent_to, logged_beyond}
 use Rattle.fbl_law.proofs.Common.{resent, get_or, get_or_past, HasChannels, destination_of, cases_lt}
 use Rattle.fbl_base.specs.declared.trace.Event.TheVariants as event
 use Rattle.fbl_law.proofs.Lists.{filter-passes, Contains-at, Contains-place, Contains-changed, Contains-none}
@@ -150,8 +150,7 @@ module _ {S N : Type 0} (next : Next S N) (r : GroupRecord S N) (lawful : Lawful
   -- a channel that has what the sender sends again is made again
   pub made-again : channel r q p ≡ resent_to r.config.f q p (member r q) (member r p) → IsMadeAgain r q p
   made-again is = record {
-    sends = ap (map send_mark) is ∙ resent-marks (piggybacked r.config.f (member r q).table)
-        (logged_beyond (member r q).log p (last_from (member r p) q)) ∙ ap (map (λ ssn. Send q ssn p)) beyond-flight;
+    sends = grind (arith, nat_tests, resent-marks, beyond-flight);
     notes = λ v among. note-resent v (rw is at among);
     carried = λ v among. sym (ap (λ (x : Message N). x.carried) (Contains-changed _ _ v (rw is at among)).2);
   }

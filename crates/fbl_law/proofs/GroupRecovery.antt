@@ -39,8 +39,7 @@ module _ {S N : Type 0} (next : Next S N) (old : GroupRecord S N) (sound : IsSou
       rw down (number-front (is_receipt_of p) (marks old) i (first p) r (Receipt p r q k) here (eqb-self p) (sound.lawful.well_formed i (Receipt p r q k) here).3)
 
   keep-up : (e : Mark) → IsUp (knowledge old) (member_of e) → keep e ≡ true
-  keep-up (Send q k p) up = rw up refl
-  keep-up (Receipt p r q k) up = rw up refl
+  keep-up e up = grind (arith, nat_tests)
 
   keep-stays : (e : Mark) → Has (marks old) e → keep e ≡ true → Stays (knowledge old) e
   keep-stays e has kept down c at_e up_to =

@@ -4,7 +4,7 @@ use Rattle.fbl_law.proofs.Common.{piggybacked, Message, Includes, Knowledge, Sto
 use Rattle.fbl_law.proofs.Common.{Names, Holds, IsRecorded, IsHolder, IsStable, IsTrueEntry, NamesCauses, IsDownEmpty, IsCheckpointKept, IsSoundKnowledge, MatchesTrace, WellFormed}
 use Rattle.fbl_law.proofs.Common.{◌≤◌, ap, ◌∙◌, AllBelow, Members, Next, MemberRecord, blank, GroupRecord, knowledge, IsFold, IsSound, IsStrike, RecordedTest, contains-union}
 use Rattle.fbl_law.proofs.Common.{IsOnce-none, false, ◌≢◌, ◌<◌, sym, slice_set, cases_eq, length-set, get_or-set_same, get_or-set_other, itself, member, member_checkpoint}
-use Rattle.fbl_law.proofs.Common.{IsReplayed, IsCheckpoint, CheckpointIsRecorded, GroupCheckpointKeeps}
+use Rattle.fbl_law.proofs.Common.{IsReplayed, IsCheckpoint, CheckpointIsRecorded, GroupCheckpointKeeps, nat_tests}
 use Rattle.fbl_law.proofs.Safe.{down_or_up, up_at_ends, IsRecorded-before, recorded_holder, Contains-piggybacked, passed_or_known, never_both, Decides-recorded, up_if_none}
 use Rattle.fbl_law.proofs.Safe.{IsRecorded-reached}
 use Rattle.std.specs.FinSet as sets
@@ -152,19 +152,11 @@ module _ {S N : Type 0} (next : Next S N) (old new : GroupRecord S N) (struck : 
     lawful = rw (s.config, s.trace) sound.lawful;
     room = rw (s.config, s.trace) sound.room;
     causes = rw s.config (strike_keeps few sound);
-    folds = λ m below now.
-        let fold = sound.folds m (rw s.config at below) (up m now) in
-        record {
-          progress = rw (s.survivors m now, s.config, s.trace) fold.progress;
-          places = rw (s.survivors m now) fold.places;
-          last = λ q within. rw (s.survivors m now, s.trace) (fold.last q within);
-        };
+    folds = grind (arith, nat_tests, up);
     blanks = λ m below down. rw s.config (s.blanks m down);
     distinct = λ m. elim (down_or_up new.down m) [ inl down ↦ rw (s.blanks m down) IsOnce-none | inr now ↦ rw (s.survivors m now) (sound.distinct m) ];
     shape = rw s.config s.shape;
-    notes = λ v flying.
-        let ends = up_at_ends (knowledge new) s.emptied v.from v.to v flying in
-        rw s.trace (sound.notes v (rw (s.channels v.from v.to ends.0 ends.1) at flying));
+    notes = grind (arith, nat_tests, up_at_ends);
     counted = rw (s.trace, s.undone_ever, s.receipts_ever) sound.counted;
   }
 

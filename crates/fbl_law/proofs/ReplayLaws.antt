@@ -4,7 +4,7 @@ use Rattle.fbl_law.proofs.Common.{List, arith, subst, Determinant, Mark, At, rec
 use Rattle.fbl_law.proofs.Common.{slice_get, Bool, true, [], ◌∷◌, length, map, refl, sym, ap, ◌∙◌, nat_lt, filter, nat_tests, length-map, Event, mark_of, determinant_of, AllBelow}
 use Rattle.fbl_law.proofs.Common.{Members, Next, MemberRecord, Stays, IsEventCut, GroupRecord, knowledge, receipts, receipts_at, IsReplayed, IsSound, length-left}
 use Rattle.fbl_law.proofs.Common.{length-filter_map, count_in, cond, ◌⊎◌, inl, inr, slice_set, length-append, cases_Bool, cases_eq, length-set, get_or-set_same, get_or-set_other}
-use Rattle.fbl_law.proofs.Common.{count_by-le-length, slice_get_within, slice_index_or, is_receipt_of, is_send_of, Lawful, Entry, found, blank, logged_note, replayed_by}
+use Rattle.fbl_law.proofs.Common.{count_by-le-length, slice_get_within, slice_index_or, is_send_of, Lawful, Entry, found, blank, logged_note, replayed_by}
 use Rattle.fbl_law.proofs.Common.{length-numbered, Names, IsDown, recovery_table, member_checkpoint, IsFold, IsRecovery, IsMadeAgain, IsNextReplay, recovered_trace, stays_by}
 use Rattle.fbl_law.proofs.Common.{is_of_receipt, is_replayed, working, IsReplaying, IsWaiting, replayed_in, IsRebuilt, position_or_len, fails_before_first, find_at, get_or}
 use Rattle.fbl_law.proofs.Common.{slice_get-get_or, option_map}
@@ -221,14 +221,7 @@ module _ {S N : Type 0} (next : Next S N) (old : GroupRecord S N) (sound : IsSou
             let here = found-receipt p (current p).received d is in
             let has = receipts_at-Has old.config.members (map mark_of (recovered_trace old)) p (current p).received d lawful.well_formed here in
             let may = lawful.well_formed has.0.0 (receipt_of d) has.0.1 in
-            let within = slice_get_within (left p) (current p).received d here in
-            record {
-              to = has.1;
-              rsn = has.2;
-              from = may.0;
-              other = λ same. may.2 (same ∙ sym has.1);
-              room = omega (arith, within, length-receipts_at (map mark_of (recovered_trace old)) p, count_by-le-length (is_receipt_of p) (map mark_of (recovered_trace old)), cut-short);
-            }
+            grind (arith, nat_tests, found-receipt, receipts_at-Has, slice_get_within, length-receipts_at, count_by-le-length, cut-short)
 
         module _ (note : N) (named : logged_note (working old rebuilt d.from).log d.ssn ≡ Some note) where
           there : Replays p (after note)

@@ -200,13 +200,7 @@ IsAlwaysHeld-closed f r empty closed d there = elim (cases_Bool (is_recorded_amo
     | inl many ↦ inl (all r d, many, all_holder r d ((Decides-recorded f r empty d).0 is))
     | inr few ↦ inr (λ m up depends. elim (closed.events (in_table m) depends.0 up depends.2 d depends.1) [
       | inl named ↦ (up, named)
-      | inr stable ↦ absurd (omega (
-        arith,
-        few,
-        stable.1,
-        len-within (set.len stable.0) stable.0 (all r d) refl (λ q h.
-            (Includes-all r d q).1 (elim (stable.2 q h) [ inl holds ↦ inl holds.1 | inr down ↦ inr down.0 ])),
-      ))
+      | inr stable ↦ grind (arith, nat_tests, len-within, Includes-all)
     ])
   ]
 ]
@@ -260,8 +254,7 @@ module _ {S N : Type 0} where
   Contains-saved outside s checkpoints zero m below among = absurd (omega arith)
   Contains-saved outside s checkpoints (suc n) m below among =
       elim (cases_eq m n) [
-        | inl same ↦ rw same (Contains-append_right (saved_tables outside s checkpoints n) _ (get_or checkpoints n (blank outside)).table
-            (let here = rw same at among in rw here (Contains-here (get_or checkpoints n (blank outside)).table [])))
+        | inl same ↦ grind (arith, nat_tests, Contains-append_right, Contains-here)
         | inr other ↦ Contains-append_left (saved_tables outside s checkpoints n) _ (get_or checkpoints m (blank outside)).table (Contains-saved outside s checkpoints n m (omega arith) among)
       ]
 
