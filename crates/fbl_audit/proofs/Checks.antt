@@ -3,9 +3,8 @@ use Rattle.fbl_audit.proofs.Common.{ℕ, true, false, ◌≡◌, ◌<◌, ◌≤
 use Rattle.fbl_audit.proofs.Common.{nat_cmp_total, slice_get_read, false≢true, Members, Determinant, Mark, Send, Receipt, Parts, IsDump, IsDumpOrphan, IsLost, At, determinant_of}
 use Rattle.fbl_audit.proofs.Common.{receipt_of, Depends, depends-from_places, places-from_depends, Has-first, len-remove_one, some_member, IsSafe, SaysUnsafe, receipts, DependsOnPlace}
 use Rattle.fbl_audit.proofs.Common.{WellFormed, holders_of, holds, is_receipt, contains-union, len-within, filter_map-At, UnsafeReceipt, IsLeftOrphan, IsSaidOf, IsUnsafe, LosesReceipt}
-use Rattle.fbl_audit.proofs.Common.{MayBeLost, struck_by, cases_lt, Has, HasAlwaysNoOrphans, SafeLaw}
+use Rattle.fbl_audit.proofs.Common.{MayBeLost, struck_by, cases_lt, Has, HasAlwaysNoOrphans, SafeLaw, nat_cmp}
 use Rattle.std.specs.FinSet as set
-use Rattle.std.proofs.Common.{nat_cmp}
 
 -- ---- one receipt
 
@@ -15,9 +14,7 @@ least_of dump d = set.union dump.strike (holders_of dump d)
 
 -- members lose the receipt where they have all its holders
 pub loses_all : (dump : Parts) (members : Members) (d : Determinant) → LosesReceipt dump members d → (q : ℕ) → set.contains (holders_of dump d) q ≡ true → set.contains members q ≡ true
-loses_all dump members d loses q has =
-    let outside = λ (is : set.contains members q ≡ false). loses (q, (holds dump d q).0 has, is) in
-    grind (arith, outside)
+loses_all dump members d loses q has = grind (arith, holds)
 
 all_lose : (dump : Parts) (members : Members) (d : Determinant) → ((q : ℕ) → set.contains (holders_of dump d) q ≡ true → set.contains members q ≡ true) → LosesReceipt dump members d
 all_lose dump members d all held = false≢true (sym held.2 ∙ all held.0 ((holds dump d held.0).1 held.1))
@@ -142,12 +139,7 @@ module _ (dump : Parts) (rules : IsDump dump) (nobody : dump.strike ≡ set.empt
   -- who depends on a receipt of which few enough know, in a safe run, holds it
   dependents_hold : IsSafe dump → (d : Determinant) → Has dump.events (receipt_of d) → set.len (holders_of dump d) ≤ dump.f
       → (q : ℕ) → Depends dump.events q (receipt_of d) → set.contains (holders_of dump d) q ≡ true
-  dependents_hold safe d has few q depends =
-      let within = len-within (set.len (least_of dump d)) (least_of dump d) (holders_of dump d) refl (in_least d) in
-      let may = least_may dump d rules (omega (arith, within, few)) in
-      let left = λ (is : set.contains (least_of dump d) q ≡ false). safe (least_of dump d) may q (is, (receipt_of d, least_loses dump d, depends)) in
-      let held = in_least d q in
-      grind (arith, left, held)
+  dependents_hold safe d has few q depends = grind (arith, len-within, in_least d, least_may, left, least_loses dump d, in_least d q)
 
   by_condition : IsSafe dump → HasAlwaysNoOrphans dump
   by_condition safe d has = elim (cases_lt dump.f (set.len (holders_of dump d))) [ inl many ↦ inl many | inr few ↦ inr (dependents_hold safe d has few) ]
@@ -156,10 +148,7 @@ module _ (dump : Parts) (rules : IsDump dump) (nobody : dump.strike ≡ set.empt
   of_condition holds members may q orphan =
       let left = left_of_receipt dump members q orphan in
       let all = loses_all dump members left.0 left.1 in
-      elim (holds left.0 (Has-first left.2.1.1)) [
-        | inl many ↦ (let fewer = len-within (set.len (holders_of dump left.0)) (holders_of dump left.0) members refl all in omega (arith, many, fewer, may.few, no_length))
-        | inr held ↦ false≢true (sym left.2.0 ∙ all q (held q left.2.1))
-      ]
+      grind (arith, left, left_of_receipt, loses_all, holds, Has-first, len-within, no_length, false≢true)
 
 pub safe_by_condition : SafeLaw
 safe_by_condition dump rules nobody = (by_condition dump rules nobody, of_condition dump rules nobody)

@@ -1,7 +1,6 @@
 -- The names that proofs of this crate take from outside: of the standard library, of the crates below, and of the definitions here.
 pub use Rattle.std.proofs.Common.{List, None, Option, Some, [], ap, append_assoc, arith, drop, false, get_or, inl, inr, length, length-set, max}
-pub use Rattle.std.proofs.Common.{not, refl, replicate, reverse, slice_get, suc, sym, true, zero, ℕ, ◌++◌, ◌+◌, ◌<◌}
-pub use Rattle.std.proofs.Common.{◌↔◌, ◌∙◌, ◌∷◌, ◌≡◌, ◌≢◌, ◌≤◌, ◌⊎◌}
+pub use Rattle.std.proofs.Common.{refl, reverse, slice_get, suc, sym, true, zero, ℕ, ◌++◌, ◌+◌, ◌<◌, ◌↔◌, ◌∙◌, ◌∷◌, ◌≡◌, ◌≢◌, ◌≤◌, ◌⊎◌}
 pub use Rattle.std.proofs.lemmas.Bool.{cases_eq, cases_lt, eqb-true, false≢true}
 pub use Rattle.std.proofs.lemmas.Bool.Decides.{nat_tests}
 pub use Rattle.std.proofs.lemmas.List.{append-nil, drop_all, reverse-append}
@@ -12,8 +11,8 @@ pub use Rattle.std.specs.Option.{is_some}
 pub use Rattle.std.specs.Ordering.{nat_cmp}
 pub use Rattle.fbl_base.proofs.AuditLaws.{orphan_by_cause, with_next, holds, is_receipt}
 pub use Rattle.fbl_base.proofs.ClockLaws.{has_last, last_step, member_below, member_within, same_event, set_other, set_same}
-pub use Rattle.fbl_base.proofs.Gets.{At-below, drop_next, filter_map-At, get_or-same}
-pub use Rattle.fbl_base.proofs.PrecedenceLaws.{Precedes-joined, depends-from_places, places-from_depends, Has-first}
+pub use Rattle.fbl_base.proofs.Gets.{At-below, drop_next, filter_map-At}
+pub use Rattle.fbl_base.proofs.PrecedenceLaws.{Precedes-joined, depends-from_places, places-from_depends, Has-first, one_place}
 pub use Rattle.fbl_base.proofs.Sets.{len-remove_one, len-within, some_member}
 pub use Rattle.fbl_base.specs.Audit.{AreCauses, IsDump, IsDumpOrphan, IsFirstCause, IsLost, IsOrphaned, IsOrphanStart, Parts, holders_of}
 pub use Rattle.fbl_base.specs.Events.{At, determinant_of, member_of, receipt_of, receipts, send_of}

@@ -1,20 +1,13 @@
 -- The first event of each member that others precede, and the paths back from it.
-use Rattle.fbl_audit.proofs.Common.{ℕ, true, false, ◌≡◌, ◌≢◌, ◌<◌, ◌+◌, ◌⊎◌, ◌↔◌, inl, inr, List, [], ◌∷◌, ◌++◌, length, Option, Some, None, refl, sym, ap, ◌∙◌, arith, get_or, replicate}
-use Rattle.fbl_audit.proofs.Common.{reverse, reverse-append, slice_get, length-set, get_or-same, cases_eq, zero, suc, Mark, At, At-below, member_of, send_of, Parts, WellFormed, PlaceLeads, PlacePrecedes}
+use Rattle.fbl_audit.proofs.Common.{ℕ, true, false, ◌≡◌, ◌≢◌, ◌<◌, ◌+◌, ◌⊎◌, ◌↔◌, inl, inr, List, [], ◌∷◌, ◌++◌, length, Option, Some, None, refl, sym, ap, ◌∙◌, arith, get_or}
+use Rattle.fbl_audit.proofs.Common.{reverse, reverse-append, length-set, cases_eq, Mark, At, At-below, member_of, send_of, Parts, WellFormed, PlaceLeads, PlacePrecedes}
 use Rattle.fbl_audit.proofs.Common.{IsReached, IsSendOf, IsBefore, IsEndBy, IsEndFound, IsFirstDependent, AreEnds, IsPath, Reaches, path_step, last_step, same_event, is_some}
-use Rattle.fbl_audit.proofs.Common.{AreCauses, IsOrphaned, IsOrphanStart, orphan_by_cause, Precedes-joined, false≢true}
+use Rattle.fbl_audit.proofs.Common.{AreCauses, IsOrphaned, IsOrphanStart, orphan_by_cause, Precedes-joined, false≢true, one_place}
 use Rattle.std.specs.FinSet as set
 use Rattle.std.proofs.Common.{set as set_at}
 use Rattle.fbl_audit.proofs.Common.{set_same, set_other}
-use Rattle.fbl_base.proofs.PrecedenceLaws.{one_place}
 
 -- ---- ends
-
-pub ends_none : (t : List Mark) (places : List ℕ) → AreEnds t places 0 (replicate 16 None)
-ends_none t places = record {
-  room = refl;
-  each = λ q within. rw (get_or-same {X = Option ℕ} 16 q None) (λ k below. absurd (omega (arith, below)));
-}
 
 module _ (t : List Mark) (places : List ℕ) (p : ℕ) (e : Mark) (at : At t p e) (ends : List (Option ℕ)) (are : AreEnds t places p ends) where
   -- the next event is none
@@ -30,16 +23,7 @@ module _ (t : List Mark) (places : List ℕ) (p : ℕ) (e : Mark) (at : At t p e
 
   -- the member's first event is found already, or the next event is not preceded
   pub ends_same : ((is_some (get_or ends (member_of e) None) ≡ true) ⊎ ¬ (IsReached t places p)) → AreEnds t places (p + 1) ends
-  ends_same why = record { room = are.room; each = λ q within. at_member q (get_or ends q None) refl (are.each q within) } where
-    at_member : (q : ℕ) (o : Option ℕ) → get_or ends q None ≡ o → IsEndFound t places p q o → IsEndFound t places (p + 1) q o
-    at_member q (Some j) is found = (omega (arith, found.0), found.1, found.2)
-    at_member q None is found = kept q None (elim (cases_eq q (member_of e)) [
-      | inl own ↦ elim why [
-        | inl some ↦ absurd (false≢true (sym (ap is_some is) ∙ (rw own some)))
-        | inr unreached ↦ λ r. unreached r.3
-      ]
-      | inr ne ↦ other q ne
-    ]) found
+  ends_same why = grind (arith, kept, cases_eq, false≢true, other)
 
   -- the next event is the member's first one
   pub ends_more : is_some (get_or ends (member_of e) None) ≡ false → IsReached t places p → member_of e < 16 → AreEnds t places (p + 1) (set_at ends (member_of e) (Some p))
@@ -81,10 +65,7 @@ start_struck dump q struck = λ orphan. false≢true (sym orphan.0 ∙ struck)
 
 -- one place alone reaches what its event precedes
 one_reaches : (t : List Mark) (i k : ℕ) → IsReached t (i ∷ []) k → PlacePrecedes t i k
-one_reaches t i k r = at_place r.0 r.2 where
-  at_place : (n : ℕ) → slice_get (i ∷ []) n ≡ Some r.1 → PlacePrecedes t i k
-  at_place zero is = (let same : i ≡ r.1 = cc in rw same r.3)
-  at_place (suc n) is = cc
+one_reaches t i k r = grind arith
 
 pub end_right : (t : List Mark) (i q : ℕ) (o : Option ℕ) → IsEndFound t (i ∷ []) (length t) q o → IsEndBy t i q o
 end_right t i q None none = λ d. none d.0 (At-below t d.0 d.1 d.3) (d.1, d.3, d.4, (0, i, refl, d.2))

@@ -1,8 +1,8 @@
 -- Which determinants a trace and the pairs of a dump have, who holds them, and the lost receipts that no lost one precedes.
 use Rattle.fbl_base.proofs.Common.{ℕ, ◌≡◌, Bool, false, not, ◌&&◌, ◌||◌, refl, sym, Decides, arith, nat_cmp, nat_tests, Any-from_list_any, list_any-from_Any, Determinant}
-use Rattle.fbl_base.proofs.Common.{and_parts, Parts, is_held_outside, same_determinant, or-false, not-true, IsHeldOutside, drop, ◌+◌, ◌<◌, true, List, [], ◌∷◌, length, take}
-use Rattle.fbl_base.proofs.Common.{get_or, Some, ap, ◌∙◌, list_any, cons_option, take_more, take-append-le, list_any-append, filter_map-append, get_or_from_slice_get, Mark, At}
-use Rattle.fbl_base.proofs.Common.{determinant_of, Has, ObeysAt, WellFormed, is_received, length-take, take-append-drop, slice_get-get_or, Send, Receipt, receipt_of, receipts}
+use Rattle.fbl_base.proofs.Common.{and_parts, Parts, is_held_outside, same_determinant, or-false, not-true, IsHeldOutside, ◌+◌, ◌<◌, true, List, [], ◌∷◌, length, take}
+use Rattle.fbl_base.proofs.Common.{get_or, Some, ap, ◌∙◌, list_any, cons_option, take_more, list_any-append, filter_map-append, get_or_from_slice_get, Mark}
+use Rattle.fbl_base.proofs.Common.{determinant_of, Has, WellFormed, is_received, slice_get-get_or, Send, Receipt, receipt_of, receipts}
 use Rattle.fbl_base.proofs.Common.{◌==◌, ◌↔◌, inl, inr, map, false≢true, cases_eq, eqb-true, nat_cmp_total, filter, Contains, Members, holders_of, ◌≤◌, ◌⊎◌, ◌++◌, slice_get}
 use Rattle.fbl_base.proofs.Common.{slice_get_within, cases_order, None, Option, MatchOption, contains-insert_same, contains-insert_other, IsDumpOrphan, IsLostAt, IsReached}
 use Rattle.fbl_base.proofs.Common.{IsCause, IsFirstCause, AreCauses, DependsOnPlace, same_place}
@@ -58,15 +58,6 @@ Decides-is_received events d = (has, received) where
       let a = filter_map-At determinant_of events has'.0 (receipt_of d) d has'.1 refl in
       list_any-from_Any (λ x. same_determinant x d) (receipts events)
       (a.0, d, At-below _ a.0 d a.1, get_or_from_slice_get (receipts events) a.0 d d a.1, (Decides-same_determinant d d).1 refl)
-
--- the front of a trace whose places obey the rules
-pub WellFormed-below : (n : ℕ) (t : List Mark) (i : ℕ) → ((j : ℕ) → j < i → ObeysAt n t j) → WellFormed n (take i t)
-WellFormed-below n t i obeyed j e at =
-    let below : j < length (take i t) = At-below (take i t) j e at in
-    let within : j < i = omega (arith, length-take i t) in
-    let whole : At t j e = (rw take-append-drop at (At-front (take i t) (drop i t) j e at)) in
-    let front : take j (take i t) ≡ take j t = (rw take-append-drop at (sym (take-append-le j (take i t) (drop i t) (omega (arith, below))))) in
-    rw front (obeyed j within e whole)
 
 abbrev pub is_pair : Determinant → ℕ → ℕ × Determinant → Bool
 is_pair d holder h = same_determinant h.1 d && (h.0 == holder)
@@ -155,11 +146,7 @@ causes_more dump p places causes lost = record {
 
 -- at the end these are the causes
 pub causes_all : (dump : Parts) (p : ℕ) (places : List ℕ) → AreCausesBy dump p places → length dump.events ≤ p → AreCauses dump places
-causes_all dump p places causes end = record {
-  lost = λ k i at. (causes.lost k i at).1;
-  all = λ i lost. causes.all i (let within = At-below dump.events i lost.0 lost.1 in omega (arith, within, end)) lost;
-  rise = causes.rise;
-}
+causes_all dump p places causes end = grind (arith, nat_tests, At-below)
 
 -- who depends on a lost receipt depends on one of the causes that stands no later
 pub cause_before : (dump : Parts) (places : List ℕ) → AreCauses dump places → (q i : ℕ) → IsCause dump q i

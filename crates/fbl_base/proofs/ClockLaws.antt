@@ -1,7 +1,7 @@
 -- A pass over the events finds, by vector clocks, which precede which.
-use Rattle.fbl_base.proofs.Common.{ℕ, Bool, true, ◌≡◌, ◌≢◌, ◌<◌, ◌≤◌, ◌+◌, ◌⊎◌, ◌↔◌, inl, inr, List, [], ◌∷◌, ◌++◌, length, Option, Some, None, refl, sym, ap, ◌∙◌, arith, cond}
+use Rattle.fbl_base.proofs.Common.{ℕ, ◌≡◌, ◌≢◌, ◌<◌, ◌≤◌, ◌+◌, ◌⊎◌, ◌↔◌, inl, inr, List, [], ◌∷◌, ◌++◌, length, Option, Some, None, refl, sym, ap, ◌∙◌, arith, cond}
 use Rattle.fbl_base.proofs.Common.{get_or, get_or-set_other, get_or-set_same, get_or_from_slice_get, slice_get, slice_get-get_or, slice_get_read, slice_get_within, replicate}
-use Rattle.fbl_base.proofs.Common.{false, false≢true, length-set, length-append, length-take, take, max, cases_eq, nat_tests, Decides, MessageName, same_message, Mark, Send}
+use Rattle.fbl_base.proofs.Common.{length-set, length-append, length-take, take, max, cases_eq, nat_tests, Decides, MessageName, same_message, Mark, Send}
 use Rattle.fbl_base.proofs.Common.{Receipt, At, member_of, send_of, PlaceLeads, PlacePrecedes, same_place, place_step, DependsOnPlace, DependsBy, Clock, CountsPlaces, IsClock}
 use Rattle.fbl_base.proofs.Common.{IsSendOf, IsSentBy, Seen, Sees, WellFormed}
 use Rattle.std.proofs.Common.{set as set_at}
@@ -80,13 +80,7 @@ module _ (n : ℕ) (t : List Mark) (obeys : WellFormed n t) (p : ℕ) (e : Mark)
 
   pub carries_none : IsSendOf t p None → (clock : Clock) → clock ≡ latest → Carries clock
   unfolding Carries BySend
-  carries_none none clock is = rw is (
-    own.0,
-    λ i a at_i.
-        let counted = own.1 i a at_i in
-        let unsent : BySend t p e i → ⊥ = λ s. (let no : None ≡ Some s.1 = sym (none e at) ∙ s.5 in cc) in
-        grind (arith, counted, unsent),
-  )
+  carries_none none clock is = grind (arith, nat_tests)
 
   pub carries_send : (few : n ≤ 16) (s : ℕ) → IsSendOf t p (Some s) → (send : Clock) → IsClock t s send → (clock : Clock) → length clock.counts ≡ 16
       → ((m : ℕ) → m < 16 → get_or clock.counts m 0 ≡ max (get_or latest.counts m 0) (get_or send.counts m 0)) → Carries clock
@@ -170,24 +164,14 @@ module _ (n : ℕ) (t : List Mark) (obeys : WellFormed n t) (p : ℕ) where
   -- the event sends no such message
   sent_kept : (m : MessageName) (o : Option ℕ) → ((to : ℕ) → ¬ (At t p (Send m.from m.ssn to))) → IsSentBy t p m o → IsSentBy t (p + 1) m o
   sent_kept m (Some s) unsent found = found
-  sent_kept m None unsent none = λ k to within at_k. elim (cases_eq k p) [
-    | inl here ↦ unsent to (rw here at at_k)
-    | inr ne ↦ none k to (omega (arith, within, ne)) at_k
-  ]
+  sent_kept m None unsent none = grind (arith, nat_tests)
 
   pub sent_receipt : (to rsn from ssn : ℕ) → At t p (Receipt to rsn from ssn) → (m : MessageName) (o : Option ℕ) → IsSentBy t p m o → IsSentBy t (p + 1) m o
   sent_receipt to rsn from ssn at m o = sent_kept m o (λ to' at'. (let same = same_event t p p _ _ refl at at' in cc))
 
   pub sent_send : (from ssn to : ℕ) → At t p (Send from ssn to) → (m : MessageName) (o : Option ℕ) → IsSentBy t p m o
       → IsSentBy t (p + 1) m (cond (same_message (record { from = from; ssn = ssn }) m) (Some p) o)
-  sent_send from ssn to at m o sent = by_test (same_message (record { from = from; ssn = ssn }) m) (Decides-same_message (record { from = from; ssn = ssn }) m) where
-    by_test : (b : Bool) → Decides b (record { from = from; ssn = ssn } ≡ m) → IsSentBy t (p + 1) m (cond b (Some p) o)
-    by_test true is = (to, rw (← is.0 refl) at)
-    by_test false is = sent_kept m o (λ to' at'.
-        let same = same_event t p p _ _ refl at at' in
-        let from_is : from ≡ m.from = cc in
-        let ssn_is : ssn ≡ m.ssn = cc in
-        false≢true (is.1 (λ i. record { from = from_is i; ssn = ssn_is i }))) sent
+  sent_send from ssn to at m o sent = grind (arith, nat_tests)
 
   -- one event more
   pub Sees-more : {A : Type 0} (e : Mark) → At t p e → (old new : Seen A) → Sees t p old → (clock : Clock) → IsClock t p clock
@@ -235,9 +219,4 @@ module _ (n : ℕ) (t : List Mark) (obeys : WellFormed n t) (p : ℕ) where
 -- who depends on an event, when all are seen
 pub depends_right : {A : Type 0} (t : List Mark) (seen : Seen A) → Sees t (length t) seen → (q : ℕ) → q < 16 → (i : ℕ) (a : Mark) → At t i a → (none : Clock)
     → (i < get_or (get_or seen.latest q none).counts (member_of a) 0) ↔ DependsOnPlace t q i
-depends_right t seen sees q below i a at none =
-    let clock = slice_get-get_or seen.latest q none (omega (arith, below, sees.room)) in
-    let counted = (sees.latest q _ clock).1 i a at in (
-      λ h. (let d = counted.0 h in (d.0, d.1, d.3, d.4, d.5)),
-      λ d. counted.1 (d.0, d.1, At-below t d.0 d.1 d.3, d.2, d.3, d.4),
-    )
+depends_right t seen sees q below i a at none = grind (arith, nat_tests, slice_get-get_or, At-below)

@@ -1,5 +1,5 @@
 -- The names that proofs of this crate take from outside: of the standard library, of the crates below, and of the definitions here.
-pub use Rattle.std.proofs.Common.{Bool, Decides, IfSome, List, MatchOption, None, Option, Some, [], add-one, ap, append_assoc, arith, below_more, bit_and, bit_or, cond, count_by}
+pub use Rattle.std.proofs.Common.{Bool, Decides, List, MatchOption, None, Option, Some, [], add-one, ap, append_assoc, arith, below_more, bit_and, bit_or, cond, count_by}
 pub use Rattle.std.proofs.Common.{drop, eqb, false, get_or, get_or-set_other, get_or-set_same, inl, inr, length, length-append, length-set, length-take, map, not, refl, replicate}
 pub use Rattle.std.proofs.Common.{rules, slice_get, suc, sym, take, subst, true, w16, zero, ℕ, ◌%◌, ◌&&◌, ◌*◌, ◌++◌, ◌+◌, ◌-◌, ◌/◌, ◌<◌, ◌==◌, ◌^◌, max, unwrap_or, ◌||◌, ◌↔◌, ◌∙◌}
 pub use Rattle.std.proofs.Common.{◌∷◌, ◌≡◌, ◌≢◌, ◌≤◌, ◌⊎◌}
@@ -25,10 +25,10 @@ pub use Rattle.std.specs.List.{All, Contains, cons_option, filter, filter_map, f
 pub use Rattle.std.specs.Ordering.{eq_by_cmp, nat_cmp}
 pub use Rattle.std.specs.Prelude.{slice_index, slice_set}
 pub use Rattle.fbl_base.specs.Audit.{AreCauses, HeldAt, IsCause, IsDumpOrphan, IsFirstCause, IsHeldOutside, IsLostAt, Parts, is_held_outside, lost_determinants, is_received}
-pub use Rattle.fbl_base.specs.Audit.{parts_of, holders_of}
+pub use Rattle.fbl_base.specs.Audit.{parts_of, holders_of, FitsPair}
 pub use Rattle.fbl_base.specs.MemberSets.{bits_of-set_of, contains-set_of, has_one, Members, contains-insert_other, contains-insert_same, contains-members_where, member_list}
 pub use Rattle.fbl_base.specs.MemberSets.{same_from_contains}
-pub use Rattle.fbl_base.specs.Breaches.{Breaks, BreaksEvent, FitsEvent, first_in_flight, next_number, IsBad, number_before, numbers, set_at}
+pub use Rattle.fbl_base.specs.Breaches.{FitsEvent, first_in_flight, next_number, IsBad, number_before}
 pub use Rattle.fbl_base.specs.Clocks.{Counts as CountsPlaces, DependsBy, IsClock, IsSendOf, IsSentBy, Sees}
 pub use Rattle.fbl_base.specs.Configs.{Settings, StartAllowedAt}
 pub use Rattle.fbl_base.specs.Rules.{Counted, CountsEvent, first_by, next_by, MayFollow, ObeysAt, WellFormed, in_flight, is_receipt_of, is_send_of, receipts_of, sends_of, sent_on}
@@ -41,7 +41,6 @@ pub use Rattle.fbl_base.specs.declared.clocks.Clock.{Clock}
 pub use Rattle.fbl_base.specs.declared.clocks.Seen.{Seen}
 pub use Rattle.fbl_base.specs.declared.fault.EventRule.{EventRule}
 pub use Rattle.fbl_base.specs.declared.rules.Counts.{Counts}
-pub use Rattle.fbl_base.specs.declared.strike.Strike.{Strike}
 pub use Rattle.fbl_base.specs.declared.trace.Determinant.{Determinant}
 pub use Rattle.fbl_base.specs.declared.trace.Event.{Event}
 pub use Rattle.fbl_base.specs.declared.trace.Mark.{Mark}

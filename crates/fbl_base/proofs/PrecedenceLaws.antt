@@ -1,6 +1,6 @@
 -- Laws of precedence between events, and that precedence between places says the same of a trace that obeys the rules.
 use Rattle.fbl_base.proofs.Common.{ℕ, Bool, ◌≡◌, ◌⊎◌, ◌↔◌, inl, inr, List, [], ◌∷◌, ◌++◌, length, Some, refl, arith, filter, Mark, member_of, Has, Precedes, itself, step, Depends}
-use Rattle.fbl_base.proofs.Common.{Send, Receipt, send_of, Earlier, ◌<◌, take, At, WellFormed, cases_order, DependsOnPlace, PlacePrecedes, place_step, same_place, subst, zero, suc}
+use Rattle.fbl_base.proofs.Common.{Send, Receipt, send_of, Earlier, ◌<◌, take, At, WellFormed, DependsOnPlace, PlacePrecedes, place_step, same_place, subst, zero, suc}
 use Rattle.fbl_base.proofs.Gets.{At-front, At-append, At-seam, At-below, At-push, At-filter, Apart-filter, slice_get-take}
 use Rattle.fbl_base.proofs.RulesLaws.{MayFollow-new, WellFormed-take, sent-number}
 
@@ -81,13 +81,7 @@ precedes_receipt t to rsn from ssn a new = (let receipt : Mark = Receipt to rsn 
 
 -- who depends on an event after one more: as before, and the member of the new one
 pub depends_push : (t : List Mark) (e : Mark) (q : ℕ) (a : Mark) → ¬ (Has t e) → Depends (t ++ e ∷ []) q a ↔ Depends t q a ⊎ ((member_of e ≡ q) × Precedes (t ++ e ∷ []) a e)
-depends_push t e q a new = (
-  λ d. let h = Has-last d.1 in elim (At-push t e h.0 d.0 h.1) [
-    | inl x ↦ inl (d.0, Precedes-within t (e ∷ []) (apart_from t e new) (h.0, x) d.1, d.2)
-    | inr x ↦ inr (rw x.1 d.2, (rw (← x.1) at d.1))
-  ],
-  elim [ inl d ↦ (d.0, Precedes-front t (e ∷ []) d.1, d.2) | inr d ↦ (e, d.1, d.0) ],
-)
+depends_push t e q a new = grind (arith, Has-last, At-push, Precedes-within, apart_from, Precedes-front)
 
 pub Has-filter : (p : Mark → Bool) (t : List Mark) (a : Mark) → Has (filter p t) a → Has t a
 Has-filter p t a h = At-filter p t h.0 a h.1
@@ -103,11 +97,7 @@ Precedes-joined p (place_step q s) = place_step (Precedes-joined p q) s
 
 -- what no place has after another has it has one place
 pub one_of : (P : ℕ → Type 0) → ((i j : ℕ) → P i → P j → ¬ (i < j)) → (i j : ℕ) → P i → P j → i ≡ j
-one_of P apart i j at_i at_j = elim (cases_order i j) [
-  | inl same ↦ same
-  | inr (inl below) ↦ absurd (apart i j at_i at_j below)
-  | inr (inr above) ↦ absurd (apart j i at_j at_i above)
-]
+one_of P apart i j at_i at_j = grind arith
 
 -- no event stands twice
 pub one_place : (n : ℕ) (t : List Mark) → WellFormed n t → (e : Mark) (i j : ℕ) → At t i e → At t j e → i ≡ j

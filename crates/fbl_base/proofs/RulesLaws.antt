@@ -3,11 +3,9 @@ use Rattle.fbl_base.proofs.Common.{cases_Bool, slice_index, slice_set, ◌+◌, 
 use Rattle.fbl_base.proofs.Common.{take, drop, Some, refl, ap, ◌∙◌, arith, count_by, slice_get, nat_tests, filter_map, list_any, take-append-le, take_all, sum_by-cons, Mark, At}
 use Rattle.fbl_base.proofs.Common.{Has, is_send_of, sends_of, receipts_of, sent_on, taken_on, in_flight, MayFollow, WellFormed, append-nil, take-append-drop, sum_by_push, Send}
 use Rattle.fbl_base.proofs.Common.{Receipt, is_receipt_of, false, ◌≢◌, ◌≤◌, filter, list_any-append, filter-append, filter_map-append, first_in_flight, FitsEvent, next_number}
-use Rattle.fbl_base.proofs.Common.{Option, MatchOption, length-set, common_steps, Counted, BreaksEvent, EventRule, IfSome, Counts, destination_of, source_of, CountsEvent, first_by}
-use Rattle.fbl_base.proofs.Common.{next_by, Breaks}
-use Rattle.std.proofs.lemmas.List.{length-take, append_assoc}
+use Rattle.fbl_base.proofs.Common.{Option, MatchOption, length-set, common_steps, Counted, EventRule, Counts, destination_of, source_of, CountsEvent, first_by}
+use Rattle.fbl_base.proofs.Common.{next_by, length-take, append_assoc}
 use Rattle.fbl_base.proofs.Gets.{At-front, At-seam, At-below, At-push, At-filter, At-filter_map, Apart, Apart-filter, Apart-filter_map, slice_get-take}
-use Rattle.fbl_base.specs.declared.fault.EventRule.TheVariants as rules
 
 -- the empty trace obeys the rules
 pub WellFormed-none : (n : ℕ) → WellFormed n []
@@ -195,19 +193,11 @@ module _ {A : Type 0} (n : ℕ) (t : List Mark) (c : Counts A) (counted : Counte
   judged None h = may n t few e (rw (number, message) at h)
   judged (Some rule) h = λ m. h (rw (number, message) (fits n t e m))
 
-  pub named : (found : Option EventRule) → IfSome found (Breaks n e next first) → IfSome found (BreaksEvent n t e)
-  named found h = by_trace found (rw (number, message) at h) where
-    by_trace : (found : Option EventRule) → IfSome found (Breaks n e (next_number t e) (first_in_flight t e)) → IfSome found (BreaksEvent n t e)
-    by_trace None h = h
-    by_trace (Some rules.TooMany) h = absurd h
-    by_trace (Some _) h = (few, h)
-
 module _ {A : Type 0} (n : ℕ) (t : List Mark) (c d : Counts A) (most : n ≤ 16) (obeys : WellFormed n t) (counted : Counted t c) where
   -- the count of a member that has one event more of the kind, and the others' as they were
   count_now : (kind : ℕ → Mark → Bool) (old new : List ℕ) (e : Mark) (m k : ℕ) → (length old ≡ 16) × ((x : ℕ) → x < 16 → slice_index old x ≡ count_by (kind x) t)
       → ((x : ℕ) → kind x e ≡ (m == x)) → k ≡ count_by (kind m) t + 1 → new ≡ slice_set old m k → (x : ℕ) → x < 16 → slice_index new x ≡ count_by (kind x) (t ++ e ∷ [])
-  count_now kind old new e m k was own number is x below =
-      rw is (let same = λ (here : x ≡ m). ap (λ y. count_by (kind y) t) here in grind (arith, nat_tests, common_steps, was.0, was.1 x below, own x, number, same, sum_by_push (λ y. cond (kind x y) 1 0) t e))
+  count_now kind old new e m k was own number is x below = grind (arith, nat_tests, common_steps, number, sum_by_push)
 
   pub counted_event : (e : Mark) → MayFollow n t e → CountsEvent e c d → Counted (t ++ e ∷ []) d
   counted_event (Send q s p) may counts =

@@ -1,10 +1,10 @@
 -- Channels and the trace: each channel is first in, first out, and how channels are made again from their sender's log.
-use Rattle.fbl_law.proofs.Common.{◌≡◌, ℕ, suc, ◌<◌, ◌≤◌, nat_lt, true, false, List, [], ◌∷◌, ◌++◌, Some, slice_get, refl, ap, ◌∙◌, arith, append_assoc, filter, filter_map, fold}
+use Rattle.fbl_law.proofs.Common.{◌≡◌, ℕ, suc, ◌<◌, ◌≤◌, nat_lt, false, List, [], ◌∷◌, ◌++◌, Some, slice_get, refl, ap, ◌∙◌, arith, append_assoc, filter, filter_map, fold}
 use Rattle.fbl_law.proofs.Common.{nat_tests, filter_map-append, Mark, taken_on, sent_on, in_flight, MayFollow, WellFormed, At-front, At-filter_map, WellFormed-keeps, is_sent}
 use Rattle.fbl_law.proofs.Common.{in_flight-send, in_flight-receipt, last_taken, append-nil, Send, Receipt, Apart, Apart-later, filter_all, sent-rises, ◌≢◌, ◌+◌, length, map}
 use Rattle.fbl_law.proofs.Common.{option_map, sym, map-append, slice_get-map, Has, receipts_of, map-At, WellFormed-front, in_flight-sent, Message, Knowledge, IsSoundKnowledge}
 use Rattle.fbl_law.proofs.Common.{send_mark, IsInFlight, IsUp, between, taken_off, drop-map, ◌==◌, ◌&&◌, ◌⊎◌, inl, inr, subst, Contains, Event, mark_of, Next, Progress, Logged}
-use Rattle.fbl_law.proofs.Common.{Lawful, note_of, At-filter, Entry, piggybacked, last_from, GroupRecord, member, channel, marks, IsFold, IsMadeAgain, resent_to, logged_beyond}
+use Rattle.fbl_law.proofs.Common.{Lawful, note_of, At-filter, Entry, last_from, GroupRecord, member, channel, marks, IsFold, IsMadeAgain, resent_to, logged_beyond}
 use Rattle.fbl_law.proofs.Common.{resent, get_or, get_or_past, HasChannels, destination_of, cases_lt}
 use Rattle.fbl_base.specs.declared.trace.Event.TheVariants as event
 use Rattle.fbl_law.proofs.Lists.{filter-passes, Contains-at, Contains-place, Contains-changed, Contains-none}
@@ -55,9 +55,7 @@ in_flight-beyond n t q p obeys =
 
 -- so each number in flight is beyond the last one taken
 pub in_flight-later : (n : ℕ) (t : List Mark) (q p j x : ℕ) → WellFormed n t → slice_get (in_flight t q p) j ≡ Some x → last_taken t q p < x
-in_flight-later n t q p j x obeys here =
-    let beyond : nat_lt (last_taken t q p) x ≡ true = filter-passes (λ y. nat_lt (last_taken t q p) y) (filter_map (sent_on q p) t) j x (rw (in_flight-beyond n t q p obeys) here) in
-    grind (arith, nat_tests)
+in_flight-later n t q p j x obeys here = grind (arith, nat_tests, filter-passes, in_flight-beyond n t q p obeys, nat_tests)
 
 module _ {S N : Type 0} {n f : ℕ} {r : Knowledge S N} (sound : IsSoundKnowledge n f r) where
   -- a message at a place of a channel has the number that the trace has there, goes from the one to the other, and both are up
@@ -72,9 +70,7 @@ module _ {S N : Type 0} {n f : ℕ} {r : Knowledge S N} (sound : IsSoundKnowledg
 
   -- so it is in flight from the one to the other
   pub flight_at : (q p i : ℕ) (v : Message N) → slice_get (r.channel q p) i ≡ Some v → IsInFlight r v × (v.from ≡ q) × (v.to ≡ p)
-  flight_at q p i v here =
-      let ends = (channel-at q p i v here).0 in
-      (rw (← ends.1, ← ends.2) at (Contains-at (r.channel q p) i v here), ends.1, ends.2)
+  flight_at q p i v here = search (arith, channel-at, Contains-at)
 
   -- a message in flight was sent, from one member of the group to another
   pub flight_sent : (v : Message N) → IsInFlight r v → Has r.trace (send_mark v)
@@ -154,8 +150,7 @@ module _ {S N : Type 0} (next : Next S N) (r : GroupRecord S N) (lawful : Lawful
   -- a channel that has what the sender sends again is made again
   pub made-again : channel r q p ≡ resent_to r.config.f q p (member r q) (member r p) → IsMadeAgain r q p
   made-again is = record {
-    sends = ap (map send_mark) is ∙ resent-marks (piggybacked r.config.f (member r q).table)
-        (logged_beyond (member r q).log p (last_from (member r p) q)) ∙ ap (map (λ ssn. Send q ssn p)) beyond-flight;
+    sends = grind (arith, nat_tests, resent-marks, beyond-flight);
     notes = λ v among. note-resent v (rw is at among);
     carried = λ v among. sym (ap (λ (x : Message N). x.carried) (Contains-changed _ _ v (rw is at among)).2);
   }

@@ -6,8 +6,8 @@ pub use Rattle.std.proofs.Math.Nat.{add-zero, zero-add}
 pub use Rattle.std.proofs.Math.Seq.{take-append-add}
 pub use Rattle.std.proofs.lemmas.Bool.{and_parts, false≢true, cases_Bool, cases_eq, cases_lt, cases_order, eq-eqb, false_from_ne_true, ne_eqb}
 pub use Rattle.std.proofs.lemmas.Bool.Decides.{Decides-like, Decides-or, leb_tells, nat_tests, same_from_decides}
-pub use Rattle.std.proofs.lemmas.List.{append-nil, drop-map, drop_all, get_or-replicate, get_or-set_other, get_or-set_same, get_or_default, get_or_past, length-map}
-pub use Rattle.std.proofs.lemmas.List.{length-replicate, length-set, map-append, nil_from_length, take-append-drop, take-map, take_all}
+pub use Rattle.std.proofs.lemmas.List.{append-nil, drop-map, drop_all, get_or-set_other, get_or-set_same, get_or_default, get_or_past, length-map}
+pub use Rattle.std.proofs.lemmas.List.{length-set, map-append, nil_from_length, take-append-drop, take-map, take_all}
 pub use Rattle.std.proofs.lemmas.List.Elements.{All-append, All-cons, All-contains, All-contains_itself, All-from_get_or, All-head, All-map, All-nil, All-push, All-tail, All-take}
 pub use Rattle.std.proofs.lemmas.List.Elements.{All-weaker, Contains-append_cases, Contains-append_left, Contains-append_right, Contains-get_or, filter-append, filter_map-append}
 pub use Rattle.std.proofs.lemmas.List.Elements.{filter_passes}
@@ -19,7 +19,7 @@ pub use Rattle.std.proofs.lemmas.Map.Made.{AllPairs-from_IsDistinct, IsDistinct-
 pub use Rattle.std.proofs.lemmas.Option.{get_or_from_slice_get, slice_get-get_or, slice_get-map, slice_get_within}
 pub use Rattle.std.proofs.lemmas.Simd.{map-map}
 pub use Rattle.std.specs.Cmp.{decided}
-pub use Rattle.std.specs.List.{All, Contains, cons_option, filter, filter_map, fold, list_any, position_or_len}
+pub use Rattle.std.specs.List.{All, Contains, filter, filter_map, fold, list_any, position_or_len}
 pub use Rattle.std.specs.Option.{option_map_or}
 pub use Rattle.std.specs.Ordering.{nat_cmp}
 pub use Rattle.std.specs.Prelude.{slice_index_or, slice_set, sum_by}

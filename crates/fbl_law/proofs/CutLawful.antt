@@ -1,7 +1,7 @@
 -- What is left of a lawful trace is lawful, with its notes.
 use Rattle.fbl_law.proofs.Common.{◌≡◌, ℕ, zero, suc, ◌<◌, ◌≤◌, nat_lt, inl, inr, ◌⊎◌, Bool, true, false, cond, List, [], ◌∷◌, ◌++◌, length, take, map, Option, Some, slice_get}
 use Rattle.fbl_law.proofs.Common.{refl, sym, ap, ◌∙◌, arith, count_by, length-take, filter, filter_map, fold, nat_tests, filter-append, sum_by-cons, length-filter_map, length-left}
-use Rattle.fbl_law.proofs.Common.{Start, Event, Mark, mark_of, member_of, send_of, Has, Leads, Precedes, itself, step, is_send_of, is_receipt_of, sends_of, receipts_of, sent_on}
+use Rattle.fbl_law.proofs.Common.{Start, Event, Mark, mark_of, member_of, send_of, Has, Leads, Precedes, itself, step, is_receipt_of, receipts_of, sent_on}
 use Rattle.fbl_law.proofs.Common.{taken_on, in_flight, MayFollow, WellFormed, At-front, At-below, WellFormed-keeps, WellFormed-none, WellFormed-push, is_sent, in_flight-sent}
 use Rattle.fbl_law.proofs.Common.{last_taken, Next, note_of, Action, took, sent, action_of, actions_of, notes_of, responses, start_of, starts_of, Lawful, At-filter, receipts-noted}
 use Rattle.fbl_law.proofs.Common.{eqb-self, append-nil, filter_map-agree, Earlier-front, cases_lt, drop, drop_all, drop_next, filter_map-append, slice_get_within, subst, take_all}
@@ -35,14 +35,11 @@ count-map p (x ∷ u) = grind (arith, sum_by-cons (λ y. cond (p y) 1 0) x u, co
 
 -- counts of a kind of event of which each is kept, or of which those before a place are kept
 count-kept : (keep p : Mark → Bool) (u : List Mark) → ((e : Mark) → Has u e → p e ≡ true → keep e ≡ true) → count_by p (filter keep u) ≡ count_by p u
-count-kept keep p u all =
-    count-map p (filter keep u) ∙ ap length (map-kept keep (λ e. cond (p e) (Some e) None) u (λ e y here is. all e here (grind (arith, is)))) ∙ sym (count-map p u)
+count-kept keep p u all = search (arith, count-map, map-kept)
 
 pub count-front : (keep p : Mark → Bool) (stop : ℕ) (u : List Mark) → ((i : ℕ) (e : Mark) → At u i e → p e ≡ true → keep e ≡ nat_lt i stop)
     → count_by p (filter keep u) ≡ count_by p (take stop u)
-count-front keep p stop u tells =
-    count-map p (filter keep u) ∙ ap length (front-left (λ e. cond (p e) (Some e) None) keep stop u (λ i e y here is. tells i e here (grind (arith, is))))
-    ∙ sym (count-map p (take stop u))
+count-front keep p stop u tells = search (arith, count-map, front-left)
 
 module _ {N : Type 0} where
   -- the two ways to leave events out
@@ -87,9 +84,7 @@ module _ (n : ℕ) (keep : Mark → Bool) (u : List Mark) (obeys : WellFormed n 
       (first-left keep (sent_on q p) (λ x. nat_lt (last_taken u q p) x) u s (λ e is. rw (is_sent q p s e is) kept) (rw (in_flight-beyond n u q p obeys) first))
 
   MayFollow-kept : (e : Mark) → MayFollow n u e → ((a : Mark) → Has u a → (member_of a ≡ member_of e) ⊎ (send_of e ≡ Some a) → keep a ≡ true) → MayFollow n (filter keep u) e
-  MayFollow-kept (mark.Send from ssn to) may causes =
-      let count : sends_of (filter keep u) from ≡ sends_of u from = count-kept keep (is_send_of from) u (λ a h own. causes a h (inl (grind (arith, nat_tests)))) in
-      (may.0, may.1, may.2, omega (arith, may.3, count), omega (arith, may.4, length-left keep u))
+  MayFollow-kept (mark.Send from ssn to) may causes = search (arith, count-kept, nat_tests, length-left)
   MayFollow-kept (mark.Receipt to rsn from ssn) may causes =
       let count : receipts_of (filter keep u) to ≡ receipts_of u to = count-kept keep (is_receipt_of to) u (λ a h own. causes a h (inl (grind (arith, nat_tests)))) in (
         may.0,

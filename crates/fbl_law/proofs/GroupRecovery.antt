@@ -39,8 +39,7 @@ module _ {S N : Type 0} (next : Next S N) (old : GroupRecord S N) (sound : IsSou
       rw down (number-front (is_receipt_of p) (marks old) i (first p) r (Receipt p r q k) here (eqb-self p) (sound.lawful.well_formed i (Receipt p r q k) here).3)
 
   keep-up : (e : Mark) → IsUp (knowledge old) (member_of e) → keep e ≡ true
-  keep-up (Send q k p) up = rw up refl
-  keep-up (Receipt p r q k) up = rw up refl
+  keep-up e up = grind (arith, nat_tests)
 
   keep-stays : (e : Mark) → Has (marks old) e → keep e ≡ true → Stays (knowledge old) e
   keep-stays e has kept down c at_e up_to =
@@ -245,8 +244,4 @@ module _ (S N : Type 0) where
   recovery_leaves_recorded next old new step sound = record { exactly = cut_is_recorded next old new step sound; order = cut-receipts sound step.trace }
 
   pub gains_the_down : OfRecovery S N GainsTheDown
-  gains_the_down next old new step sound d m recorded =
-      let stay = recovery_gains_holders next old new step sound d m in (
-        λ holds. elim (stay.0 holds) [ inl was ↦ inl was | inr down ↦ inr down.0 ],
-        elim [ inl was ↦ stay.1 (inl was) | inr down ↦ stay.1 (inr (down, recorded)) ],
-      )
+  gains_the_down next old new step sound d m recorded = grind (arith, nat_tests, recovery_gains_holders next old new step sound d m)

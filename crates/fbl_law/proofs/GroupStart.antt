@@ -1,6 +1,6 @@
 -- A group in which nothing is received yet is sound.
 use Rattle.fbl_law.proofs.Common.{Bool, ◌≡◌, ℕ, suc, ◌+◌, ◌<◌, ◌≤◌, ◌==◌, List, [], ◌∷◌, ◌++◌, length, get_or, map, Option, Some, None, slice_get, refl, sym, ap, ◌∙◌, arith}
-use Rattle.fbl_law.proofs.Common.{append_assoc, length-append, Contains, filter, filter_map, cons_option, length-map, map-append, take_all, get_or_past, filter_map-append, Start}
+use Rattle.fbl_law.proofs.Common.{append_assoc, length-append, Contains, filter, filter_map, length-map, map-append, take_all, get_or_past, filter_map-append, Start}
 use Rattle.fbl_law.proofs.Common.{Event, Mark, mark_of, determinant_of, receipt_of, in_flight, sent_on, taken_on, sends_of, WellFormed, MayFollow, Next, Lawful, sent, action_of}
 use Rattle.fbl_law.proofs.Common.{actions_of, notes_of, start_of, starts_of, filter_map-At, WellFormed-none, WellFormed-push, fresh, Message, MemberRecord, blank, send_mark, is_on}
 use Rattle.fbl_law.proofs.Common.{GroupRecord, channel, knowledge, receipts, IsSound, if◌then◌else◌, Send, Settings, IsConfig, StartAllowed, notes_of-sent, IsGroupStart}
@@ -27,8 +27,7 @@ module _ {N : Type 0} where
       → (done : List (Event N)) (ss : List (Start N)) → filter_map g (start_events done ss) ≡ filter_map g done ++ filter_map h ss
   starts_given g h is done [] = sym (append-nil (filter_map g done))
   starts_given g h is done (s ∷ ss) =
-      let joined : cons_option (h s) [] ++ filter_map h ss ≡ filter_map h (s ∷ ss) = grind arith in
-      starts_given g h is (done ++ send_of done s ∷ []) ss ∙ rw (filter_map-append, append_assoc, is s, joined)
+      search (arith, [], filter_map-append, append_assoc, starts_given g h is (done ++ send_of done s ∷ []) ss)
 
   filter_map-all : (ss : List (Start N)) → filter_map (λ s. Some s) ss ≡ ss
   filter_map-all [] = refl
@@ -62,9 +61,7 @@ module _ {N : Type 0} where
   -- each message of the sends is sent, and carries nothing
   message_sent : (t : List (Event N)) (v : Message N) → Contains (filter_map message_of_send t) v → (v.carried ≡ []) × ((i : ℕ) × (slice_get t i ≡ Some (event.Send v.from v.ssn v.to v.note)))
   message_sent t v among =
-      let at = At-filter_map message_of_send t among.0 v (Contains-place (filter_map message_of_send t) v among) in
-      let is : (v.carried ≡ []) × (at.1 ≡ event.Send v.from v.ssn v.to v.note) = grind (arith, at.3) in
-      (is.0, (at.0, at.2 ∙ ap Some is.1))
+      grind (arith, nat_tests, At-filter_map message_of_send t among.0 v (Contains-place (filter_map message_of_send t) v among))
 
   sends_of_one : (m : ℕ) (ss : List (Start N)) → filter_map (λ s. if s.from == m then Some (sent (s.to, s.note)) else None) ss ≡ map sent (starts_of m ss)
   sends_of_one m [] = refl

@@ -4,9 +4,9 @@ use Rattle.fbl_law.proofs.Common.{piggybacked, Message, Includes, Knowledge, Sto
 use Rattle.fbl_law.proofs.Common.{Names, Holds, IsRecorded, IsHolder, IsStable, IsTrueEntry, NamesCauses, IsDownEmpty, IsCheckpointKept, IsSoundKnowledge, MatchesTrace, WellFormed}
 use Rattle.fbl_law.proofs.Common.{◌≤◌, ap, ◌∙◌, AllBelow, Members, Next, MemberRecord, blank, GroupRecord, knowledge, IsFold, IsSound, IsStrike, RecordedTest, contains-union}
 use Rattle.fbl_law.proofs.Common.{IsOnce-none, false, ◌≢◌, ◌<◌, sym, slice_set, cases_eq, length-set, get_or-set_same, get_or-set_other, itself, member, member_checkpoint}
-use Rattle.fbl_law.proofs.Common.{IsReplayed, IsCheckpoint, CheckpointIsRecorded, GroupCheckpointKeeps}
+use Rattle.fbl_law.proofs.Common.{IsReplayed, IsCheckpoint, CheckpointIsRecorded, GroupCheckpointKeeps, nat_tests}
 use Rattle.fbl_law.proofs.Safe.{down_or_up, up_at_ends, IsRecorded-before, recorded_holder, Contains-piggybacked, passed_or_known, never_both, Decides-recorded, up_if_none}
-use Rattle.fbl_law.proofs.Safe.{IsRecorded-reached, nobody_down_empty}
+use Rattle.fbl_law.proofs.Safe.{IsRecorded-reached}
 use Rattle.std.specs.FinSet as sets
 use Rattle.fbl_law.proofs.ReplayedRecords.{fold-replayed}
 
@@ -135,9 +135,7 @@ module _ {S N : Type 0} (next : Next S N) (old new : GroupRecord S N) (struck : 
 
     same : (k : Store N) → IsThere (knowledge new) k → IsSameStore (knowledge old) (knowledge new) k
     same (in_table m) now = (up m now, table_still m now, λ b there owes. (rw s.trace at there, owes))
-    same (in_message v) flies =
-        let ends = up_at_ends (knowledge new) s.emptied v.from v.to v flies in
-        (rw (s.channels v.from v.to ends.0 ends.1) at flies, refl, λ b there owes. (rw s.trace at there, owes))
+    same (in_message v) flies = grind arith
     same (in_checkpoint m) there = (tt, rw (s.checkpoints, s.outside) refl, λ b there owes. (rw s.trace at there, rw (s.checkpoints, s.outside) at owes))
 
     pub strike_keeps : IsSoundKnowledge old.config.members old.config.f (knowledge new)
@@ -154,19 +152,11 @@ module _ {S N : Type 0} (next : Next S N) (old new : GroupRecord S N) (struck : 
     lawful = rw (s.config, s.trace) sound.lawful;
     room = rw (s.config, s.trace) sound.room;
     causes = rw s.config (strike_keeps few sound);
-    folds = λ m below now.
-        let fold = sound.folds m (rw s.config at below) (up m now) in
-        record {
-          progress = rw (s.survivors m now, s.config, s.trace) fold.progress;
-          places = rw (s.survivors m now) fold.places;
-          last = λ q within. rw (s.survivors m now, s.trace) (fold.last q within);
-        };
+    folds = grind (arith, nat_tests, up);
     blanks = λ m below down. rw s.config (s.blanks m down);
     distinct = λ m. elim (down_or_up new.down m) [ inl down ↦ rw (s.blanks m down) IsOnce-none | inr now ↦ rw (s.survivors m now) (sound.distinct m) ];
     shape = rw s.config s.shape;
-    notes = λ v flying.
-        let ends = up_at_ends (knowledge new) s.emptied v.from v.to v flying in
-        rw s.trace (sound.notes v (rw (s.channels v.from v.to ends.0 ends.1) at flying));
+    notes = grind (arith, nat_tests, up_at_ends);
     counted = rw (s.trace, s.undone_ever, s.receipts_ever) sound.counted;
   }
 
@@ -195,14 +185,7 @@ module _ {S N : Type 0} (next : Next S N) (old new : GroupRecord S N) (p : ℕ) 
   other m apart = get_or-set_other old.checkpoints p m (member old p) (blank old.outside) apart
 
   keeps_knowledge : KeepsKnowledge old.config.members old.config.f (knowledge old) (knowledge now)
-  keeps_knowledge = record {
-    rules = sound.causes.rules;
-    down = nobody_down_empty old.config.f (knowledge now) s.nobody_down;
-    channels = sound.causes.channels;
-    held = λ d m up_m holder. elim holder [ inl holds ↦ holds | inr down ↦ never_both old.down m down.0 (all_up m) ];
-    left = λ b there recorded. there;
-    paths = λ there path. path;
-  }
+  keeps_knowledge = grind arith
 
   good_table : (m : ℕ) → IsSoundAt old.config.f (knowledge now) (in_table m)
   good_table m = sound_kept keeps_knowledge sound.causes (in_table m) (all_up m) (all_up m, refl, λ b there owes. (there, owes))
@@ -228,21 +211,13 @@ module _ {S N : Type 0} (next : Next S N) (old new : GroupRecord S N) (p : ℕ) 
   kept m = elim (cases_eq m p) [ inl same ↦ rw same (λ d up_p named. rw own at named) | inr apart ↦ checkpoint_kept keeps_knowledge sound.causes m (other m apart) ]
 
   saved_now : (m : ℕ) → m < old.config.members → IsReplayed next old.config.members old.config.starts old.trace m (member_checkpoint now m)
-  saved_now m below = elim (cases_eq m p) [
-    | inl same ↦ rw (same, own) (fold-replayed sound.lawful.well_formed (sound.folds p s.below (all_up p)))
-    | inr apart ↦ rw (other m apart) (sound.saved m below)
-  ]
+  saved_now m below = grind (arith, cases_eq, same, own, fold-replayed, all_up, other)
 
   still : (m : ℕ) → m < old.config.members → IsUp (knowledge old) m → IsFold next now m
   still m below up_m = assumption (sound.folds m below up_m)
 
   IsSound-checkpoint : IsSound next now
-  IsSound-checkpoint = assumption (
-    length-set old.checkpoints p (member old p) ∙ sound.checkpoints,
-    sound_after keeps_knowledge sound.causes good kept,
-    still,
-    saved_now,
-  )
+  IsSound-checkpoint = search (arith, length-set, sound_after, keeps_knowledge, good, kept, still, saved_now)
 
 pub group_checkpoint_keeps : (S N : Type 0) → GroupCheckpointKeeps S N
 group_checkpoint_keeps S N next old new p s sound = subst (IsSound next) (sym s.saved) (IsSound-checkpoint next old new p s sound)

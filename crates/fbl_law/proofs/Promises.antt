@@ -85,9 +85,7 @@ module _ {S N : Type 0} where
       let up : IsUp r m = elim (down_or_up r.down m) [ inl down ↦ never_both s m (covers m down) out | inr up ↦ up ] in
       elim (sound.closed.events (in_table m) depends.0 up depends.2 d depends.1) [
         | inl named ↦ (m, out, named)
-        | inr stable ↦
-            let one = some_outside stable.0 s (omega (arith, few, stable.1)) in
-            elim (stable.2 one.0 one.1) [ inl holds ↦ (one.0, one.2, holds.1) | inr down ↦ never_both s one.0 (covers one.0 down.0) one.2 ]
+        | inr stable ↦ grind (arith, nat_tests, some_outside, never_both)
       ]
 
   pub sound_records_causes : OfSound S N (λ r. RecordsCauses (knowledge r))

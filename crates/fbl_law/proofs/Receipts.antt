@@ -1,6 +1,6 @@
 -- A member's receipts in a trace, in order, and the numbers of its events; that events that are appended are new.
-use Rattle.fbl_law.proofs.Common.{append_assoc, ◌≡◌, ℕ, List, [], ◌∷◌, ◌++◌, arith, ◌∙◌, Some, Mark, Has, MayFollow, WellFormed, At-front, At-below, one_place, WellFormed-front}
-use Rattle.fbl_law.proofs.Common.{MayFollow-last, suc, ◌+◌, ◌≤◌, ◌==◌, true, cond, length, map, Option, slice_get, refl, ap, take, drop, ◌<◌, length-take, filter_map, fold}
+use Rattle.fbl_law.proofs.Common.{append_assoc, ◌≡◌, ℕ, List, [], ◌∷◌, ◌++◌, arith, Some, Mark, Has, MayFollow, WellFormed, At-front, At-below, one_place, WellFormed-front}
+use Rattle.fbl_law.proofs.Common.{MayFollow-last, suc, ◌+◌, ◌≤◌, ◌==◌, cond, length, map, Option, slice_get, refl, ap, take, drop, ◌<◌, length-take, filter_map, fold}
 use Rattle.fbl_law.proofs.Common.{nat_tests, length-map, take-append-drop, sum_by-cons, slice_get-map, Determinant, Event, At, mark_of, determinant_of, receipt_of, is_receipt_of}
 use Rattle.fbl_law.proofs.Common.{receipts_of, taken_on, action_of, notes_of, note_of, filter_map-At, At-filter, At-filter_map, WellFormed-take, receipts-noted, received_notes}
 use Rattle.fbl_law.proofs.Common.{receipts_at, is_receipt, WellFormed-keeps, filter-append, filter_map-append, Send, Receipt, At-push, append-nil, Bool, count_by, sum_by-append}
@@ -37,10 +37,7 @@ receipts_at-number n t p j d obeys = WellFormed-keeps n (λ u. (j : ℕ) → sli
 pub receipts_at-Has : (n : ℕ) (t : List Mark) (p j : ℕ) (d : Determinant) → WellFormed n t → slice_get (receipts_at t p) j ≡ Some d
     → Has t (receipt_of d) × (d.to ≡ p) × (d.rsn ≡ j + 1)
 receipts_at-Has n t p j d obeys here =
-    let a = At-filter (λ (x : Determinant). x.to == p) (filter_map determinant_of t) j d here in
-    let b = At-filter_map determinant_of t a.0 d a.1 in
-    let passes : (d.to == p) ≡ true = filter-passes (λ (x : Determinant). x.to == p) (filter_map determinant_of t) j d here in
-    ((b.0, b.2 ∙ ap Some (is_receipt b.1 d b.3)), grind (arith, nat_tests), receipts_at-number n t p j d obeys here)
+    grind (arith, nat_tests, At-filter, At-filter_map, filter-passes, is_receipt, nat_tests, receipts_at-number n t p j d obeys here)
 
 -- and each receipt of the member is among them, at its number
 pub Has-receipts_at : (n : ℕ) (t : List Mark) (p j : ℕ) (d : Determinant) → WellFormed n t → Has t (receipt_of d) → d.to ≡ p → d.rsn ≡ j + 1

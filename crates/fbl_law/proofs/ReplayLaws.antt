@@ -4,7 +4,7 @@ use Rattle.fbl_law.proofs.Common.{List, arith, subst, Determinant, Mark, At, rec
 use Rattle.fbl_law.proofs.Common.{slice_get, Bool, true, [], ◌∷◌, length, map, refl, sym, ap, ◌∙◌, nat_lt, filter, nat_tests, length-map, Event, mark_of, determinant_of, AllBelow}
 use Rattle.fbl_law.proofs.Common.{Members, Next, MemberRecord, Stays, IsEventCut, GroupRecord, knowledge, receipts, receipts_at, IsReplayed, IsSound, length-left}
 use Rattle.fbl_law.proofs.Common.{length-filter_map, count_in, cond, ◌⊎◌, inl, inr, slice_set, length-append, cases_Bool, cases_eq, length-set, get_or-set_same, get_or-set_other}
-use Rattle.fbl_law.proofs.Common.{count_by-le-length, slice_get_within, slice_index_or, is_receipt_of, is_send_of, Lawful, Entry, found, blank, logged_note, replayed_by}
+use Rattle.fbl_law.proofs.Common.{count_by-le-length, slice_get_within, slice_index_or, is_send_of, Lawful, Entry, found, blank, logged_note, replayed_by}
 use Rattle.fbl_law.proofs.Common.{length-numbered, Names, IsDown, recovery_table, member_checkpoint, IsFold, IsRecovery, IsMadeAgain, IsNextReplay, recovered_trace, stays_by}
 use Rattle.fbl_law.proofs.Common.{is_of_receipt, is_replayed, working, IsReplaying, IsWaiting, replayed_in, IsRebuilt, position_or_len, fails_before_first, find_at, get_or}
 use Rattle.fbl_law.proofs.Common.{slice_get-get_or, option_map}
@@ -190,9 +190,7 @@ module _ {S N : Type 0} (next : Next S N) (old : GroupRecord S N) (sound : IsSou
 
     -- no more are replayed than the trace has
     pub replayed_in-short : replayed_in old rebuilt ≤ 8192
-    replayed_in-short =
-        let fewer = count_in-most old.down (λ p. (current p).received - (member_checkpoint old p).received) (λ p. (current p).received) old.config.members (λ p below down. omega arith) in
-        omega (arith, fewer, replayed-most sound cut current replaying.replayed, sound.room, sound.config.limit.1)
+    replayed_in-short = grind (arith, nat_tests, count_in-most, replayed-most sound cut current replaying.replayed)
 
     -- new tables change nothing of the replay
     pub replaying-tables : (given : List (MemberRecord S N)) (t : List Entry) → length given ≡ length rebuilt
@@ -214,9 +212,7 @@ module _ {S N : Type 0} (next : Next S N) (old : GroupRecord S N) (sound : IsSou
 
         -- one more is replayed
         pub replayed_in-step : replayed_in old (slice_set rebuilt p after) ≡ replayed_in old rebuilt + 1
-        replayed_in-step =
-            count_in-step old.down _ _ old.config.members p below down (omega (arith, ap (λ (m : MemberRecord S N). m.received) own, replaying.begun p below down))
-            (λ q other. ap (λ (m : MemberRecord S N). m.received - (member_checkpoint old q).received) (get_or-set_other rebuilt p q after (blank old.outside) other))
+        replayed_in-step = search (arith, count_in-step, own, get_or-set_other)
 
       module _ (is : found p ((current p).received + 1) (recovery_table (knowledge old)) ≡ Some d) where
         -- it is that of the member's next number, from another member
@@ -225,14 +221,7 @@ module _ {S N : Type 0} (next : Next S N) (old : GroupRecord S N) (sound : IsSou
             let here = found-receipt p (current p).received d is in
             let has = receipts_at-Has old.config.members (map mark_of (recovered_trace old)) p (current p).received d lawful.well_formed here in
             let may = lawful.well_formed has.0.0 (receipt_of d) has.0.1 in
-            let within = slice_get_within (left p) (current p).received d here in
-            record {
-              to = has.1;
-              rsn = has.2;
-              from = may.0;
-              other = λ same. may.2 (same ∙ sym has.1);
-              room = omega (arith, within, length-receipts_at (map mark_of (recovered_trace old)) p, count_by-le-length (is_receipt_of p) (map mark_of (recovered_trace old)), cut-short);
-            }
+            grind (arith, nat_tests, found-receipt, receipts_at-Has, slice_get_within, length-receipts_at, count_by-le-length, cut-short)
 
         module _ (note : N) (named : logged_note (working old rebuilt d.from).log d.ssn ≡ Some note) where
           there : Replays p (after note)
@@ -246,14 +235,7 @@ module _ {S N : Type 0} (next : Next S N) (old : GroupRecord S N) (sound : IsSou
 
           -- its replay
           pub replay_is_right : IsReplaying next old (slice_set rebuilt p (after note))
-          replay_is_right = record {
-            size = length-set rebuilt p (after note) ∙ replaying.size;
-            replayed = λ q below_q down_q. elim (cases_eq q p) [
-              | inl same ↦ rw (same, own note) there
-              | inr other ↦ rw (get_or-set_other rebuilt p q (after note) (blank old.outside) other) (replaying.replayed q below_q down_q)
-            ];
-            begun = λ q below_q down_q. grind (arith, own note, get_or-set_other rebuilt p q (after note) (blank old.outside), replaying.begun q below_q down_q);
-          }
+          replay_is_right = search (arith, length-set, cases_eq, own, there, get_or-set_other)
 
     -- where each member that is down waits, all is replayed
     module _ (waiting : (p : ℕ) → p < old.config.members → IsDown (knowledge old) p → IsWaiting old rebuilt p) where

@@ -6,7 +6,7 @@ use Rattle.fbl_law.proofs.Common.{map-append, take-append-drop, filter_map-appen
 use Rattle.fbl_law.proofs.Common.{numbered, starts_of, begun, advanced, after_notes, action_of, actions_of, notes_of, responses, Lawful, sends-step, receipts-step, logged_note}
 use Rattle.fbl_law.proofs.Common.{length-numbered, received_notes, MemberRecord, IsReplayed, append-nil, fold-append, numbered-append, take-more, progress_of, take-map, take_all}
 use Rattle.fbl_law.proofs.Common.{length-set, get_or-set_same, get_or-set_other, slice_get_within, Determinant, receipt_of, receipts-noted, fresh, replayed_by, GroupRecord, member}
-use Rattle.fbl_law.proofs.Common.{marks, IsFold, receipts_at, length-replicate, get_or-replicate, fold_next}
+use Rattle.fbl_law.proofs.Common.{marks, IsFold, receipts_at, fold_next}
 use Rattle.fbl_base.specs.declared.trace.Mark.TheVariants as mark
 use Rattle.fbl_base.specs.declared.trace.Event.TheVariants.{Send, Receipt}
 use Rattle.fbl_law.proofs.Receipts.{MayFollow-seam, receipts_at-Has, Has-receipts_at, length-received_notes, note-at, last-from}
@@ -38,10 +38,7 @@ module _ {N : Type 0} where
 
   -- and the event at a mark's place has that mark
   pub send-at : (t : List (Event N)) (i q k to : ℕ) → At (map mark_of t) i (mark.Send q k to) → (x : N) × (slice_get t i ≡ Some (Send q k to x))
-  send-at t i q k to here = (let r = map-At mark_of t i (mark.Send q k to) here in is_event r.0 r.1 r.2) where
-    is_event : (e : Event N) → slice_get t i ≡ Some e → mark_of e ≡ mark.Send q k to → (x : N) × (slice_get t i ≡ Some (Send q k to x))
-    is_event (Send q' k' to' x) at same = (x, cc)
-    is_event (Receipt to' r q' k') at same = absurd cc
+  send-at t i q k to here = search (arith, map-At)
 
   pub receipt-at : (t : List (Event N)) (i to r q k : ℕ) → At (map mark_of t) i (mark.Receipt to r q k) → slice_get t i ≡ Some (Receipt to r q k)
   receipt-at t i to r q k here = (let place = map-At mark_of t i (mark.Receipt to r q k) here in place.1 ∙ ap Some (grind (arith, place.2)))
@@ -126,8 +123,7 @@ module _ {S N : Type 0} where
   -- the log after the notes has the starts and then the responses
   pub log-after : (next : Next S N) (p n : ℕ) (starts : List (Start N)) (notes : List N)
       → (after_notes next p n starts notes).log ≡ numbered 0 (sends_in (map sent (starts_of p starts) ++ responses next p n (next.initial p n) notes))
-  log-after next p n starts notes =
-      log-fold next p n (begun (next.initial p n) p starts) notes ∙ simp (zero-add, length-numbered, sends_in-append, sends_in-sent, numbered-append)
+  log-after next p n starts notes = search (arith, log-fold, zero-add, length-numbered, sends_in-append, sends_in-sent, numbered-append)
 
   -- in a lawful trace the log after all the member's notes has the member's sends
   pub log-sends : {next : Next S N} {n : ℕ} {starts : List (Start N)} {t : List (Event N)} (lawful : Lawful next n starts t) (p : ℕ)
@@ -165,8 +161,7 @@ module _ {S N : Type 0} {next : Next S N} {n : ℕ} {starts : List (Start N)} {t
 
   -- a message that it names has that note in the trace
   pub logged-noted : (ssn : ℕ) (note : N) → logged_note m.log ssn ≡ Some note → note_of t p ssn ≡ Some note
-  logged-noted ssn note named =
-      rw (← logged_note-trace t p ssn, ← log-sends lawful p, whole-log.1) (logged_note-front m.log whole-log.0 ssn note named)
+  logged-noted ssn note named = search (arith, logged_note-trace, log-sends, whole-log, logged_note-front)
 
   -- it is no longer than the member's sends are many
   pub log-short : length m.log ≤ sends_of (map mark_of t) p
@@ -199,12 +194,7 @@ all-taken n t p k obeys count =
 module _ {S N : Type 0} where
   -- a fresh member has replayed nothing
   pub replayed-fresh : (next : Next S N) (n : ℕ) (starts : List (Start N)) (trace : List (Event N)) (p : ℕ) → IsReplayed next n starts trace p (fresh (next.initial p n) p starts)
-  replayed-fresh next n starts trace p = record {
-    within = omega arith;
-    progress = refl;
-    places = length-replicate {A = ℕ} 16 0;
-    last = λ q below. get_or-replicate {A = ℕ} 16 q 0 0 below;
-  }
+  replayed-fresh next n starts trace p = grind (arith, nat_tests)
 
   -- a member that replays its next receipt in the trace, with the note of its message, has replayed one more
   pub replayed-step : {next : Next S N} {n : ℕ} {starts : List (Start N)} {trace : List (Event N)} {p : ℕ} {m : MemberRecord S N} {d : Determinant} {note : N}

@@ -43,10 +43,7 @@ module _ {S N : Type 0} where
 
   -- what is named or stable is recorded, where what is named is
   recorded_or : (f : ℕ) (r : Knowledge S N) (d : Determinant) {N : Type 0} → (N → IsRecorded r d) → N ⊎ IsStable f r d → IsRecorded r d
-  recorded_or f r d recorded cause = elim cause [
-    | inl named ↦ recorded named
-    | inr stable ↦ let one = some_member stable.0 (omega (arith, stable.1)) in recorded_holder r d one.0 (stable.2 one.0 one.1)
-  ]
+  recorded_or f r d recorded cause = search (arith, some_member, recorded_holder)
 
   -- what true entries name is in the trace
   pub Has-named : (r : Knowledge S N) (entries : List Entry) → ((e : Entry) → Contains entries e → IsTrueEntry r e) → (d : Determinant) → Names entries d → Has r.trace (receipt_of d)
@@ -148,11 +145,7 @@ Contains-piggybacked f xs e among = Contains-from_filter (λ e. nat_le (set.len 
 
 -- an entry is passed on, or more than f members are known to hold it
 pub passed_or_known : (f : ℕ) (xs : List Entry) (e : Entry) → Contains xs e → Contains (piggybacked f xs) e ⊎ (f < set.len e.known)
-passed_or_known f xs e among =
-    elim (leb_tells (set.len e.known) f) [
-      | inl few ↦ inl (Contains-filter (λ e. nat_le (set.len e.known) f) xs e among few.0)
-      | inr many ↦ inr many.1
-    ]
+passed_or_known f xs e among = search (arith, leb_tells, Contains-filter)
 
 -- after a receipt a table names what it named, what it learned, and the receipt's own determinant
 pub Names-table : (p : ℕ) (xs es : List Entry) (own d : Determinant) → Names (noted p (learned p xs es) own) d ↔ (Names xs d ⊎ (Names es d ⊎ (own ≡ d)))
@@ -197,10 +190,7 @@ module _ {S N : Type 0} (r : Knowledge S N) (d : Determinant) where
       )
 
   all_holder : IsRecorded r d → (m : ℕ) → Includes all m → IsHolder r d m
-  all_holder recorded m h = elim (down_or_up r.down m) [
-    | inl down ↦ inr (down, recorded)
-    | inr up ↦ elim ((Includes-all m).0 h) [ inl named ↦ inl (up, named) | inr down ↦ inr (down, recorded) ]
-  ]
+  all_holder recorded m h = search (arith, down_or_up, Includes-all)
 
 -- each receipt of a closed record is stable, or held by each up member that depends on it
 pub IsAlwaysHeld-closed : {S N : Type 0} → (f : ℕ) (r : Knowledge S N) → IsDownEmpty f r → IsClosed f r → IsAlwaysHeld f r
@@ -210,13 +200,7 @@ IsAlwaysHeld-closed f r empty closed d there = elim (cases_Bool (is_recorded_amo
     | inl many ↦ inl (all r d, many, all_holder r d ((Decides-recorded f r empty d).0 is))
     | inr few ↦ inr (λ m up depends. elim (closed.events (in_table m) depends.0 up depends.2 d depends.1) [
       | inl named ↦ (up, named)
-      | inr stable ↦ absurd (omega (
-        arith,
-        few,
-        stable.1,
-        len-within (set.len stable.0) stable.0 (all r d) refl (λ q h.
-            (Includes-all r d q).1 (elim (stable.2 q h) [ inl holds ↦ inl holds.1 | inr down ↦ inr down.0 ])),
-      ))
+      | inr stable ↦ grind (arith, nat_tests, len-within, Includes-all)
     ])
   ]
 ]
@@ -245,8 +229,7 @@ once_gathered table (e ∷ other) once = once_gathered (added table e) other (el
 -- what a member has learned and its own new determinant
 pub once_noted : (p : ℕ) (table carried : List Entry) (own : Determinant) → IsOnce table → is_held table own ≡ false → is_held carried own ≡ false
     → IsOnce (noted p (learned p table carried) own)
-once_noted p table carried own once new others =
-    once_push (learned p table carried) _ (once_gathered table (map (held_by p) carried) once) (not_held_learned p table carried own new others)
+once_noted p table carried own once new others = search (arith, once_push, once_gathered, not_held_learned)
 
 once_gathered_all : (table : List Entry) (ts : List (List Entry)) → IsOnce table → IsOnce (gathered_all table ts)
 once_gathered_all table [] once = once
@@ -271,8 +254,7 @@ module _ {S N : Type 0} where
   Contains-saved outside s checkpoints zero m below among = absurd (omega arith)
   Contains-saved outside s checkpoints (suc n) m below among =
       elim (cases_eq m n) [
-        | inl same ↦ rw same (Contains-append_right (saved_tables outside s checkpoints n) _ (get_or checkpoints n (blank outside)).table
-            (let here = rw same at among in rw here (Contains-here (get_or checkpoints n (blank outside)).table [])))
+        | inl same ↦ grind (arith, nat_tests, Contains-append_right, Contains-here)
         | inr other ↦ Contains-append_left (saved_tables outside s checkpoints n) _ (get_or checkpoints m (blank outside)).table (Contains-saved outside s checkpoints n m (omega arith) among)
       ]
 

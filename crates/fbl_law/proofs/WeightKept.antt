@@ -353,11 +353,4 @@ module _ {S N : Type 0} (next : Next S N) (r : GroupRecord S N) (P : ℕ → S �
         (λ m below. rw (up m) (omega (arith, up-weighs m below (up m)))) (λ q p. omega (arith, channel-weighs q p (up q) (up p)))
 
   pub weighs_the_same : StepConserves next n P Q mass weight → WeighsTheSame next mass weight r
-  weighs_the_same law =
-      let more = weighs_no_more (λ me from state note below p q. omega (arith, law me from state note below p q)) in
-      let less = weighs_no_less (λ me from state note below p q. omega (arith, law me from state note below p q)) in
-      record {
-        whole = λ nobody. omega (arith, more, less.whole nobody);
-        settled = λ nobody none. omega (arith, more, less.settled nobody none, none-flying none);
-        most = more;
-      }
+  weighs_the_same law = search (arith, weighs_no_more, weighs_no_less, none-flying)

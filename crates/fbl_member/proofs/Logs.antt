@@ -10,8 +10,7 @@ module _ {N : Type 0} where
 
   numbered-on : (before next : ℕ) (xs ys : List (ℕ × N)) → next ≡ before + length xs → numbered before (xs ++ ys) ≡ numbered before xs ++ numbered next ys
   numbered-on before next [] ys is = (let same : next ≡ before = omega (arith, is) in rw same refl)
-  numbered-on before next (x ∷ xs) ys is =
-      ap (λ l. record { ssn = before + 1; to = x.0; note = x.1 } ∷ l) (numbered-on (before + 1) next xs ys (omega (arith, is)))
+  numbered-on before next (x ∷ xs) ys is = grind (arith, nat_tests, numbered-on (before + 1) next xs ys (omega (arith, is)))
 
   pub numbered-append : (before : ℕ) (xs ys : List (ℕ × N)) → numbered before (xs ++ ys) ≡ numbered before xs ++ numbered (before + length xs) ys
   numbered-append before xs ys = numbered-on before (before + length xs) xs ys refl
@@ -45,12 +44,7 @@ module _ {N : Type 0} where
 module _ {S N : Type 0} where
   -- what a member's record keeps of its log is numbered
   pub kept : (m : MemberRecord S N) (log : List (ℕ × N)) → length m.last ≡ 16 → m.received ≤ 8192 → length log ≤ 8192 → m.log ≡ numbered 0 log → IsKept m
-  kept m log lasts receipts sends is = record {
-    lasts = lasts;
-    few_receipts = receipts;
-    few_sends = omega (arith, ap length is, length-numbered 0 log, sends);
-    numbers = is ∙ numbered-again log ∙ ap (λ l. numbered 0 (map without_number l)) (sym is);
-  }
+  kept m log lasts receipts sends is = grind (arith, nat_tests, length-numbered, numbered-again)
 
 module _ {N : Type 0} where
   -- what one receipt leaves within bounds

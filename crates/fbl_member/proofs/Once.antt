@@ -1,14 +1,12 @@
 -- What a table passes on has no determinant twice.
-use Rattle.fbl_member.proofs.Common.{◌≡◌, true, false, cond, List, [], ◌∷◌, map, Determinant, Entry, piggybacked, AllByRecursion, same_determinant, is_open, IsOnce}
+use Rattle.fbl_member.proofs.Common.{◌≡◌, true, false, cond, List, [], ◌∷◌, map, Determinant, Entry, piggybacked, AllByRecursion, same_determinant, is_open, IsOnce, arith, nat_tests}
 use Rattle.std.specs.List.{IsDistinct}
 
 module _ (f : _) where
   -- what holds of each determinant of a table holds of each that it passes on
   kept_all : (P : Determinant → Type 0) (table : List Entry) → AllByRecursion P (map (λ (e : Entry). e.det) table) → AllByRecursion P (map (λ (e : Entry). e.det) (piggybacked f table))
   kept_all P [] all = all
-  kept_all P (e ∷ table) all =
-      let rest = kept_all P table all.1 in
-      elim (is_open f e) as (λ b. AllByRecursion P (map (λ (x : Entry). x.det) (cond b (e ∷ piggybacked f table) (piggybacked f table)))) [ true ↦ (all.0, rest) | false ↦ rest ]
+  kept_all P (e ∷ table) all = grind (arith, nat_tests, kept_all P table all.1)
 
   pub IsOnce-piggybacked : (table : List Entry) → IsOnce table → IsOnce (piggybacked f table)
   unfolding IsDistinct

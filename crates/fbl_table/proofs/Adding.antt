@@ -3,8 +3,8 @@ use Rattle.fbl_table.proofs.Common.{not, count_by, ◌≡◌, ℕ, zero, suc, �
 use Rattle.fbl_table.proofs.Common.{drop, length, slice_get, lookup, values_of, keys_of, nat_cmp, nat_cmp_total, false≢true, fold, AllByRecursion, append-nil, length-map, take_all}
 use Rattle.fbl_table.proofs.Common.{sum_by-cons, set_value_at, Determinant, same_determinant, insert_entry, Entry, is_held, lacks, has_at, entry_of, gathered, learned, held_by, marked}
 use Rattle.fbl_table.proofs.Common.{is_some, position, drop_next, false_from_ne_true, or_from, or_left, or_right, or_comm, position_or_len, Decides-same_determinant, drop_all, take_more}
-use Rattle.fbl_table.proofs.Common.{map-append, fold_push, slice_get_past, slice_get_within, get_or_from_slice_get, same_from_contains, absent_from_lookup, insert_entry-absent}
-use Rattle.fbl_table.proofs.Common.{or_len-absent, IsOnce, append_assoc, list_any-append, added}
+use Rattle.fbl_table.proofs.Common.{fold_push, slice_get_past, slice_get_within, get_or_from_slice_get, same_from_contains, absent_from_lookup, insert_entry-absent}
+use Rattle.fbl_table.proofs.Common.{or_len-absent, IsOnce, append_assoc, list_any-append, added, nat_tests, map-append}
 use Rattle.std.specs.FinSet as set
 use Rattle.std.specs.List.{IsDistinct}
 use Rattle.fbl_table.specs.Tables.{added}
@@ -20,9 +20,7 @@ held_lookup (e ∷ es) d = (let rest = held_lookup es d in grind (arith, rest))
 -- a determinant that was not there goes last
 pub inserted : (es : Pairs) (entry : Entry) → lookup (same_determinant entry.det) es ≡ None
     → map entry_of (insert_entry same_determinant es entry.det entry.known) ≡ map entry_of es ++ entry ∷ []
-inserted es entry none =
-    let absent = absent_from_lookup (same_determinant entry.det) es none in
-    rw (insert_entry-absent same_determinant entry.det entry.known es absent) (map-append entry_of es ((entry.det, entry.known) ∷ []))
+inserted es entry none = grind (arith, absent_from_lookup, insert_entry-absent, map-append)
 
 -- a determinant that has an entry at a place is held
 pub held_at : (table : List Entry) (d : Determinant) (i : ℕ) → has_at table d i ≡ true → is_held table d ≡ true
@@ -39,9 +37,7 @@ has_found [] d i is = cc
 has_found (e ∷ es) d i is = (let rest = has_found es d in grind (arith, rest))
 
 pub apart-turned : (a b : Determinant) → same_determinant a b ≡ false → same_determinant b a ≡ false
-apart-turned a b apart =
-    let same = Decides-same_determinant a b in
-    false_from_ne_true (same_determinant b a) (λ is. false≢true (sym apart ∙ same.1 (sym ((Decides-same_determinant b a).0 is))))
+apart-turned a b apart = grind (arith, nat_tests, Decides-same_determinant, false_from_ne_true)
 
 apart-at : (es : Pairs) (k d : Determinant) (i : ℕ) → AllByRecursion (λ y. same_determinant k y ≡ false) (keys_of es) → has_at (map entry_of es) d i ≡ true
     → same_determinant d k ≡ false
@@ -104,10 +100,7 @@ pub added-nothing : (es : Pairs) (entry : Entry) (v : set.FinSet nat_cmp) → lo
     → map entry_of es ≡ added (map entry_of es) entry
 unfolding added
 added-nothing [] entry v is none = cc
-added-nothing (e ∷ es) entry v is none =
-    let rest = added-nothing es entry v in
-    let same = nothing-more v entry.known none in
-    grind (arith, rest, same, none)
+added-nothing (e ∷ es) entry v is none = grind (arith, nat_tests, nothing-more, added-nothing es entry v)
 
 pub take-next : {X : Type 0} (xs : List X) (i : ℕ) (x : X) → slice_get xs i ≡ Some x → take (i + 1) xs ≡ take i xs ++ x ∷ []
 take-next xs i x is = take_more xs i x (slice_get_within xs i x is) ∙ ap (λ y. take i xs ++ y ∷ []) (get_or_from_slice_get xs i x x is)
@@ -154,10 +147,7 @@ length_added_held table entry held = omega (arith, length-added table entry, ap 
 held-added : (table : List Entry) (entry : Entry) (d : Determinant) → is_held (added table entry) d ≡ (is_held table d || same_determinant d entry.det)
 unfolding added
 held-added [] entry d = or_comm (same_determinant d entry.det) false
-held-added (e ∷ table) entry d =
-    let rest = held-added table entry d in
-    let same = (Decides-same_determinant entry.det e.det).0 in
-    grind (arith, rest, same)
+held-added (e ∷ table) entry d = grind (arith, nat_tests, Decides-same_determinant, held-added table entry d)
 
 -- of one entry more at most one more is lacking, and none where it is held
 pub lacks-next : (table other : List Entry) (i : ℕ) (e : Entry) → slice_get other i ≡ Some e
@@ -166,10 +156,7 @@ lacks-next table other i e at = rw (drop_next other i e at) (sum_by-cons (λ x. 
 
 pub held-gathered : (table other : List Entry) (d : Determinant) → is_held (gathered table other) d ≡ (is_held table d || is_held other d)
 held-gathered table [] d = sym (or_comm (is_held table d) false)
-held-gathered table (e ∷ other) d =
-    let rest = held-gathered (added table e) other d in
-    let first = held-added table e d in
-    grind (arith, rest, first)
+held-gathered table (e ∷ other) d = grind (arith, nat_tests, held-added, held-gathered (added table e) other d)
 
 -- while an entry is still lacking, it is one of those that lacked at first
 pub lacks-gathering : (table other : List Entry) (i : ℕ) (e : Entry) → slice_get other i ≡ Some e
@@ -182,8 +169,7 @@ held-carried me (e ∷ carried) d = ap (λ b. same_determinant d e.det || b) (he
 
 -- what was neither held nor carried is not held after what was carried is learned
 pub not_held_learned : (me : ℕ) (table carried : List Entry) (d : Determinant) → is_held table d ≡ false → is_held carried d ≡ false → is_held (learned me table carried) d ≡ false
-not_held_learned me table carried d none others =
-    held-gathered table (map (held_by me) carried) d ∙ or_from _ _ none (held-carried me carried d ∙ others)
+not_held_learned me table carried d none others = grind (arith, nat_tests, held-gathered, or_from, held-carried)
 
 -- a determinant that differs from those of the entries is not held by them
 missing : (rest : List Entry) (d : Determinant) → AllByRecursion (λ x. same_determinant d x ≡ false) (map (λ (e : Entry). e.det) rest) → is_held rest d ≡ false

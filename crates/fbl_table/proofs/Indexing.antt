@@ -1,6 +1,6 @@
 -- The places of the open entries, how many entries are passed on, and what steps keep.
 use Rattle.fbl_table.proofs.Common.{zero, values_of, set_value_at, ◌≡◌, ℕ, suc, ◌+◌, ◌<◌, Bool, true, false, cond, ◌||◌, List, [], ◌∷◌, ◌++◌, map, Option, Some, refl, sym, ap, ◌∙◌, arith}
-use Rattle.fbl_table.proofs.Common.{length, slice_get, get_or, inl, inr, false≢true, nat_tests, filter, filter_map, slice_get_cases, nat_cmp, nat_cmp_total, Entry, is_open, piggybacked}
+use Rattle.fbl_table.proofs.Common.{length, slice_get, get_or, false≢true, nat_tests, filter, filter_map, slice_get_cases, nat_cmp, nat_cmp_total, Entry, is_open, piggybacked}
 use Rattle.fbl_table.proofs.Common.{entry_of, open_at, IsIndex, nat_le, All-get_or, AllZip-push, filter_passes, length_all_zip, AllZip, option_map_or, len-within, KeepsIndex}
 use Rattle.fbl_table.proofs.Common.{IndexedEntries, drop, drop_next, ◌≤◌, count_by, length-map, filter-append, sum_by-cons, Determinant, length-left, gathered, learned, held_by}
 use Rattle.fbl_table.proofs.Common.{length-append, length-filter, length-filter_map, noted}
@@ -51,9 +51,7 @@ places_of_open-push : (f k n : ℕ) (table : List Entry) (e : Entry) → k + len
     → places_of_open f k (table ++ e ∷ []) ≡ places_of_open f k table ++ cond (is_open f e) (n ∷ []) []
 unfolding places_of_open
 places_of_open-push f k n [] e last = (let same : k ≡ n = omega (arith, last) in rw same refl)
-places_of_open-push f k n (x ∷ table) e last =
-    let rest = places_of_open-push f (suc k) n table e (omega (arith, last)) in
-    grind (arith, rest)
+places_of_open-push f k n (x ∷ table) e last = grind (arith, nat_tests, places_of_open-push f (suc k) n table e (omega (arith, last)))
 
 pub index-none : (f : ℕ) → IsIndex f [] [] false
 unfolding places_of_open
@@ -62,12 +60,7 @@ index-none f = record { before = []; grown = tt; places = refl; exact = λ fresh
 -- a new last entry
 pub index-push : (f : ℕ) (table : List Entry) (e : Entry) (open_places : List ℕ) (stale : Bool) → IsIndex f table open_places stale
     → IsIndex f (table ++ e ∷ []) (open_places ++ cond (is_open f e) (length table ∷ []) []) stale
-index-push f table e open_places stale index = record {
-  before = index.before ++ e ∷ [];
-  grown = AllZip-push _ table index.before e e index.grown (λ is. is);
-  places = rw (places_of_open-push f 0 (length table) index.before e (omega (arith, length_all_zip _ table index.before index.grown)), index.places);
-  exact = λ fresh. (rw (places_of_open-push f 0 (length table) table e (omega arith), index.exact fresh));
-}
+index-push f table e open_places stale index = grind (arith, nat_tests, AllZip-push, places_of_open-push, length_all_zip)
 
 -- which of the places are open
 open_now : (f : ℕ) (table : List Entry) (open_places : List ℕ) (stale : Bool) → IsIndex f table open_places stale
@@ -78,9 +71,7 @@ open_now f table open_places stale index =
 -- places of entries that are stable now are let go
 pub index-pruned : (f : ℕ) (table : List Entry) (open_places : List ℕ) (stale : Bool) → IsIndex f table open_places stale
     → IsIndex f table (filter (open_at f table) open_places) false
-index-pruned f table open_places stale index =
-    let is = open_now f table open_places stale index in
-    record { before = table; grown = same-grown f table; places = is; exact = λ fresh. is }
+index-pruned f table open_places stale index = grind (arith, nat_tests, open_now, same-grown)
 
 -- what is open is open of less that is known too
 pub open_less : (f : ℕ) (a b : set.FinSet nat_cmp) → nat_le (set.len (set.union a b)) f ≡ true → nat_le (set.len a) f ≡ true
@@ -108,12 +99,7 @@ open-piggybacked f table open_places index = rw (index.exact refl) (entries_at_o
 pub open-within : (f : ℕ) (table : List Entry) (open_places : List ℕ) → IsIndex f table open_places false → (i : ℕ) → i < length open_places → get_or open_places i 0 < length table
 open-within f table open_places index i below =
     let all : filter (open_at f table) open_places ≡ open_places = open_now f table open_places false index ∙ sym (index.exact refl) in
-    let place = get_or open_places i 0 in
-    let opens : open_at f table place ≡ true = All-get_or (λ p. open_at f table p ≡ true) open_places i 0 below (rw all at (filter_passes (open_at f table) open_places)) in
-    elim (slice_get_cases table place).1 [
-      | inl here ↦ here.1
-      | inr past ↦ absurd (false≢true (rw past.1 at opens))
-    ]
+    grind (arith, nat_tests, open_now, All-get_or, filter_passes, slice_get_cases, false≢true)
 
 -- where it is as open as before, the same places are open
 places-put : (f k : ℕ) (es : Pairs) (i : ℕ) (v w : set.FinSet nat_cmp) → slice_get (values_of es) i ≡ Some v → nat_le (set.len w) f ≡ nat_le (set.len v) f
@@ -126,22 +112,14 @@ places-put f k (e ∷ es) (suc i) v w is same = (let rest = places-put f (suc k)
 pub index-put : (f : ℕ) (es : Pairs) (i : ℕ) (v w : set.FinSet nat_cmp) → slice_get (values_of es) i ≡ Some v → (nat_le (set.len w) f ≡ true → nat_le (set.len v) f ≡ true)
     → (stale : Bool) → (stale ≡ false → nat_le (set.len v) f ≡ true → nat_le (set.len w) f ≡ true)
     → (open_places : List ℕ) → IsIndex f (map entry_of es) open_places stale → IsIndex f (map entry_of (set_value_at es i w)) open_places stale
-index-put f es i v w is less stale stays open_places index = record {
-  before = index.before;
-  grown = grown-put f es index.before i v w is less index.grown;
-  places = index.places;
-  exact = λ fresh. index.exact fresh ∙ sym (places-put f 0 es i v w is (let stays' = stays fresh in grind (arith, less, stays')));
-}
+index-put f es i v w is less stale stays open_places index = grind (arith, nat_tests, grown-put, places-put)
 
 pub keeps_more : {A : Type 0} {a b c : IndexedEntries A} → KeepsIndex a b → KeepsIndex b c → KeepsIndex a c
 keeps_more first second = record { index = λ is. second.index (first.index is); room = omega (arith, first.room, second.room) }
 
 -- an index may be taken for stale
 pub keeps_stale : {A : Type 0} (old : IndexedEntries A) (stale : Bool) → (stale ≡ false → old.stale ≡ false) → KeepsIndex old (record old { stale = stale })
-keeps_stale old stale was = record {
-  index = λ is. record { before = is.before; grown = is.grown; places = is.places; exact = λ fresh. is.exact (was fresh) };
-  room = omega arith;
-}
+keeps_stale old stale was = grind (arith, nat_tests)
 
 -- an entry more makes at most one more to pass on
 open-added : (f : ℕ) (table : List Entry) (entry : Entry) → count_by (is_open f) (added table entry) ≤ count_by (is_open f) table + 1
@@ -169,8 +147,7 @@ open_receipt f me table carried d =
 -- no more are passed on than there are open places
 pub few-passed : (limit : ℕ) (table : List Entry) (ps : List ℕ) (stale : Bool) → IsIndex limit table ps stale → length (piggybacked limit table) ≤ length ps
 few-passed limit table ps stale index =
-    let picked = filter (open_at limit table) ps in
-    omega (arith, sym (ap length (index-piggybacked limit table ps stale index)), length-filter_map (slice_get table) picked, length-left (open_at limit table) ps)
+    grind (arith, index-piggybacked limit table ps stale index, length-filter_map, length-left (open_at limit table) ps)
 
 -- what is passed on from a place on
 pub passed-next : (f : ℕ) (table : List Entry) (i : ℕ) (e : Entry) → slice_get table i ≡ Some e

@@ -1,4 +1,4 @@
-use Rattle.fbl_audit.proofs.Common.{arith, ap, sym, ◌∙◌, ◌≡◌, max, eqb-true, nat_tests}
+use Rattle.fbl_audit.proofs.Common.{arith, ap, ◌∙◌, ◌≡◌, max, eqb-true, nat_tests}
 use Rattle.std.specs.FinSet as set
 use Rattle.fbl_audit.proofs.Checks.{least_of, said_right, none_unsafe}
 use Rattle.fbl_audit.proofs.checking.said_of.Goals as goal
@@ -17,13 +17,7 @@ size_is : (c : After-count-2) → c.count-2.result ≡ set.len (least_of c.args.
 size_is c = c.count-2.ensures ∙ ap set.len (strike_is_least c)
 
 pub returns-then-count-most : goal.returns-then-count-most
-returns-then-count-most c =
-    let found = (goal.at.returns-then-count-most c).After-count-2 in
-    none_unsafe c.args.dump.now c.requires.rules c.args.determinant c.args.dependents c.requires.dependents (λ is. elim c.then-count-most.branch [
-      | goal.then-count-most-via-then-count-most w ↦ omega (arith, w.if-count-most.true, most_is found, size_is found, is.0)
-      | goal.then-count-most-via-else-count-most+then-is_empty w ↦
-          omega (arith, is.1, ap set.len (orphans_are_left found), eqb-true (set.len found.without-orphans.result) 0 (sym w.is_empty.ensures ∙ w.if-is_empty.true))
-    ])
+returns-then-count-most c = grind (arith, nat_tests, none_unsafe, most_is, size_is, orphans_are_left, eqb-true)
 
 pub returns : goal.returns
 returns c =

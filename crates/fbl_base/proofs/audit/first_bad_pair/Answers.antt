@@ -1,5 +1,4 @@
-use Rattle.fbl_base.proofs.Common.{ℕ, List, arith, refl, slice_get_read, Determinant, Mark}
-use Rattle.fbl_base.specs.Audit.{FitsPair}
+use Rattle.fbl_base.proofs.Common.{ℕ, List, arith, refl, slice_get_read, Determinant, Mark, FitsPair}
 use Rattle.fbl_base.specs.Breaches.{BreaksPair}
 use Rattle.fbl_base.specs.declared.fault.PairRule.{PairRule}
 use Rattle.fbl_base.specs.declared.fault.PairRule.TheVariants as rules

@@ -1,14 +1,10 @@
-use Rattle.fbl_audit.proofs.Common.{◌≡◌, ◌∙◌, ap, arith, length, refl, slice_get_read, At, At-below, Origin, Parts, IsFirstDependent, IsSendOf, WellFormed, has_last, member_of}
+use Rattle.fbl_audit.proofs.Common.{ap, arith, slice_get_read, At, At-below, Origin, IsFirstDependent, IsSendOf, WellFormed, has_last, member_of}
 use Rattle.fbl_audit.proofs.Searching.{before_own, before_send}
 use Rattle.fbl_audit.proofs.paths.Paths.before.Goals as goal
 use Rattle.fbl_audit.proofs.paths.Paths.before.Goals.{After-end}
 
 at_place : (c : After-end) → At c.args.self.now.events c.args.place c.index-events-place.result
-at_place c =
-    let t = c.args.self.now.events in
-    let last = has_last c.requires in
-    let events : c.events.result.now ≡ t = c.events.ensures.events ∙ ap (λ (d : Parts). d.events) c.dump.ensures.dump ∙ ap (λ (o : Origin). o.events) c.self.view_is in
-    slice_get_read t (length t) c.args.place _ refl (At-below t c.args.place last.0 last.1) (rw events at c.index-events-place.is)
+at_place c = grind (arith, has_last, slice_get_read, At-below)
 
 pub returns-in-Some : goal.returns-in-Some
 returns-in-Some c =

@@ -1,4 +1,4 @@
-use Rattle.fbl_base.proofs.Common.{sym, ◌∙◌, arith, cases_eq, inl, inr, false≢true, slice_get-get_or, slice_get_within, get_or_from_slice_get}
+use Rattle.fbl_base.proofs.Common.{arith, cases_eq, false≢true, slice_get-get_or, slice_get_within, get_or_from_slice_get}
 use Rattle.fbl_base.proofs.AuditLaws.{cause_before, first_right}
 use Rattle.fbl_base.proofs.audit.Audit.first_cause.Goals as goal
 
@@ -10,12 +10,7 @@ returns-then-depends g c =
     first_right c.args.self.now places c.causes-cause-items.ensures c.args.member k _ at (rw c.self.view_is at (c.depends.ensures.0 c.if-depends.true)) c.loop-cause.invariant
 
 pub loop-cause-preserved : goal.loop-cause-preserved
-loop-cause-preserved g c k i below at depends = elim (cases_eq k c.loop-cause.cause-index) [
-  | inl here ↦
-      let is = get_or_from_slice_get c.causes-cause-items.result.now k i 0 at in
-      false≢true (sym c.if-depends.false ∙ c.depends.ensures.1 (rw (c.self.view_is, ← here, is) depends))
-  | inr ne ↦ c.loop-cause.invariant k i (omega (arith, below, ne)) at depends
-]
+loop-cause-preserved g c k i below at depends = grind (arith, cases_eq, get_or_from_slice_get, false≢true)
 
 pub returns : goal.returns
 returns g c i cause =

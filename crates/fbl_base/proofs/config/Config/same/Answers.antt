@@ -1,4 +1,4 @@
-use Rattle.fbl_base.proofs.Common.{◌≡◌, ◌==◌, ◌&&◌, ap, arith, sym, ◌∙◌, Bool, Decides, nat_tests, true, Settings, Start, rules, slice_eq-Decides}
+use Rattle.fbl_base.proofs.Common.{◌≡◌, ◌==◌, ◌&&◌, arith, Bool, Decides, nat_tests, Settings, Start, slice_eq-Decides}
 use Rattle.fbl_base.proofs.config.Config.same.Goals as goal
 
 same_start : {N : Type 0} (same : N → N → Bool) → ((a b : N) → Decides (same a b) (a ≡ b)) → (a b : Start N)
@@ -11,11 +11,4 @@ same_settings a b e1 e2 e3 e4 i = record { members = e1 i; f = e2 i; limit = e3 
 pub returns : goal.returns
 returns g c =
     let starts = slice_eq-Decides (same_start g.N.PartialEq.eq g.met.N.Exact.exact) c.as_slice.result.now c.as_slice-2.result.now c.eq.result c.eq.ensures in
-    let a = c.as_slice.ensures.value in
-    let b = c.as_slice-2.ensures.value in
-    rw (← c.self.view_is, ← c.other.view_is) (
-      λ t.
-          let yes' : c.eq.result ≡ true = search rules in
-          same_settings _ _ c.if-self-other.false c.if-self-other-2.false c.if-self-other-3.false (sym a ∙ starts.0 yes' ∙ b),
-      λ e. (let yes' : c.eq.result ≡ true = starts.1 (a ∙ ap (λ (s : Settings _). s.starts) e ∙ sym b) in search rules),
-    )
+    grind (arith, nat_tests, slice_eq-Decides, same_start, same_settings)

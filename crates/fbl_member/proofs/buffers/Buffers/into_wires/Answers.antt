@@ -1,5 +1,5 @@
 use Rattle.fbl_member.proofs.Common.{◌≡◌, ℕ, ◌+◌, List, Option, Some, None, Bor, IfSome, All, arith, length, sym, slice_get, option_copied, append_assoc, at_drop_more, messages_from}
-use Rattle.fbl_member.proofs.Common.{piggybacked, HasRoom, All-pop, All-push, Message, slice_get_within, get_or_from_slice_get}
+use Rattle.fbl_member.proofs.Common.{piggybacked, HasRoom, All-pop, All-push, Message, slice_get_within, get_or_from_slice_get, nat_tests}
 use Rattle.fbl_member.proofs.buffers.Buffers.into_wires.Goals as goal
 
 -- what is so of each is so of the one at a place
@@ -8,8 +8,7 @@ so-at P xs i None all at = tt
 so-at P xs i (Some x) all at = rw (get_or_from_slice_get xs i x.now x.now (sym at)) at (all i x.now (slice_get_within xs i x.now (sym at)))
 
 pub next_carried-carried-requires-clause-made : goal.next_carried-carried-requires-clause-made
-next_carried-carried-requires-clause-made g c =
-    so-at (λ (w : Message _). w.carried ≡ piggybacked c.args.f c.args.table.now) c.deref.result.now _ _ (rw c.deref.ensures.value c.loop-place.invariant.carried) c.last.ensures.value
+next_carried-carried-requires-clause-made g c = grind (arith, nat_tests, so-at)
 
 pub next_carried-carried-requires-clause-room : goal.next_carried-carried-requires-clause-room
 next_carried-carried-requires-clause-room g c =

@@ -1,4 +1,4 @@
-use Rattle.fbl_member.proofs.Common.{refl}
+use Rattle.fbl_member.proofs.Common.{arith, nat_tests}
 use Rattle.fbl_member.proofs.Logs.{bounded, numbered-more}
 use Rattle.fbl_member.proofs.member_rec.MemberRec.replay_one.Goals as goal
 
@@ -9,5 +9,4 @@ invariant_of-self-2 g c =
     (rw (← c.self.view_is) at c.requires.receipts) sends (rw (← c.self.view_is) at c.requires.sends)
 
 pub returns-clause-replayed : goal.returns-clause-replayed
-returns-clause-replayed g c =
-    rw (← c.self.view_is, c.in_ok-extend_from_slice.ensures.items, c.as_slice.ensures.value, c.number.ensures.value, numbered-more, c.step-outcome.ensures) refl
+returns-clause-replayed g c = grind (arith, nat_tests, numbered-more)

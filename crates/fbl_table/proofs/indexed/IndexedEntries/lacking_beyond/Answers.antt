@@ -1,4 +1,4 @@
-use Rattle.fbl_table.proofs.Common.{arith, listed, add-zero, drop_all}
+use Rattle.fbl_table.proofs.Common.{arith, listed, add-zero, drop_all, nat_tests}
 use Rattle.fbl_table.proofs.Adding.{held_at, lacks-next}
 use Rattle.fbl_table.proofs.indexed.IndexedEntries.lacking_beyond.Goals as goal
 
@@ -8,6 +8,4 @@ loop-place-preserved g c =
     record { enough = grind (arith, next, held_at, c.loop-place.invariant.enough); few = grind (arith, c.loop-place.invariant.few) }
 
 pub returns : goal.returns
-returns g c =
-    let none = drop_all c.loop-place.place (listed c.args.other.now) (omega (arith, c.loop-place-test.false, c.len-place-end.ensures.len)) in
-    (rw (none, add-zero) at c.loop-place.invariant.enough)
+returns g c = grind (arith, nat_tests, drop_all, add-zero)

@@ -1,4 +1,4 @@
-use Rattle.fbl_table.proofs.Common.{◌∙◌, arith, refl, true, sym, false≢true, length-map, listed, entry_of, length-set_value_at, ap, length}
+use Rattle.fbl_table.proofs.Common.{◌∙◌, arith, refl, true, sym, false≢true, listed, length-set_value_at, ap, length, length-map, nat_tests}
 use Rattle.fbl_table.proofs.Adding.{mark-all, mark-at}
 use Rattle.fbl_table.proofs.Indexing.{keeps_more, keeps_stale}
 use Rattle.fbl_table.proofs.indexed.IndexedEntries.mark_all.Goals as goal
@@ -18,7 +18,4 @@ loop-place-preserved g c =
     }
 
 pub returns-clause-entries : goal.returns-clause-entries
-returns-clause-entries g c =
-    let shown = length-map c.args.self.now.entries.entries entry_of in
-    c.prune.ensures.entries ∙ c.loop-place.invariant.so_far
-    ∙ mark-all c.loop-place.place c.args.members (listed c.args.self.now) (omega (arith, c.loop-place-test.false, c.len-place-end.ensures.len, shown))
+returns-clause-entries g c = grind (arith, nat_tests, length-map, mark-all)

@@ -1,4 +1,4 @@
-use Rattle.fbl_table.proofs.Common.{[], ◌∷◌, ap, arith, length, ◌∙◌, listed, piggybacked, append_assoc, length-append}
+use Rattle.fbl_table.proofs.Common.{[], ◌∷◌, ap, arith, length, listed, piggybacked, length-append, append_assoc, nat_tests}
 use Rattle.fbl_table.proofs.Indexing.{passed-next}
 use Rattle.fbl_table.proofs.indexed.IndexedEntries.push_all.Goals as goal
 
@@ -9,7 +9,4 @@ push_if_open-requires g c =
     omega (arith, all, length-append c.loop-place.carried.items, length-append (piggybacked c.args.f (c.entry_at.result ∷ [])), length-append c.args.carried.now.items)
 
 pub loop-place-preserved : goal.loop-place-preserved
-loop-place-preserved g c = record {
-  so_far = rw (c.push_if_open.ensures.items, append_assoc, ← passed-next c.args.f (listed c.args.self.now) c.loop-place.place c.entry_at.result c.entry_at.ensures) c.loop-place.invariant.so_far;
-  room = c.push_if_open.ensures.room ∙ c.loop-place.invariant.room;
-}
+loop-place-preserved g c = grind (arith, nat_tests, append_assoc, passed-next)

@@ -1,4 +1,4 @@
-use Rattle.fbl_table.proofs.Common.{◌≡◌, ◌∙◌, sym, eqb-true, or_parts}
+use Rattle.fbl_table.proofs.Common.{◌≡◌, ◌∙◌, sym, eqb-true, or_parts, arith, nat_tests}
 use Rattle.std.specs.FinSet as set
 use Rattle.fbl_table.proofs.Adding.{added_there, added-nothing, found_at}
 use Rattle.fbl_table.proofs.Indexing.{keeps_more, keeps_stale}
@@ -18,6 +18,4 @@ returns-clause-entries g c =
     rw (c.put.ensures.entries, c.union-united.ensures, found.0) (added_there es (record { det = c.args.det.now; known = c.args.known }) _ found.1)
 
 pub returns-clause-kept : goal.returns-clause-kept
-returns-clause-kept g c =
-    let old = c.args.self.now in
-    keeps_more (keeps_stale old _ (λ fresh. (or_parts old.stale c.closes.result fresh).0)) c.put.ensures.kept
+returns-clause-kept g c = grind (arith, nat_tests, keeps_more, keeps_stale, or_parts)
