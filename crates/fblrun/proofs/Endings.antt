@@ -2,9 +2,9 @@
 use Rattle.fbl_base.specs.declared.trace.Note.{Note}
 use Rattle.fbl_order.specs.declared.parts.PartsFault.TheVariants as parts
 use Rattle.fblrun.specs.declared.merging.MergeFault.TheVariants as faults
-use Rattle.fblrun.proofs.Common.{DumpTask, EndsMerged, MergeFault, RawDump, RefusesMerge, inl, inr, keeps_itself, merge_status, refl, ◌⊎◌}
+use Rattle.fblrun.proofs.Common.{DumpTask, EndsLogs, EndsMerged, MergeFault, RawDump, RawLog, RefusesLogMerge, RefusesMerge, inl, inr, keeps_itself, merge_status, refl, ◌⊎◌}
 use Rattle.fblrun.proofs.Common.{◌≡◌, ℕ, ◌||◌, ◌&&◌, not, Bool, false, List, [], ◌∷◌, Option, Some, None, Result, Ok, Err, IfSome, arith, true, IsErrAnd}
-use Rattle.fblrun.proofs.Common.{OutputFault, Parts, PutsOut, puts_as, IsChecked, IsDumpAnswer, Verdict, Safe, Unsafe, Check, ap, ◌∙◌, list_any, or_false}
+use Rattle.fblrun.proofs.Common.{OutputFault, PutsOut, puts_as, ap, ◌∙◌, list_any, or_false}
 use Rattle.fblrun.proofs.Common.{RunFault, Answer, is_refusal, Command, GroupRecord, Observes, PlaysScript, Ran, Transcript, Outline, PlaysWell, next_of}
 use Rattle.fblrun.proofs.Common.{status_after, text, unobserved}
 
@@ -20,19 +20,17 @@ pub cut : {A : Type 0} (IsRight : A → List ℕ → Type 0) (IsSeen : Bool → 
 cut IsRight IsSeen f right before after e (Ok x) same puts = absurd same
 cut IsRight IsSeen f right before after e (Err x) same puts = rw same (puts_as IsRight IsSeen f right before after e puts)
 
-abbrev pub is_safe : Verdict → Bool
-is_safe Safe = true
-is_safe Unsafe = false
-
-pub check_answer : (dump : Parts) (verdict : Verdict) (told : List ℕ) → IsChecked dump verdict told → IsDumpAnswer Check dump (is_safe verdict) told
-check_answer dump Safe told is = is
-check_answer dump Unsafe told is = is
-
 -- what several dumps are together is refused, whether for the fault or for want of memory to tell it
 pub merge_refused : {A : Type 0} (task : DumpTask) (dumps : List (RawDump A)) (known : Option (List ℕ)) (fault : MergeFault) (status : ℕ) → RefusesMerge dumps fault
     → (status ≡ merge_status fault) ⊎ (status ≡ 4) → EndsMerged task dumps known known status
 merge_refused task dumps known fault status refuses (inl is) = inr (fault, refuses, keeps_itself known, is)
 merge_refused task dumps known fault status refuses (inr is) = inr (faults.Parts parts.Memory, inl refl, keeps_itself known, is)
+
+-- so are several logs
+pub log_merge_refused : (task : DumpTask) (logs : List RawLog) (names : List (List ℕ)) (known : Option (List ℕ)) (fault : MergeFault) (status : ℕ) → RefusesLogMerge logs fault
+    → (status ≡ merge_status fault) ⊎ (status ≡ 4) → EndsLogs task logs names known known status
+log_merge_refused task logs names known fault status refuses (inl is) = inr (fault, refuses, keeps_itself known, is)
+log_merge_refused task logs names known fault status refuses (inr is) = inr (faults.Parts parts.Memory, inl refl, keeps_itself known, is)
 
 -- an observer that keeps whether some command was refused
 module _ {O : Type 0} (has : O → Bool) where

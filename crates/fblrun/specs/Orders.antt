@@ -18,6 +18,7 @@ use Rattle.fbl_texts.specs.declared.recorded.Checked.TheVariants as parts
 use Rattle.fbl_texts.specs.declared.recorded.Recorded.{Recorded}
 use Rattle.fbl_texts.specs.declared.recorded.Recorded.TheVariants as raws
 use Rattle.fbl_texts.specs.declared.sources.Sources.{Sources}
+use Rattle.fbl_texts.specs.declared.auditing.Verdict.{Verdict}
 use Rattle.fbl_texts.specs.declared.auditing.Verdict.TheVariants.{Safe, Unsafe}
 use Rattle.fbl_history.specs.declared.column.Column.{Column}
 use Rattle.fbl_input.specs.Faults.{OverInput, PutsOut, run_result}
@@ -58,19 +59,22 @@ abbrev pub DoesScript : ScriptTask → Outline → Option (List ℕ) → Option 
 DoesScript (Play workers strict) s before after = PlaysWell workers strict s before after
 DoesScript (Show workers) s before after = PutsOut (λ is_well drawn. IsShown workers s drawn × (is_well ≡ true)) before after
 
+-- whether all is well after a check
+abbrev pub is_well_after : Verdict → Bool
+is_well_after Safe = true
+is_well_after Unsafe = false
+
 -- what is told of the dump, and whether all is well
 abbrev pub IsDumpAnswer : DumpTask → Parts → Bool → List ℕ → Type 0
 IsDumpAnswer Audit dump is_well told = IsAuditText dump told × (is_well ≡ true)
-IsDumpAnswer Check dump true told = IsChecked dump Safe told
-IsDumpAnswer Check dump false told = IsChecked dump Unsafe told
+IsDumpAnswer Check dump is_well told = (verdict : Verdict) × IsChecked dump verdict told × (is_well ≡ is_well_after verdict)
 IsDumpAnswer Draw dump is_well told = IsPicture dump told × (is_well ≡ true)
 IsDumpAnswer Write dump is_well told = (told ≡ dump_line dump) × (is_well ≡ true)
 
 -- what is told of the log, whose entries stand in these files, and whether all is well
 abbrev pub IsLogAnswer : DumpTask → LogParts → Sources → Bool → List ℕ → Type 0
 IsLogAnswer Audit log sources is_well told = IsLogAuditText log told × (is_well ≡ true)
-IsLogAnswer Check log sources true told = IsLogChecked log sources Safe told
-IsLogAnswer Check log sources false told = IsLogChecked log sources Unsafe told
+IsLogAnswer Check log sources is_well told = (verdict : Verdict) × IsLogChecked log sources verdict told × (is_well ≡ is_well_after verdict)
 IsLogAnswer Draw log sources is_well told = IsLogPicture log told × (is_well ≡ true)
 IsLogAnswer Write log sources is_well told = (told ≡ log_line log) × (is_well ≡ true)
 

@@ -4,7 +4,7 @@ ghost use Rattle.std.specs.Prelude.{◌≡◌, ◌<◌, ◌≤◌, IfSome, lengt
 ghost use Rattle.fbl_input.specs.Faults.{PutsOut};
 ghost use Rattle.fbl_texts.specs.Scripts.{outline};
 ghost use Rattle.fbl_texts.specs.DumpLines.{dump_line};
-ghost use Rattle.fblrun.specs.Orders.{DoesScript, EndsLogs, EndsMerged, EndsRecorded, EndsWith, IsAnswer, IsDumpAnswer, IsLogAnswer, IsShown, Obeys};
+ghost use Rattle.fblrun.specs.Orders.{DoesScript, EndsLogs, EndsMerged, EndsRecorded, EndsWith, IsAnswer, IsDumpAnswer, IsLogAnswer, IsShown, Obeys, is_well_after};
 
 use crate::merging::{MergedLog, Parts, merged, merged_log};
 use crate::streams::Named;
@@ -87,7 +87,9 @@ fn write_line<T: Eprint, W: Write>(rt: &T, line: &str, writer: &mut W) -> Result
 }
 
 /// Whether all is well after a check.
-fn is_safe(verdict: Verdict) -> bool {
+fn is_safe(verdict: Verdict) -> bool
+    ensures { result ≡ is_well_after verdict }
+{
     match verdict {
         Verdict::Safe => true,
         Verdict::Unsafe => false,

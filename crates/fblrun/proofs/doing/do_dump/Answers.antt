@@ -1,5 +1,5 @@
-use Rattle.fblrun.proofs.Common.{◌≡◌, true, refl, Audit, Check, Draw, Write, IsAuditText, IsChecked, IsDumpAnswer, IsPicture, dump_line}
-use Rattle.fblrun.proofs.Endings.{check_answer, cut, is_safe}
+use Rattle.fblrun.proofs.Common.{◌≡◌, ◌∙◌, true, refl, Audit, Check, Draw, Write, IsAuditText, IsChecked, IsDumpAnswer, IsPicture, is_well_after}
+use Rattle.fblrun.proofs.Endings.{cut}
 use Rattle.fblrun.proofs.doing.do_dump.Goals as goal
 
 pub returns-in_err-write_audit-in-Audit : goal.returns-in_err-write_audit-in-Audit
@@ -12,8 +12,13 @@ returns-in_ok-write_audit-in-Audit g c = (let puts = c.in_ok-write_audit-in-Audi
 
 pub returns-in_err-write_check-in-Check : goal.returns-in_err-write_check-in-Check
 returns-in_err-write_check-in-Check g c =
-    rw c.in-Check.is (cut (IsChecked c.args.dump.now) (IsDumpAnswer Check c.args.dump.now) is_safe (check_answer c.args.dump.now) _ _ _ _
+    rw c.in-Check.is (cut (IsChecked c.args.dump.now) (IsDumpAnswer Check c.args.dump.now) is_well_after (λ verdict _ is. (verdict, is, refl)) _ _ _ _
     c.from_residual-in_err-write_check-in-Check.ensures.1 c.in_err-write_check-in-Check.ensures)
+
+pub returns-in_ok-write_check-in-Check : goal.returns-in_ok-write_check-in-Check
+returns-in_ok-write_check-in-Check g c =
+    let puts = c.in_ok-write_check-in-Check.ensures in
+    rw c.in-Check.is (puts.0, (_, puts.1, c.is_safe.ensures), puts.2)
 
 pub returns-in_err-write_picture-in-Draw : goal.returns-in_err-write_picture-in-Draw
 returns-in_err-write_picture-in-Draw g c =
@@ -23,10 +28,13 @@ returns-in_err-write_picture-in-Draw g c =
 pub returns-in_ok-write_picture-in-Draw : goal.returns-in_ok-write_picture-in-Draw
 returns-in_ok-write_picture-in-Draw g c = (let puts = c.in_ok-write_picture-in-Draw.ensures in rw c.in-Draw.is (puts.0, (puts.1, refl), puts.2))
 
-pub returns-in_err-write_dump-in-Write : goal.returns-in_err-write_dump-in-Write
-returns-in_err-write_dump-in-Write g c =
-    rw c.in-Write.is (cut (λ _ told. told ≡ dump_line c.args.dump.now) (IsDumpAnswer Write c.args.dump.now) (λ _. true) (λ _ _ is. (is, refl)) _ _ _ _
-    c.from_residual-in_err-write_dump-in-Write.ensures.1 c.in_err-write_dump-in-Write.ensures)
+pub returns-in_err-write_line-in-Write : goal.returns-in_err-write_line-in-Write
+returns-in_err-write_line-in-Write g c =
+    rw c.in-Write.is (cut (λ _ told. told ≡ c.as_str.result.now) (IsDumpAnswer Write c.args.dump.now) (λ _. true)
+    (λ _ _ is. (is ∙ c.as_str.ensures.value ∙ c.in_ok-line.ensures.line, refl)) _ _ _ _
+    c.from_residual-in_err-write_line-in-Write.ensures.1 c.in_err-write_line-in-Write.ensures)
 
-pub returns-in_ok-write_dump-in-Write : goal.returns-in_ok-write_dump-in-Write
-returns-in_ok-write_dump-in-Write g c = (let puts = c.in_ok-write_dump-in-Write.ensures in rw c.in-Write.is (puts.0, (puts.1, refl), puts.2))
+pub returns-in_ok-write_line-in-Write : goal.returns-in_ok-write_line-in-Write
+returns-in_ok-write_line-in-Write g c =
+    let puts = c.in_ok-write_line-in-Write.ensures in
+    rw c.in-Write.is (puts.0, (puts.1 ∙ c.as_str.ensures.value ∙ c.in_ok-line.ensures.line, refl), puts.2)

@@ -1,9 +1,9 @@
-use Rattle.fblrun.proofs.Common.{inl}
+use Rattle.fblrun.proofs.Common.{inl, parts}
 use Rattle.fblrun.proofs.Endings.{merge_refused}
 use Rattle.fblrun.proofs.doing.end_merged.Goals as goal
 
 pub returns-in-Ok : goal.returns-in-Ok
-returns-in-Ok g c = inl (c.in-Ok.dump, c.in-Ok.ensures.merged, c.end_dump.ensures)
+returns-in-Ok g c = inl (c.in-Ok.dump, c.in-Ok.ensures.merged, (c.one_file.result, c.one_file.ensures, c.end_task.ensures))
 
 pub returns-in-Err : goal.returns-in-Err
 returns-in-Err g c =

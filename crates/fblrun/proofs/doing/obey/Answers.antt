@@ -11,26 +11,27 @@ returns-in-Err g c =
     rw c.in-Script.is (ended known (λ input. OverInput (IsScriptOf input) (IsScriptFault input) (λ s. DoesScript task s had had) had had) (Err fault) _ c.refuse_input.ensures
     (over_fault IsScriptOf IsScriptFault (λ s. DoesScript task s had had) had known fault (Err fault) (IfSome_then known c.in-Err.ensures.fault (λ _ no. no.1.first)) refl))
 
-pub returns-in-Ok-read_dump : goal.returns-in-Ok-read_dump
-returns-in-Ok-read_dump g c =
+pub returns-in-Ok-read_checked : goal.returns-in-Ok-read_checked
+returns-in-Ok-read_checked g c =
     let known = g.R.Read.remaining c.args.reader.now.stream in
-    rw c.in-Dump.is (IfSome_then known c.in-Ok-read_dump.ensures.dump (λ input is. inl (c.in-Ok-read_dump.dump, is, c.end_dump.ensures)))
+    rw c.in-Dump.is (IfSome_then known c.in-Ok-read_checked.ensures.checked
+    (λ input is. inl (c.in-Ok-read_checked.found, is, (c.one_file.result, c.one_file.ensures, c.end_task.ensures))))
 
-pub returns-in-Err-read_dump : goal.returns-in-Err-read_dump
-returns-in-Err-read_dump g c =
+pub returns-in-Err-read_checked : goal.returns-in-Err-read_checked
+returns-in-Err-read_checked g c =
     let had = g.W.Write.contents c.args.writer.now.stream in
     let known = g.R.Read.remaining c.args.reader.now.stream in
-    rw c.in-Dump.is (IfSome_then known c.in-Err-read_dump.ensures.fault
-    (λ input no. inr (run_fault c.in-Err-read_dump.fault.misfit, no.1.first, keeps_itself had, c.refuse_input-in-Err-read_dump.ensures)))
+    rw c.in-Dump.is (IfSome_then known c.in-Err-read_checked.ensures.fault
+    (λ input no. inr (c.in-Err-read_checked.fault, no, keeps_itself had, c.refuse_input-in-Err-read_checked.ensures)))
 
-pub returns-in-Ok-read_raw_dump : goal.returns-in-Ok-read_raw_dump
-returns-in-Ok-read_raw_dump g c =
+pub returns-in-Ok-read_recorded : goal.returns-in-Ok-read_recorded
+returns-in-Ok-read_recorded g c =
     let known = g.R.Read.remaining c.args.reader.now.stream in
-    rw c.in-Merged.is (IfSome_then known c.in-Ok-read_raw_dump.ensures.parts (λ input is. inl (c.in-Ok-read_raw_dump.found.raw, is.0, c.end_merged.ensures)))
+    rw c.in-Merged.is (IfSome_then known c.in-Ok-read_recorded.ensures.parts (λ input is. inl (c.in-Ok-read_recorded.found.recorded, is.0, c.end_recorded.ensures)))
 
-pub returns-in-Err-read_raw_dump : goal.returns-in-Err-read_raw_dump
-returns-in-Err-read_raw_dump g c =
+pub returns-in-Err-read_recorded : goal.returns-in-Err-read_recorded
+returns-in-Err-read_recorded g c =
     let had = g.W.Write.contents c.args.writer.now.stream in
     let known = g.R.Read.remaining c.args.reader.now.stream in
-    rw c.in-Merged.is (IfSome_then known c.in-Err-read_raw_dump.ensures.fault
-    (λ input no. inr (run_fault c.in-Err-read_raw_dump.fault.misfit, no.1.first, keeps_itself had, c.refuse_input-in-Err-read_raw_dump.ensures)))
+    rw c.in-Merged.is (IfSome_then known c.in-Err-read_recorded.ensures.fault
+    (λ input no. inr (c.in-Err-read_recorded.fault, no, keeps_itself had, c.refuse_input-in-Err-read_recorded.ensures)))

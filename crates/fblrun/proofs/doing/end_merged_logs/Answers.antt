@@ -1,0 +1,7 @@
+use Rattle.fblrun.proofs.Common.{inl}
+use Rattle.fblrun.proofs.Endings.{log_merge_refused}
+use Rattle.fblrun.proofs.doing.end_merged_logs.Goals as goal
+
+pub returns-in-Err : goal.returns-in-Err
+returns-in-Err g c =
+    log_merge_refused c.args.task c.args.logs.now _ (g.W.Write.contents c.args.writer.now.stream) c.in-Err.fault c.refuse_merge.result c.in-Err.ensures.refused c.refuse_merge.ensures
