@@ -2,7 +2,7 @@
 use Rattle.fbl_base.proofs.Common.{ℕ, ◌≡◌, Bool, false, not, ◌&&◌, ◌||◌, refl, sym, Decides, arith, nat_cmp, nat_tests, Any-from_list_any, list_any-from_Any, Determinant}
 use Rattle.fbl_base.proofs.Common.{and_parts, Parts, is_held_outside, same_determinant, or-false, not-true, IsHeldOutside, ◌+◌, ◌<◌, true, List, [], ◌∷◌, length, take}
 use Rattle.fbl_base.proofs.Common.{get_or, Some, ap, ◌∙◌, list_any, cons_option, take_more, list_any-append, filter_map-append, get_or_from_slice_get, Mark}
-use Rattle.fbl_base.proofs.Common.{determinant_of, Has, WellFormed, is_received, slice_get-get_or, Send, Receipt, receipt_of, receipts}
+use Rattle.fbl_base.proofs.Common.{determinant_of, Has, WellFormed, is_received, slice_get-get_or, receipt_of, receipts}
 use Rattle.fbl_base.proofs.Common.{◌==◌, ◌↔◌, inl, inr, map, false≢true, cases_eq, eqb-true, nat_cmp_total, filter, Contains, Members, holders_of, ◌≤◌, ◌⊎◌, ◌++◌, slice_get}
 use Rattle.fbl_base.proofs.Common.{slice_get_within, cases_order, None, Option, MatchOption, contains-insert_same, contains-insert_other, IsDumpOrphan, IsLostAt, IsReached}
 use Rattle.fbl_base.proofs.Common.{IsCause, IsFirstCause, AreCauses, DependsOnPlace, same_place}
@@ -25,11 +25,7 @@ Decides-same_determinant a b = grind (arith, nat_tests)
 
 pub Decides-is_held_outside : (dump : Parts) (d : Determinant) → Decides (is_held_outside dump d) (IsHeldOutside dump d)
 Decides-is_held_outside dump d = (
-  λ h.
-      let a = Any-from_list_any (holds_it dump.strike d) dump.held h in
-      let b = and_parts (not (set.contains dump.strike a.1.0)) (same_determinant a.1.1 d) a.4 in
-      let is : a.1.1 ≡ d = (Decides-same_determinant a.1.1 d).0 b.1 in
-      (a.1.0, (a.0, a.2, (let pair : (a.1.0, d) ≡ a.1 = (λ i. (a.1.0, sym is i)) in rw pair a.3)), not-true (set.contains dump.strike a.1.0) b.0),
+  grind (arith, nat_tests, Any-from_list_any, and_parts, Decides-same_determinant, not-true),
   λ r. list_any-from_Any (holds_it dump.strike d) dump.held (r.1.0, (r.0, d), r.1.1, r.1.2, rw (r.2, (Decides-same_determinant d d).1 refl)),
 )
 
@@ -40,8 +36,7 @@ pub more : (events : List Mark) (i : ℕ) (e : Mark) (d : Determinant) → i < l
 more events i e d below is = rw (take_more events i e below, ← is, filter_map-append determinant_of (take i events) (e ∷ []), list_any-append (λ x. same_determinant x d))
 
 pub is_receipt : (e : Mark) (d : Determinant) → determinant_of e ≡ Some d → e ≡ receipt_of d
-is_receipt (Send q s p) d h = cc
-is_receipt (Receipt p r q s) d h = (let e : ◌≡◌ {A = Determinant} (record { from = q; ssn = s; to = p; rsn = r }) d = cc in rw (← e))
+is_receipt e d h = grind (arith, nat_tests)
 
 -- the test means that the events have the receipt
 pub Decides-is_received : (events : List Mark) (d : Determinant) → Decides (is_received events d) (Has events (receipt_of d))
@@ -73,12 +68,7 @@ contains-holders dump d holder = set.contains-from_list_nat _ holder ∙ any_hol
 -- the holders are exactly those that the pairs name
 pub holds : (dump : Parts) (d : Determinant) (holder : ℕ) → (set.contains (holders_of dump d) holder ≡ true) ↔ Contains dump.held (holder, d)
 holds dump d holder = (
-  λ h.
-      let a = Any-from_list_any (is_pair d holder) dump.held (sym (contains-holders dump d holder) ∙ h) in
-      let b = and_parts (same_determinant a.1.1 d) (a.1.0 == holder) a.4 in
-      let det : a.1.1 ≡ d = (Decides-same_determinant a.1.1 d).0 b.0 in
-      let member : a.1.0 ≡ holder = eqb-true a.1.0 holder b.1 in
-      (a.0, a.2, (let pair : (holder, d) ≡ a.1 = (λ i. (sym member i, sym det i)) in rw pair a.3)),
+  grind (arith, nat_tests, Any-from_list_any, contains-holders, and_parts, Decides-same_determinant, eqb-true),
   λ r. contains-holders dump d holder ∙ list_any-from_Any (is_pair d holder) dump.held (r.0, (holder, d), r.1, r.2, (rw ((Decides-same_determinant d d).1 refl, eqb-self holder))),
 )
 
@@ -124,24 +114,12 @@ causes_same dump p places causes known = record {
 -- the next event is a lost receipt
 pub causes_more : (dump : Parts) (p : ℕ) (places : List ℕ) → AreCausesBy dump p places → IsLostAt dump p → AreCausesBy dump (p + 1) (places ++ p ∷ [])
 causes_more dump p places causes lost = record {
-  lost = λ k i at. elim (At-push places p k i at) [
-    | inl old ↦ (let c = causes.lost k i old in (omega (arith, c.0), c.1))
-    | inr new ↦ (omega (arith, new.1), rw (← new.1) lost)
-  ];
+  lost = grind (arith, nat_tests, At-push);
   all = λ i within is. elim (cases_eq i p) [
     | inl here ↦ (length places, p, At-seam places p [], rw here (same_place lost.1))
     | inr ne ↦ (let r = causes.all i (omega (arith, within, ne)) is in (r.0, r.1, At-front places (p ∷ []) r.0 r.1 r.2, r.3))
   ];
-  rise = λ k l i j below at_i at_j. elim (At-push places p l j at_j) [
-    | inl old_j ↦ elim (At-push places p k i at_i) [
-      | inl old_i ↦ causes.rise k l i j below old_i old_j
-      | inr new_i ↦ (let within = slice_get_within places l j old_j in absurd (omega (arith, new_i.0, below, within)))
-    ]
-    | inr new_j ↦ elim (At-push places p k i at_i) [
-      | inl old_i ↦ (let c = causes.lost k i old_i in omega (arith, c.0, new_j.1))
-      | inr new_i ↦ absurd (omega (arith, new_i.0, new_j.0, below))
-    ]
-  ];
+  rise = grind (arith, nat_tests, At-push, slice_get_within);
 }
 
 -- at the end these are the causes
@@ -175,10 +153,7 @@ first_right dump places causes q k c at depends none = (
       let b = cause_before dump places causes q i cause in
       elim (cases_order b.0 k) [
         | inl here ↦ (let same : Some b.1 ≡ Some c = sym b.2 ∙ (rw here at) in let is : b.1 ≡ c = cc in omega (arith, is, b.4, before))
-        | inr other ↦ elim other [
-          | inl less ↦ none b.0 b.1 less b.2 b.3
-          | inr more ↦ (let rises = causes.rise k b.0 c b.1 more at b.2 in omega (arith, rises, b.4, before))
-        ]
+        | inr other ↦ grind (arith, nat_tests, more)
       ],
 )
 

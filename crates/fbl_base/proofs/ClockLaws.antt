@@ -16,8 +16,7 @@ same_event t i j a b here at_i at_j = (let e : Some a ≡ Some b = sym at_i ∙ 
 
 -- a path is empty, or ends with a step
 pub last_step : {t : List Mark} {i p : ℕ} → PlacePrecedes t i p → (p ≡ i) ⊎ ((j : ℕ) × PlacePrecedes t i j × PlaceLeads t j p)
-last_step (same_place h) = inl refl
-last_step (place_step {j} q l) = inr (j, q, l)
+last_step path = grind (arith, nat_tests)
 
 -- nothing precedes what stands before it
 pub not_later : {t : List Mark} {i j : ℕ} → PlacePrecedes t i j → i ≤ j
@@ -122,12 +121,7 @@ module _ (n : ℕ) (t : List Mark) (obeys : WellFormed n t) (p : ℕ) (e : Mark)
           ],
           λ pr. counted.1 (elim (last_step pr) [
             | inl here ↦ absurd (ne (ap member_of (same_event t i p a e (sym here) at_i at)))
-            | inr l ↦
-                let same : l.2.1 ≡ e = same_event t p p l.2.1 e refl l.2.4 at in
-                elim l.2.5 [
-                  | inl own' ↦ inl (l.0, l.2.0, l.2.2, l.1, l.2.3, own' ∙ ap member_of same)
-                  | inr sends ↦ inr (l.0, l.2.0, l.2.2, l.1, l.2.3, ap send_of (sym same) ∙ sends)
-                ]
+            | inr l ↦ grind (arith, nat_tests, same_event)
           ]),
         )
 
@@ -163,8 +157,7 @@ Decides-same_message a b = grind (arith, nat_tests)
 module _ (n : ℕ) (t : List Mark) (obeys : WellFormed n t) (p : ℕ) where
   -- the event sends no such message
   sent_kept : (m : MessageName) (o : Option ℕ) → ((to : ℕ) → ¬ (At t p (Send m.from m.ssn to))) → IsSentBy t p m o → IsSentBy t (p + 1) m o
-  sent_kept m (Some s) unsent found = found
-  sent_kept m None unsent none = grind (arith, nat_tests)
+  sent_kept m o unsent found = grind (arith, nat_tests)
 
   pub sent_receipt : (to rsn from ssn : ℕ) → At t p (Receipt to rsn from ssn) → (m : MessageName) (o : Option ℕ) → IsSentBy t p m o → IsSentBy t (p + 1) m o
   sent_receipt to rsn from ssn at m o = sent_kept m o (λ to' at'. (let same = same_event t p p _ _ refl at at' in cc))

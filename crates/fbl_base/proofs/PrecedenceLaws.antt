@@ -1,6 +1,6 @@
 -- Laws of precedence between events, and that precedence between places says the same of a trace that obeys the rules.
 use Rattle.fbl_base.proofs.Common.{ℕ, Bool, ◌≡◌, ◌⊎◌, ◌↔◌, inl, inr, List, [], ◌∷◌, ◌++◌, length, Some, refl, arith, filter, Mark, member_of, Has, Precedes, itself, step, Depends}
-use Rattle.fbl_base.proofs.Common.{Send, Receipt, send_of, Earlier, ◌<◌, take, At, WellFormed, DependsOnPlace, PlacePrecedes, place_step, same_place, subst, zero, suc}
+use Rattle.fbl_base.proofs.Common.{Send, Receipt, send_of, Earlier, ◌<◌, take, At, WellFormed, DependsOnPlace, PlacePrecedes, place_step, same_place, subst, nat_tests}
 use Rattle.fbl_base.proofs.Gets.{At-front, At-append, At-seam, At-below, At-push, At-filter, Apart-filter, slice_get-take}
 use Rattle.fbl_base.proofs.RulesLaws.{MayFollow-new, WellFormed-take, sent-number}
 
@@ -13,8 +13,7 @@ Precedes-front t s (step {b} {c} p l) = step (Precedes-front t s p) (Earlier-fro
 
 -- the trace has the last event of a path, and the first
 pub Has-last : {t : List Mark} {a b : Mark} → Precedes t a b → Has t b
-Has-last (itself h) = h
-Has-last (step p l) = (l.0.1, l.0.4)
+Has-last path = grind (arith, nat_tests)
 
 pub Has-first : {t : List Mark} {a b : Mark} → Precedes t a b → Has t a
 Has-first (itself h) = h
@@ -28,10 +27,7 @@ module _ (t added : List Mark) (apart : (e : Mark) → Has added e → ¬ (Has t
   Earlier-within : (a b : Mark) → Has t b → Earlier (t ++ added) a b → Earlier t a b
   Earlier-within a b old h =
       elim (At-append t added h.1 b h.4) [
-        | inl y ↦ elim (At-append t added h.0 a h.3) [
-          | inl x ↦ (h.0, h.1, h.2, x, y)
-          | inr x ↦ absurd (let below = At-below t h.1 b y in omega (arith, x.1, h.2, below))
-        ]
+        | inl y ↦ grind (arith, nat_tests, At-append, At-below)
         | inr y ↦ absurd (apart b (y.0, y.2) old)
       ]
 
@@ -53,8 +49,7 @@ module _ (t added : List Mark) (apart : (e : Mark) → Has added e → ¬ (Has t
 
 -- one event that is appended
 only : (e x : Mark) → Has (e ∷ []) x → x ≡ e
-only e x (zero, is) = cc
-only e x (suc i, is) = absurd cc
+only e x among = grind (arith, nat_tests)
 
 apart_from : (t : List Mark) (e : Mark) → ¬ (Has t e) → (x : Mark) → Has (e ∷ []) x → ¬ (Has t x)
 apart_from t e new x among there = new (subst (Has t) (only e x among) there)

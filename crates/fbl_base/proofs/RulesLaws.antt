@@ -1,5 +1,5 @@
 -- Laws of the rules of events: traces that obey them, what is in flight after one more event, and what is counted.
-use Rattle.fbl_base.proofs.Common.{cases_Bool, slice_index, slice_set, ◌+◌, ◌==◌, ◌&&◌, not, None, ℕ, zero, suc, Bool, true, cond, ◌≡◌, ◌<◌, inl, inr, List, [], ◌∷◌, ◌++◌, length}
+use Rattle.fbl_base.proofs.Common.{cases_Bool, slice_index, slice_set, ◌+◌, ◌==◌, ◌&&◌, not, ℕ, zero, suc, Bool, true, cond, ◌≡◌, ◌<◌, inl, inr, List, [], ◌∷◌, ◌++◌, length}
 use Rattle.fbl_base.proofs.Common.{take, drop, Some, refl, ap, ◌∙◌, arith, count_by, slice_get, nat_tests, filter_map, list_any, take-append-le, take_all, sum_by-cons, Mark, At}
 use Rattle.fbl_base.proofs.Common.{Has, is_send_of, sends_of, receipts_of, sent_on, taken_on, in_flight, MayFollow, WellFormed, append-nil, take-append-drop, sum_by_push, Send}
 use Rattle.fbl_base.proofs.Common.{Receipt, is_receipt_of, false, ◌≢◌, ◌≤◌, filter, list_any-append, filter-append, filter_map-append, first_in_flight, FitsEvent, next_number}
@@ -71,8 +71,7 @@ MayFollow-new n t (Receipt to rsn from ssn) obeys may has = omega (arith, may.3,
 
 -- which event tells of a message
 pub is_sent : (q p s : ℕ) (e : Mark) → sent_on q p e ≡ Some s → e ≡ Send q s p
-is_sent q p s (Send q' s' p') h = grind (arith, nat_tests, h)
-is_sent q p s (Receipt p' r' q' s') h = cc
+is_sent q p s e h = grind (arith, nat_tests)
 
 -- a message in flight was sent
 pub in_flight-sent : (t : List Mark) (q s p i : ℕ) → slice_get (in_flight t q p) i ≡ Some s → Has t (Send q s p)
@@ -90,8 +89,7 @@ sent-before n t obeys i to rsn from ssn here =
     (sent.0, omega (arith, below, length-take i t), (rw take-append-drop at (At-front (take i t) (drop i t) sent.0 (Send from ssn to) sent.1)))
 
 is_taken : (q p s : ℕ) (e : Mark) → taken_on q p e ≡ Some s → (r : ℕ) × (e ≡ Receipt p r q s)
-is_taken q p s (Send q' s' p') h = cc
-is_taken q p s (Receipt p' r' q' s') h = (r', grind (arith, nat_tests, h))
+is_taken q p s e h = grind (arith, nat_tests)
 
 -- a message that was taken was sent
 pub taken-sent : (n : ℕ) (t : List Mark) → WellFormed n t → (q p s j : ℕ) → slice_get (filter_map (taken_on q p) t) j ≡ Some s → s ≤ sends_of t q
@@ -164,12 +162,10 @@ in_flight-receipt n t obeys p r q s a b may =
 
 -- what an event that may follow has
 pub room : (n : ℕ) (t : List Mark) (e : Mark) → MayFollow n t e → length t < 8192
-room n t (Send q s p) m = m.4
-room n t (Receipt p r q s) m = m.4
+room n t e m = grind (arith, nat_tests)
 
 pub fits : (n : ℕ) (t : List Mark) (e : Mark) → MayFollow n t e → FitsEvent n e (next_number t e) (first_in_flight t e)
-fits n t (Send q s p) m = ((m.0, m.1, m.2), m.3, tt)
-fits n t (Receipt p r q s) m = ((m.0, m.1, m.2), m.3, m.5)
+fits n t e m = grind (arith, nat_tests)
 
 pub may : (n : ℕ) (t : List Mark) → length t < 8192 → (e : Mark) → FitsEvent n e (next_number t e) (first_in_flight t e) → MayFollow n t e
 may n t few (Send q s p) h = (h.0.0, h.0.1, h.0.2, h.1, few)
@@ -177,8 +173,7 @@ may n t few (Receipt p r q s) h = (h.0.0, h.0.1, h.0.2, h.1, few, h.2)
 
 -- the number that an event has to have by the counts is that by the trace
 next_counted : {A : Type 0} (t : List Mark) (c : Counts A) → Counted t c → (e : Mark) → source_of e < 16 → destination_of e < 16 → next_by c e ≡ next_number t e
-next_counted t c counted (Send q s p) below_q below_p = ap (λ x. x + 1) (counted.sends q below_q)
-next_counted t c counted (Receipt p r q s) below_q below_p = ap (λ x. x + 1) (counted.receipts p below_p)
+next_counted t c counted e below_q below_p = grind (arith, nat_tests)
 
 -- and so is the verdict on it
 module _ {A : Type 0} (n : ℕ) (t : List Mark) (c : Counts A) (counted : Counted t c) (few : length t < 8192) (e : Mark) (ends : (source_of e < 16) × (destination_of e < 16))
@@ -190,8 +185,7 @@ module _ {A : Type 0} (n : ℕ) (t : List Mark) (c : Counts A) (counted : Counte
   message = is_first ∙ ap (λ xs. slice_get xs 0) (counted.channels (source_of e) (destination_of e) ends.0 ends.1)
 
   pub judged : (found : Option EventRule) → MatchOption found (FitsEvent n e next first) (λ _. ¬ (FitsEvent n e next first)) → MatchOption found (MayFollow n t e) (λ _. ¬ (MayFollow n t e))
-  judged None h = may n t few e (rw (number, message) at h)
-  judged (Some rule) h = λ m. h (rw (number, message) (fits n t e m))
+  judged found h = grind (arith, nat_tests, may, number, message, fits)
 
 module _ {A : Type 0} (n : ℕ) (t : List Mark) (c d : Counts A) (most : n ≤ 16) (obeys : WellFormed n t) (counted : Counted t c) where
   -- the count of a member that has one event more of the kind, and the others' as they were

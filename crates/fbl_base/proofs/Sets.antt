@@ -47,10 +47,7 @@ some_outside s t more =
       | inl none ↦
           let empty = λ (q : ℕ). sym (has q) ∙ ap (λ x. set.contains x q) (set.empty_of_len left none) ∙ set.contains-empty nat_cmp q in
           absurd (omega (arith, more, len-within (set.len s) s t refl (λ q h. (let lacks = empty q in grind (arith, lacks, h)))))
-      | inr some ↦
-          let k = some_member left (omega (arith, some)) in
-          let here = has k.0 in
-          (k.0, grind (arith, here, k.1), grind (arith, here, k.1))
+      | inr some ↦ grind (arith, nat_tests, some_member)
     ]
 
 same-bits : (b : ℕ) (s : set.FinSet nat_cmp) → b < 65536 → ((q : ℕ) → eqb (bit_at b q) 1 ≡ set.contains s q) → set_of b ≡ s

@@ -55,7 +55,7 @@ in_flight-beyond n t q p obeys =
 
 -- so each number in flight is beyond the last one taken
 pub in_flight-later : (n : ℕ) (t : List Mark) (q p j x : ℕ) → WellFormed n t → slice_get (in_flight t q p) j ≡ Some x → last_taken t q p < x
-in_flight-later n t q p j x obeys here = grind (arith, nat_tests, filter-passes, in_flight-beyond n t q p obeys, nat_tests)
+in_flight-later n t q p j x obeys here = grind (arith, nat_tests, filter-passes, in_flight-beyond n t q p obeys)
 
 module _ {S N : Type 0} {n f : ℕ} {r : Knowledge S N} (sound : IsSoundKnowledge n f r) where
   -- a message at a place of a channel has the number that the trace has there, goes from the one to the other, and both are up

@@ -37,7 +37,7 @@ receipts_at-number n t p j d obeys = WellFormed-keeps n (λ u. (j : ℕ) → sli
 pub receipts_at-Has : (n : ℕ) (t : List Mark) (p j : ℕ) (d : Determinant) → WellFormed n t → slice_get (receipts_at t p) j ≡ Some d
     → Has t (receipt_of d) × (d.to ≡ p) × (d.rsn ≡ j + 1)
 receipts_at-Has n t p j d obeys here =
-    grind (arith, nat_tests, At-filter, At-filter_map, filter-passes, is_receipt, nat_tests, receipts_at-number n t p j d obeys here)
+    grind (arith, nat_tests, At-filter, At-filter_map, filter-passes, is_receipt, receipts_at-number n t p j d obeys here)
 
 -- and each receipt of the member is among them, at its number
 pub Has-receipts_at : (n : ℕ) (t : List Mark) (p j : ℕ) (d : Determinant) → WellFormed n t → Has t (receipt_of d) → d.to ≡ p → d.rsn ≡ j + 1
