@@ -10,7 +10,7 @@ use Rattle.fbl_pictures.specs.declared.shape.Shape.TheVariants as shapes
 use Rattle.fbl_pictures.specs.declared.shape.Status.{Status}
 use Rattle.fbl_pictures.proofs.Common.{ℕ, zero, suc, ◌+◌, ◌*◌, ◌/◌, ◌<◌, ◌≡◌, ◌≢◌, ◌||◌, Bool, true, false, cond, List, [], ◌∷◌, ◌++◌, map, Option, Some, None, slice_get, filter, filter-append}
 use Rattle.std.proofs.lemmas.List.FromFn.{length-range_with_len}
-use Rattle.fbl_pictures.proofs.Common.{append-nil, slice_get-get_or, flat_map, range_with_len, refl, ap, ◌∙◌, arith, length, take, option_to_list, Column, Shape, MessageName, arrow_between, arrow_from, back_before}
+use Rattle.fbl_pictures.proofs.Common.{append-nil, slice_get-get_or, flat_map, range_with_len, refl, ap, ◌∙◌, arith, length, option_to_list, Column, Shape, MessageName, arrow_between, arrow_from, back_before}
 use Rattle.fbl_pictures.proofs.Common.{column_marks, drawn, has_standing_receipt, history_member_shapes, is_down_after, label_and_names, last_sent, line_kind_of, line_parts, members_shapes}
 use Rattle.fbl_pictures.proofs.Common.{nat_lt, arrow_kind, receipt_arrow, recovery_mark, sent_before, strike_mark, stub, stub_where}
 
