@@ -1,6 +1,6 @@
-//! Logs of a run, put together in an order.
+//! Logs of a run of a group of three, put together in an order.
 
-use crate::moments::{event, first, hold, second, store};
+use crate::moments::{event, first, hold, raw_log, second, store};
 use crate::orders::{receipt, send};
 use fbl_base::{Breach, DumpRefusal, Member, MemberSet};
 use fbl_fixtures::first_receipt;
@@ -12,14 +12,9 @@ use fbl_order::{
 use std::alloc::Global;
 use std::test::Fail;
 
-/// A log of a group of three, where one may be lost and nobody is struck.
+/// A log with these entries.
 fn log(alloc: Global, entries: &[Entry]) -> Result<RawLog, Fail> {
-    Ok(RawLog {
-        members: 3,
-        f: 1,
-        entries: entries.to_vec(alloc)?,
-        strike: MemberSet::empty(),
-    })
+    raw_log(alloc, &[entries], MemberSet::empty())
 }
 
 /// The log that member 0 writes of a message that goes once round: it alone holds that the message came back.
