@@ -1,6 +1,6 @@
-//! Logs of a run, put together in an order.
+//! Logs of a run of a group of three, put together in an order.
 
-use crate::moments::{event, first, hold, second, store};
+use crate::moments::{event, first, hold, raw_log, second, store};
 use crate::orders::{receipt, send};
 use fbl_base::{Breach, DumpRefusal, Member, MemberSet};
 use fbl_fixtures::first_receipt;
@@ -12,14 +12,9 @@ use fbl_order::{
 use std::alloc::Global;
 use std::test::Fail;
 
-/// A log of a group of three, where one may be lost and nobody is struck.
+/// A log with these entries.
 fn log(alloc: Global, entries: &[Entry]) -> Result<RawLog, Fail> {
-    Ok(RawLog {
-        members: 3,
-        f: 1,
-        entries: entries.to_vec(alloc)?,
-        strike: MemberSet::empty(),
-    })
+    raw_log(alloc, &[entries], MemberSet::empty())
 }
 
 /// The log that member 0 writes of a message that goes once round: it alone holds that the message came back.
@@ -96,11 +91,11 @@ fn leaves_a_log_in_its_order(rt: HostRuntime) -> Result<(), Fail> {
     Ok(())
 }
 
-/// Why the entries have no order, or are refused.
-fn fault(alloc: Global, entries: &[Entry]) -> Result<LogOrderFault, Fail> {
-    match order_log(alloc, log(alloc, entries)?) {
-        Ok(_) => Err("no fault".into()),
-        Err(fault) => Ok(fault),
+/// Whether the log is refused for this.
+fn is_refused(alloc: Global, raw: RawLog, refusal: DumpRefusal, breach: LogBreach) -> bool {
+    match &order_log(alloc, raw) {
+        Err(LogOrderFault::Log(found, why)) => *found == refusal && *why == breach,
+        _ => false,
     }
 }
 
@@ -120,19 +115,23 @@ fn names_a_hold_where_it_was_given(rt: HostRuntime) -> Result<(), Fail> {
         entry: hold(2, first()),
         rule: RecordRule::NotBefore,
     });
-    let found = match fault(alloc, &early)? {
-        LogOrderFault::Log(refusal, found) => {
-            refusal == DumpRefusal::BadEvent(1) && found == breach
-        }
-        LogOrderFault::NoOrder(_) => false,
-    };
-    assert!(rt; found);
+    let raw = log(alloc, &early)?;
+    assert!(rt; is_refused(alloc, raw, DumpRefusal::BadEvent(1), breach));
     Ok(())
+}
+
+/// Whether its sends and receipts have no order, since these, of which each waits for the next one, can't come.
+fn has_none(alloc: Global, raw: RawLog, stuck: &[Stuck]) -> bool {
+    match &order_log(alloc, raw) {
+        Err(LogOrderFault::NoOrder(chain)) => chain.as_slice() == stuck,
+        _ => false,
+    }
 }
 
 /// Two members wait for one another; each place is that among all entries.
 #[test]
 fn names_a_circle_where_it_was_given(rt: HostRuntime) -> Result<(), Fail> {
+    let alloc = rt.alloc();
     let circle = [
         event(receipt(0, 1, 1, 1)),
         hold(0, first_receipt(Member::at(1), Member::at(0))),
@@ -152,11 +151,8 @@ fn names_a_circle_where_it_was_given(rt: HostRuntime) -> Result<(), Fail> {
             obstacle: Obstacle::Waits(0),
         },
     ];
-    let found = match fault(rt.alloc(), &circle)? {
-        LogOrderFault::NoOrder(found) => found.as_slice() == chain.as_slice(),
-        LogOrderFault::Log(..) => false,
-    };
-    assert!(rt; found);
+    let raw = log(alloc, &circle)?;
+    assert!(rt; has_none(alloc, raw, &chain));
     Ok(())
 }
 
@@ -170,13 +166,7 @@ fn refuses_logs_of_other_groups(rt: HostRuntime) -> Result<(), Fail> {
     assert!(rt; united_logs(alloc, &parts).err() == Some(fault));
     let mut large = log(alloc, &zero())?;
     large.members = 17;
-    let found = match order_log(alloc, large) {
-        Err(LogOrderFault::Log(refusal, breach)) => {
-            refusal == DumpRefusal::BadMembers
-                && breach == LogBreach::Trace(Breach::Members { members: 17 })
-        }
-        _ => false,
-    };
-    assert!(rt; found);
+    let breach = LogBreach::Trace(Breach::Members { members: 17 });
+    assert!(rt; is_refused(alloc, large, DumpRefusal::BadMembers, breach));
     Ok(())
 }

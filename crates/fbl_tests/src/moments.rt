@@ -95,7 +95,11 @@ fn learned_late() -> [Entry; 2] {
 }
 
 /// The log whose entries are these, one behind the other, with these members struck.
-fn raw_log(alloc: Global, parts: &[&[Entry]], strike: MemberSet) -> Result<RawLog, Fail> {
+pub(crate) fn raw_log(
+    alloc: Global,
+    parts: &[&[Entry]],
+    strike: MemberSet,
+) -> Result<RawLog, Fail> {
     let mut entries = Vec::new(alloc);
     for part in parts {
         entries.extend_from_slice(part)?;
