@@ -138,7 +138,7 @@ impl InputFault {
     }
 }
 
-/// Writes that the input is of this kind, and must be of the other. A script may be meant as a dump of either version.
+/// Writes that the input is of this kind, and must be of another. A script may be meant as a dump of either version.
 fn write_other_kind<W: fmt::Write>(
     f: &mut fmt::Formatter<W>,
     found: InputKind,
@@ -149,9 +149,11 @@ fn write_other_kind<W: fmt::Write>(
         InputKind::Dump => ("dump", "audit, check and draw"),
         InputKind::Log => ("dump of version 2", "audit, check and draw"),
     };
-    let (other, keys) = match wanted {
-        InputKind::Script => ("script", InputKind::Script),
-        InputKind::Dump | InputKind::Log => ("dump", InputKind::Dump),
+    let (other, keys) = match (wanted, found) {
+        (InputKind::Script, _) => ("script", InputKind::Script),
+        (_, InputKind::Script) => ("dump", InputKind::Dump),
+        (_, InputKind::Log) => ("dump without version", InputKind::Dump),
+        (_, InputKind::Dump) => ("dump of version 2", InputKind::Log),
     };
     write!(
         f,

@@ -1,7 +1,6 @@
 -- The fault of an input that records a run, where what it gives is refused.
-use Rattle.std.proofs.Common.{◌≡◌, ℕ, ◌∙◌, ap, inr, refl, sym, subst, List, Ok, Err, Result, Bool, true, false, IfErr}
+use Rattle.std.proofs.Common.{◌≡◌, ℕ, ◌∙◌, ap, inr, refl, sym, subst, List, Ok, Err, Result, Bool, true, false}
 use Rattle.std.specs.Prelude.{is_some, if◌then◌else◌}
-use Rattle.std.specs.Result.{IsErrAnd}
 use Rattle.serde_json.specs.Find.{get}
 use Rattle.fbl_base.specs.Audit.{parts_of}
 use Rattle.fbl_base.specs.declared.fault.Breach.{Breach}
@@ -11,7 +10,6 @@ use Rattle.fbl_input.specs.declared.fault.Key.TheVariants as keys
 use Rattle.fbl_input.specs.declared.input_fault.InputFault.{InputFault}
 use Rattle.fbl_input.specs.declared.misfit.InputKind.{InputKind}
 use Rattle.fbl_input.specs.declared.misfit.InputKind.TheVariants as kinds
-use Rattle.fbl_input.specs.declared.misfit.Misfit.{Misfit}
 use Rattle.fbl_input.specs.declared.misfit.Misfit.TheVariants as misfits
 use Rattle.fbl_moments.specs.Logs.{IsLogBreach, LogParts, RefusesLog}
 use Rattle.fbl_moments.specs.declared.fault.LogBreach.{LogBreach}
@@ -21,8 +19,6 @@ use Rattle.fbl_texts.specs.RawDumps.{IsRefusalOf}
 use Rattle.fbl_texts.specs.declared.reading.DumpInput.{DumpInput}
 use Rattle.fbl_texts.specs.declared.recorded.Checked.{Checked}
 use Rattle.fbl_texts.specs.declared.recorded.Checked.TheVariants as parts
-use Rattle.fbl_texts.specs.declared.recorded.Recorded.{Recorded}
-use Rattle.fbl_texts.specs.declared.recorded.Recorded.TheVariants as raws
 use Rattle.fbl_texts.specs.declared.recorded.RecordedInput.{RecordedInput}
 use Rattle.fbl_texts.proofs.Refusals.{form_misfit}
 

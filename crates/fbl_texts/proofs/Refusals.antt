@@ -14,7 +14,7 @@ use Rattle.fbl_input.specs.declared.misfit.InputKind.TheVariants as kinds
 use Rattle.fbl_input.specs.declared.misfit.Misfit.{Misfit}
 use Rattle.fbl_input.specs.declared.misfit.Misfit.TheVariants as misfits
 use Rattle.fbl_texts.proofs.Common.{IsFirstFault, IsOfParts, Parts, RefusesDump, RefusesParts, RunFault, parts_of_input, refused, run_fault}
-use Rattle.fbl_texts.specs.Dumps.{IsDumpMisfit, IsNoDump}
+use Rattle.fbl_texts.specs.Dumps.{IsNoDump}
 use Rattle.fbl_texts.specs.RawDumps.{IsNoRawDump, IsRawDumpOf, IsRefusalOf, RefusesNone}
 use Rattle.fbl_texts.specs.declared.reading.DumpInput.{DumpInput}
 
@@ -67,4 +67,3 @@ dump_refused input found fault is refusal =
     let misfit = misfits.Dump refusal.refusal refusal.breach in
     let P : InputFault → Type 0 = IsNoDump input in
     subst P (sym refusal.is) (refl, refused kinds.Dump (parts_of_input input) RefusesParts IsOfParts input misfit parts is.0 first (λ _. tt) refusal.why, is.1)
-

@@ -1,5 +1,5 @@
 -- What an audit and a check of a log leave in the writer, and why receipts are lost, or could be.
-use Rattle.std.specs.Prelude.{◌≡◌, ℕ, List, [], ◌∷◌, ◌++◌, codes, Option, Some, None, IfSome, map, option_and_then, slice_get}
+use Rattle.std.specs.Prelude.{◌≡◌, ℕ, List, [], ◌∷◌, codes, Option, Some, None, IfSome, map, option_and_then, slice_get}
 use Rattle.std.specs.List.{AllZip, concat}
 use Rattle.std.specs.Fmt.{debug_str, ◌++?◌}
 use Rattle.fbl_moments.specs.Entries.{receipts_in}

@@ -168,6 +168,14 @@ impl OnPath for Mark {
     }
 }
 
+/// Writes an event of a path, behind this.
+fn write_step<W: fmt::Write>(f: &mut fmt::Formatter<W>, before: &str, event: &Mark) -> fmt::Result {
+    match event {
+        Mark::Send { from, ssn, .. } => write!(f, "{before} send {ssn} of member {from}"),
+        Mark::Receipt { to, rsn, .. } => write!(f, "{before} receipt {rsn} of member {to}"),
+    }
+}
+
 /// Writes the orphan, and the events of the path to it, as in `orphan 2 depends on it: receipt 1 of member 1, send 1 of member 1`.
 /// The places are those in the list.
 pub(crate) fn write_path<W: fmt::Write, E: OnPath>(
@@ -179,14 +187,8 @@ pub(crate) fn write_path<W: fmt::Write, E: OnPath>(
     write!(f, "orphan {orphan} depends on it")?;
     let mut before = ":";
     for place in places {
-        match list.get(*place).and_then(|item| item.event()) {
-            Some(Mark::Send { from, ssn, .. }) => {
-                write!(f, "{before} send {ssn} of member {from}")?;
-            }
-            Some(Mark::Receipt { to, rsn, .. }) => {
-                write!(f, "{before} receipt {rsn} of member {to}")?;
-            }
-            None => {}
+        if let Some(event) = list.get(*place).and_then(|item| item.event()) {
+            write_step(f, before, &event)?;
         }
         before = ",";
     }

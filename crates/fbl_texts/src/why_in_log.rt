@@ -21,6 +21,7 @@ use std::fmt;
 pub struct WhyLostInLog {
     /// The last moment.
     dump: Dump,
+    /// Why each of them is lost.
     pub receipts: Vec<LossReason>,
 }
 
@@ -55,6 +56,7 @@ impl fmt::Display for WhyLostInLog {
 pub struct WhyUnsafeInLog<'a> {
     log: &'a RunLog,
     sources: Sources<'a>,
+    /// Why each of them is unsafe.
     pub reasons: Vec<MomentReason>,
 }
 

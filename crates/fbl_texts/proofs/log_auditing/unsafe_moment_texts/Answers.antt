@@ -1,5 +1,5 @@
 use Rattle.std.proofs.lemmas.List.Folds.{concat-append}
-use Rattle.fbl_texts.proofs.Common.{◌≡◌, ◌++◌, ◌∷◌, [], ◌∙◌, ap, append-nil, sym, string_bytes}
+use Rattle.fbl_texts.proofs.Common.{◌++◌, ◌∷◌, [], ◌∙◌, ap, append-nil, sym, string_bytes}
 use Rattle.std.specs.List.{concat}
 use Rattle.fbl_texts.specs.LogAuditing.{IsUnsafeMomentLine}
 use Rattle.fbl_texts.proofs.Whys.{reasons_more}
