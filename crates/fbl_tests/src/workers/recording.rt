@@ -13,13 +13,16 @@ use std::sync::Wait;
 use std::test::Fail;
 use std::thread::Threads;
 
-/// Whether each member of the group has received so many messages.
-fn has_received(group: &Group<Relay>, received: &[u32]) -> bool {
-    if received.len() != usize::from(group.config().members()) {
+/// Whether each member of the group has received and sent so many messages.
+fn has_received_and_sent(group: &Group<Relay>, received: &[u32], sent: &[u32]) -> bool {
+    let members = usize::from(group.config().members());
+    if received.len() != members || sent.len() != members {
         return false;
     }
     for number in 0..group.config().members() {
-        if group.received(Member::at(number)) != received[usize::from(number)] {
+        let member = Member::at(number);
+        let place = usize::from(number);
+        if group.received(member) != received[place] || group.sent(member) != sent[place] {
             return false;
         }
     }
@@ -35,7 +38,11 @@ fn is_crash_again(group: &mut Group<Relay>, crash: &CrashRecord) -> bool {
         Ok((struck, recovered)) => {
             struck == recovery.struck
                 && recovered == recovery.recovered
-                && has_received(group, recovery.received.as_slice())
+                && has_received_and_sent(
+                    group,
+                    recovery.received.as_slice(),
+                    recovery.sent.as_slice(),
+                )
         }
         Err(_) => false,
     }
