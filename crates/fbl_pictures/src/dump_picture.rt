@@ -50,11 +50,7 @@ fn audited_shapes(
 }
 
 /// The picture of the dump by its audit.
-fn audited_picture(
-    alloc: Global,
-    audit: &Audit,
-    recorded: &Recorded,
-) -> Result<String, AllocError>
+fn audited_picture(alloc: Global, audit: &Audit, recorded: &Recorded) -> Result<String, AllocError>
     requires { recorded.now ≡ dump_entries audit.now }
     ensures { IfOk result (λ text. IsAuditedPicture audit.now (string_bytes text)) }
 {

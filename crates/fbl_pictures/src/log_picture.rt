@@ -27,11 +27,7 @@ use std::alloc::{AllocError, Global};
 use std::io::Write;
 
 /// The shapes of a log that is safe at each moment, at its last one.
-fn safe_shapes(
-    alloc: Global,
-    audit: &Audit,
-    recorded: &Recorded,
-) -> Result<Vec<Shape>, AllocError>
+fn safe_shapes(alloc: Global, audit: &Audit, recorded: &Recorded) -> Result<Vec<Shape>, AllocError>
     ensures { IfOk result (λ shapes. (lines : Lines) × (lines.struck ≡ audit.now.strike) × NoColumns lines.starts × NoColumns lines.moment × (shapes.items ≡ run_shapes audit.now recorded.now None lines [])) }
 {
     let dump = audit.dump();

@@ -3,13 +3,11 @@
 ghost use Rattle.std.specs.Prelude.{◌≡◌, ◌++◌, IfOk, OnOk, string_bytes};
 ghost use Rattle.fbl_pictures.specs.Pictures.{ending, opening, picture, text_of, text_of_mark, texts_of};
 
-use crate::lines::{
-    arrow_text, down_from_text, in_flight_text, label_text, line_text, name_text,
-};
+use crate::lines::{arrow_text, down_from_text, in_flight_text, label_text, line_text, name_text};
 use crate::look::{entries, look, more_look};
 use crate::marks::{
-    checkpoint_text, held_text, hold_text, made_and_undone_text, moment_text, receipt_text, recovery_text,
-    send_text, store_text, strike_text,
+    checkpoint_text, held_text, hold_text, made_and_undone_text, moment_text, receipt_text,
+    recovery_text, send_text, store_text, strike_text,
 };
 use crate::places::{height, width, y};
 use crate::shape::{Legend, Shape};

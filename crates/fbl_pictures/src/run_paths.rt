@@ -53,11 +53,7 @@ fn step_between(events: &[Placed], start: usize, end: usize) -> Option<Shape>
 }
 
 /// Adds the steps of a path by these places.
-fn push_path(
-    shapes: &mut Vec<Shape>,
-    events: &[Placed],
-    path: &[usize],
-) -> Result<(), AllocError>
+fn push_path(shapes: &mut Vec<Shape>, events: &[Placed], path: &[usize]) -> Result<(), AllocError>
     ensures { OnOk result (shapes.new.items ≡ shapes.old.items ++ path_shapes events.now path.now) }
 {
     if let [first, others @ ..] = path {
