@@ -1,6 +1,6 @@
 -- What a check found, and where paths from it end.
-use Rattle.fbl_pictures.proofs.Common.{ℕ, zero, suc, ◌+◌, ◌-◌, ◌<◌, ◌==◌, ◌≡◌, ◌⊎◌, ◌↔◌, true, false, List, [], ◌∷◌, Option, Some, None, length, slice_get, inl, inr, refl, sym, ap, ◌∙◌, arith, get_or, slice_get-get_or, slice_get_within, subst, false≢true}
-use Rattle.fbl_pictures.proofs.Common.{Determinant, Entry, Event, Hold, Store, IsPathTo, IsStart, HasOrphan, column_in, placed_from, nat_tests}
+use Rattle.fbl_pictures.proofs.Common.{ℕ, zero, suc, ◌+◌, ◌-◌, ◌<◌, ◌==◌, ◌≡◌, ◌⊎◌, ◌↔◌, true, false, List, [], ◌∷◌, Option, Some, length, slice_get, inl, inr, refl, sym, ap, ◌∙◌, arith, slice_get_within, subst, false≢true}
+use Rattle.fbl_pictures.proofs.Common.{Determinant, Entry, Event, Hold, Store, IsPathTo, IsStart, HasOrphan, placed_from, nat_tests}
 use Rattle.std.specs.FinSet as set
 use Rattle.std.specs.Ordering.{nat_cmp}
 use Rattle.std.specs.Prelude.{option_and_then, map, MatchOption}

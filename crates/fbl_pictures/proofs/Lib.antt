@@ -3,6 +3,8 @@ pub mod Steps
 pub mod Indexing
 pub mod Stores
 pub mod Finding
+pub mod Crossing
+pub mod Moments
 pub mod Lasts
 pub mod Layers
 pub mod HistoryLaws

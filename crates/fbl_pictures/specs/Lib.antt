@@ -12,4 +12,5 @@ pub mod RunPictures
 pub mod Headings
 pub mod FoundPictures
 pub mod DumpPictures
+pub mod Crossings
 pub mod LogPictures

@@ -1,26 +1,25 @@
 -- The picture of a log: of its last moment where it is safe at each, and else of the first receipt that a check of it finds, at its first
 -- moment.
-use Rattle.std.specs.Prelude.{ℕ, ◌≡◌, ◌<◌, ◌≤◌, ◌⊎◌, List, [], ◌∷◌, Option, Some, None, length, codes}
+use Rattle.std.specs.Prelude.{ℕ, ◌≡◌, ◌⊎◌, List, [], ◌∷◌, Some, None, length, codes}
 use Rattle.fbl_audit.specs.declared.checking.UnsafeReceipt.{UnsafeReceipt}
 use Rattle.fbl_moments.specs.declared.check.UnsafeMoment.{UnsafeMoment}
-use Rattle.fbl_moments.specs.declared.entry.Entry.{Entry}
 use Rattle.fbl_moments.specs.declared.last.LogAudit.{LogAudit}
-use Rattle.fbl_moments.specs.Clocks.{StandsAt, seen}
+use Rattle.fbl_moments.specs.Clocks.{StandsAt}
 use Rattle.fbl_moments.specs.Entries.{log_of, receipts_in}
 use Rattle.fbl_moments.specs.HappenedBefore.{Position}
 use Rattle.fbl_moments.specs.LastMoments.{IsLogAudit, dump_of}
 use Rattle.fbl_moments.specs.Logs.{LogParts, run_of}
-use Rattle.fbl_moments.specs.Moments.{Cut, HasCome, IsLeastMoment}
+use Rattle.fbl_moments.specs.Moments.{Cut, IsLeastMoment}
 use Rattle.fbl_moments.specs.Runs.{AlwaysSafe}
 use Rattle.fbl_moments.specs.Unsafe.{SaysUnsafe}
-use Rattle.fbl_pictures.specs.declared.columns.Columns.{Columns}
 use Rattle.fbl_pictures.specs.declared.run_members.Lines.{Lines}
 use Rattle.fbl_pictures.specs.declared.shape.Legend.TheVariants.{Log, UnsafeLog}
 use Rattle.fbl_pictures.specs.declared.shape.Shape.{Shape}
+use Rattle.fbl_pictures.specs.Crossings.{AreCrossings}
 use Rattle.fbl_pictures.specs.FoundPictures.{AreFoundShapes, NoColumns}
 use Rattle.fbl_pictures.specs.Headings.{audit_words, heading, unsafe_words}
 use Rattle.fbl_pictures.specs.Pictures.{picture}
-use Rattle.fbl_pictures.specs.RunPictures.{column_in, run_shapes}
+use Rattle.fbl_pictures.specs.RunPictures.{run_shapes}
 
 -- ---- safe at each moment
 
@@ -39,26 +38,6 @@ IsSafePicture log text =
 
 -- ---- unsafe at some moment
 
--- the place is that behind the last entry that has come
-pub record IsEnd (entries : List Entry) (cut : Cut) (end : ℕ) : Type 0 where
-  pub behind : (place : ℕ) (i : Position) → StandsAt entries place i → HasCome cut i → place < end
-  pub least : (other : ℕ) → ((place : ℕ) (i : Position) → StandsAt entries place i → HasCome cut i → place < other) → end ≤ other
-
--- before the column stand those entries of the member that have come, and no others of it; it is the last such column up to the end
-pub record IsCrossing (entries : List Entry) (cut : Cut) (end member column : ℕ) : Type 0 where
-  pub come : seen entries column member ≡ cut member
-  pub within : column ≤ end
-  pub last : (other : ℕ) → other ≤ end → seen entries other member ≡ cut member → other ≤ column
-
--- where the moment crosses a member's line, if it is one of so many
-abbrev pub IsCrossingOf : ℕ → List Entry → Cut → ℕ → ℕ → Option ℕ → Type 0
-IsCrossingOf members entries cut end member None = members ≤ member
-IsCrossingOf members entries cut end member (Some column) = (member < members) × IsCrossing entries cut end member column
-
--- the columns before which the moment crosses the members' lines
-abbrev pub AreCrossings : LogParts → Cut → Columns → Type 0
-AreCrossings log cut columns = (end : ℕ) × IsEnd log.entries cut end × ((q : ℕ) → q < 16 → IsCrossingOf log.members log.entries cut end q (column_in columns q))
-
 -- what is said of the receipt, but for the place
 abbrev pub found_in : UnsafeMoment → UnsafeReceipt
 found_in said = record { determinant = said.determinant; strike = said.strike; orphans = said.orphans }
@@ -67,7 +46,7 @@ found_in said = record { determinant = said.determinant; strike = said.strike; o
 abbrev pub IsUnsafePicture : LogParts → UnsafeMoment → List ℕ → Type 0
 IsUnsafePicture log said text =
     (i : Position) × (cut : Cut) × StandsAt log.entries said.place i × IsLeastMoment (log_of log.entries) i cut
-    × (shapes : List Shape) × AreFoundShapes (dump_of log) log.entries (found_in said) (AreCrossings log cut) shapes
+    × (shapes : List Shape) × AreFoundShapes (dump_of log) log.entries (found_in said) (AreCrossings log.members log.entries cut) shapes
     × (text ≡ picture (heading log.members log.f (length log.entries) (codes "entries") (unsafe_words said.determinant (Some said.place) said.strike said.orphans)) log.members
     (length log.entries) UnsafeLog shapes)
 

@@ -1,9 +1,9 @@
 //! Where the line of a moment crosses the members' lines.
 
-ghost use Rattle.std.specs.Prelude.{◌≡◌, ◌<◌, ◌+◌, ◌≤◌, ℕ, Some, length, slice_get};
-ghost use Rattle.fbl_moments.specs.Entries.{entry_member, log_of};
+ghost use Rattle.std.specs.Prelude.{◌≡◌, ◌<◌, ◌+◌, ◌≤◌, ℕ, length};
+ghost use Rattle.fbl_moments.specs.Entries.{log_of};
 ghost use Rattle.fbl_moments.specs.Reasons.{cut_in};
-ghost use Rattle.fbl_pictures.specs.LogPictures.{AreCrossings, IsCrossingOf, IsEnd};
+ghost use Rattle.fbl_pictures.specs.Crossings.{AreCrossings, HasPassed, IsCrossing};
 
 use crate::columns::Columns;
 use fbl_base::Member;
@@ -21,7 +21,23 @@ struct Pass {
 }
 
 impl Pass {
-    fn add(&mut self, cut: &[usize; 16], place: usize, member: Member) {
+    fn new() -> Pass
+        ensures { (entries : _) → (cut : _) → HasPassed entries cut 0 result }
+    {
+        Pass {
+            counts: [0; 16],
+            end: 0,
+            beyond: Columns::none(),
+        }
+    }
+
+    /// Takes in the entry at the place, the next one.
+    fn add(&mut self, entries: &[Entry], cut: &[usize; 16], place: usize)
+        requires passed { HasPassed entries.now (cut_in cut.now) place self.old }
+        requires within { place < length entries.now }
+        ensures { HasPassed entries.now (cut_in cut.now) (place + 1) self.new }
+    {
+        let member = entries[place].member();
         let number = member.number() as usize;
         if self.counts[number] < cut[number] {
             self.end = place + 1;
@@ -30,26 +46,37 @@ impl Pass {
         }
         self.counts[number] += 1;
     }
+
+    /// The column before which the moment crosses the line of the member with this number.
+    fn crossing(&self, entries: &[Entry], cut: &[usize; 16], number: u8) -> usize
+        requires member { number < 16 }
+        requires within { cut_in cut.now number ≤ length (log_of entries.now number) }
+        requires passed { HasPassed entries.now (cut_in cut.now) (length entries.now) self.now }
+        ensures { IsCrossing entries.now (cut_in cut.now) self.now.end number result }
+    {
+        // the contract alone names the entries and the cut
+        let (_entries, _cut) = (entries, cut);
+        match self.beyond.get(number) {
+            Some(place) => place.min(self.end),
+            None => self.end,
+        }
+    }
 }
 
-/// The columns before which the moment of the cut is, in each of so many members' lines: behind all that has come, unless an entry of the
+/// The columns before which the moment of the cut crosses the lines of so many members: behind all that has come, unless an entry of the
 /// member that has not come stands before that.
-pub(crate) fn moment_columns(members: u8, entries: &[Entry], cut: &[usize; 16]) -> Columns {
-    let mut pass = Pass {
-        counts: [0; 16],
-        end: 0,
-        beyond: Columns::none(),
-    };
+pub(crate) fn moment_columns(members: u8, entries: &[Entry], cut: &[usize; 16]) -> Columns
+    requires members { members ≤ 16 }
+    requires within { (q : ℕ) → cut_in cut.now q ≤ length (log_of entries.now q) }
+    ensures { AreCrossings members entries.now (cut_in cut.now) result }
+{
+    let mut pass = Pass::new();
     for place in 0..entries.len() {
-        pass.add(cut, place, entries[place].member());
+        pass.add(entries, cut, place);
     }
     let mut columns = Columns::none();
     for number in 0..members {
-        let column = match pass.beyond.get(number) {
-            Some(place) => place.min(pass.end),
-            None => pass.end,
-        };
-        columns.set(Member::at(number), column);
+        columns.set(Member::at(number), pass.crossing(entries, cut, number));
     }
     columns
 }

@@ -1,4 +1,4 @@
-use Rattle.fbl_pictures.proofs.Common.{◌≡◌, ◌∙◌, ap, refl, dump_entries, placed_from}
+use Rattle.fbl_pictures.proofs.Common.{◌∙◌, ap, refl, placed_from}
 use Rattle.fbl_pictures.specs.RunPictures.{run_shapes}
 use Rattle.fbl_pictures.proofs.dump_picture.audited_shapes.Goals as goal
 

@@ -1,4 +1,4 @@
-use Rattle.fbl_pictures.proofs.Common.{◌≡◌, ◌⊎◌, inl, inr, subst, HasOrphan, IfOk-weaker, IsPicture}
+use Rattle.fbl_pictures.proofs.Common.{◌⊎◌, inl, inr, subst, HasOrphan, IfOk-weaker, IsPicture}
 use Rattle.std.specs.Prelude.{IfOk, string_bytes}
 use Rattle.fbl_base.specs.Audit.{Parts}
 use Rattle.fbl_audit.specs.Checking.{IsSafe}

@@ -1,4 +1,4 @@
-use Rattle.fbl_pictures.proofs.Common.{◌≡◌, ◌∙◌, ap, inl, sym, slice_get}
+use Rattle.fbl_pictures.proofs.Common.{◌∙◌, ap, inl, sym, slice_get}
 use Rattle.fbl_pictures.proofs.Finding.{first_said, no_orphan, some_orphan}
 use Rattle.fbl_pictures.proofs.dump_picture.first_found.Goals as goal
 

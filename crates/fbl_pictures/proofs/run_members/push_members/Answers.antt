@@ -1,4 +1,4 @@
-use Rattle.fbl_pictures.proofs.Common.{◌++◌, ◌∙◌, arith, column_in, rows_on, member_shapes, shapes_of_member}
+use Rattle.fbl_pictures.proofs.Common.{◌++◌, ◌∙◌, arith, rows_on, member_shapes, shapes_of_member}
 use Rattle.std.specs.FinSet as set
 use Rattle.fbl_pictures.proofs.run_members.push_members.Goals as goal
 
