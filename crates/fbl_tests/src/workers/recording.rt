@@ -16,13 +16,19 @@ use std::thread::Threads;
 /// Whether each member of the group has received and sent so many messages.
 fn has_received_and_sent(group: &Group<Relay>, received: &[u32], sent: &[u32]) -> bool {
     let members = usize::from(group.config().members());
-    if received.len() != members || sent.len() != members {
+    if received.len() != members {
+        return false;
+    }
+    if sent.len() != members {
         return false;
     }
     for number in 0..group.config().members() {
         let member = Member::at(number);
         let place = usize::from(number);
-        if group.received(member) != received[place] || group.sent(member) != sent[place] {
+        if group.received(member) != received[place] {
+            return false;
+        }
+        if group.sent(member) != sent[place] {
             return false;
         }
     }
