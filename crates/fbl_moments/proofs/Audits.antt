@@ -1,14 +1,14 @@
 -- What the last moment is: it obeys the rules of dumps, and who is an orphan there.
-use Rattle.fbl_moments.proofs.Common.{ℕ, zero, suc, Bool, true, false, ◌≡◌, ◌==◌, ◌<◌, ◌≤◌, ◌+◌, ◌⊎◌, ◌↔◌, inl, inr, List, [], ◌∷◌, ◌++◌, length, take, Option, Some, None, slice_get, refl, sym, ap, subst, ◌∙◌, arith}
-use Rattle.fbl_moments.proofs.Common.{cases_eq, cases_lt, false≢true, nat_tests, slice_get_within, filter_map, At-filter_map, filter_map-At, Determinant, Mark, Send, Receipt, receipt_of, Members, contains-union, Has}
-use Rattle.fbl_moments.proofs.Common.{Entry, Event, Hold, Store, entry_member, log_of, mark_in, IsAt, Position, at, Cut, DependsOn, DependsAt, HoldsAt, IsReceiptAt, IsStoredAt, AreEntries, LosesAt, IsOrphanAt, Run}
+use Rattle.fbl_moments.proofs.Common.{ℕ, zero, suc, Bool, true, false, ◌≡◌, ◌==◌, ◌<◌, ◌≤◌, ◌+◌, ◌↔◌, inl, inr, List, [], ◌∷◌, length, take, Some, slice_get, refl, sym, ap, subst, ◌∙◌, arith}
+use Rattle.fbl_moments.proofs.Common.{cases_eq, false≢true, nat_tests, filter_map, filter_map-At, Determinant, Send, Receipt, receipt_of, Members, contains-union}
+use Rattle.fbl_moments.proofs.Common.{Entry, Event, Hold, Store, entry_member, log_of, mark_in, at, DependsAt, IsReceiptAt, LosesAt, IsOrphanAt}
 use Rattle.std.specs.FinSet as set
 use Rattle.std.specs.Cmp.{nat_cmp_total}
 use Rattle.fbl_base.proofs.Sets.{len-remove_one, some_member}
 use Rattle.fbl_base.specs.Audit.{HeldAt, IsDump}
 use Rattle.fbl_moments.specs.Clocks.{StandsAt, seen}
-use Rattle.fbl_moments.specs.Entries.{marks, receipt_in, recorded_in}
-use Rattle.fbl_moments.specs.Lawful.{IsFewAt, records}
+use Rattle.fbl_moments.specs.Entries.{receipt_in}
+use Rattle.fbl_moments.specs.Lawful.{records}
 use Rattle.fbl_moments.specs.LastMoments.{dump_of, last_of, pair_in}
 use Rattle.fbl_moments.specs.Logs.{IsLog, LogParts, run_of}
 use Rattle.fbl_moments.proofs.Listing.{locate_all, placed, stands_at}

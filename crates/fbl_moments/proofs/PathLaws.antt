@@ -1,7 +1,7 @@
 -- Paths among the sends and receipts as paths among all entries.
-use Rattle.fbl_moments.proofs.Common.{ℕ, zero, suc, ◌≡◌, ◌<◌, ◌≤◌, ◌+◌, inl, inr, List, [], ◌∷◌, length, take, Option, Some, None, slice_get, refl, sym, ap, subst, ◌∙◌, arith}
-use Rattle.fbl_moments.proofs.Common.{cases_order, filter_map-At, get_or, slice_get_read, slice_get_within, Determinant, Mark, member_of, receipt_of, send_of}
-use Rattle.fbl_moments.proofs.Common.{Entry, Event, Hold, Store, entry_member, log_of, mark_in, marks, IsAt, Leads, Position, Precedes, at, IsFirstDependent, IsReceiptAt}
+use Rattle.fbl_moments.proofs.Common.{ℕ, zero, suc, ◌≡◌, ◌<◌, inl, inr, List, [], ◌∷◌, length, take, Option, Some, None, slice_get, refl, sym, ap, subst, ◌∙◌, arith}
+use Rattle.fbl_moments.proofs.Common.{cases_order, filter_map-At, get_or, slice_get_read, slice_get_within, Determinant, Mark, member_of, receipt_of}
+use Rattle.fbl_moments.proofs.Common.{Entry, Event, Hold, Store, entry_member, log_of, mark_in, marks, IsAt, Position, Precedes, at, IsReceiptAt}
 use Rattle.std.proofs.Common.{Global, IfNone, IfSome, Vec, map, unwrap_or}
 use Rattle.fbl_base.proofs.PrecedenceLaws.{events-from_places, places-from_events}
 use Rattle.fbl_base.specs.Events.{At}

@@ -4,7 +4,6 @@ use Rattle.std.specs.FinSet as set
 use Rattle.fbl_base.specs.declared.trace.Determinant.{Determinant}
 use Rattle.fbl_base.specs.Events.{At, receipt_of}
 use Rattle.fbl_audit.specs.Paths as base
-use Rattle.fbl_moments.specs.declared.check.UnsafeMoment.{UnsafeMoment}
 use Rattle.fbl_moments.specs.declared.entry.Entry.{Entry}
 use Rattle.fbl_moments.specs.declared.entry.Entry.TheVariants.{Event}
 use Rattle.fbl_moments.specs.declared.reason.MomentReason.{MomentReason}

@@ -1,4 +1,4 @@
-use Rattle.fbl_moments.proofs.Common.{arith, ◌≡◌, ◌++◌, ◌∷◌, [], sym, ap, refl, ℕ, List, Determinant, length, Some, slice_get, slice_get_read}
+use Rattle.fbl_moments.proofs.Common.{◌≡◌, ◌++◌, ◌∷◌, [], sym, ap, refl, ℕ, List, Determinant, length, Some, slice_get, slice_get_read}
 use Rattle.fbl_moments.specs.LastMoments.{pair_in}
 use Rattle.fbl_moments.proofs.RunLaws.{kept-none, kept-some}
 use Rattle.fbl_moments.proofs.last.pairs_of.Goals as goal

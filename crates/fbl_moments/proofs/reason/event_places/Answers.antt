@@ -1,4 +1,4 @@
-use Rattle.fbl_moments.proofs.Common.{arith, ◌≡◌, ◌∙◌, ◌+◌, inl, inr, sym, ap, subst, refl, ℕ, List, Some, length, length-append, slice_get, slice_get_read, At-push, marks, take, [], ◌∷◌}
+use Rattle.fbl_moments.proofs.Common.{arith, ◌≡◌, ◌∙◌, inl, inr, sym, ap, subst, refl, ℕ, List, Some, length, length-append, slice_get, slice_get_read, At-push, [], ◌∷◌}
 use Rattle.std.proofs.Common.{Global, Vec}
 use Rattle.fbl_moments.specs.Lawful.{IsEventPlace}
 use Rattle.fbl_moments.proofs.RunLaws.{marks-is_none, marks-is_some}

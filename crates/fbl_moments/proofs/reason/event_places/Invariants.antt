@@ -1,4 +1,4 @@
-use Rattle.fbl_moments.proofs.Common.{ℕ, ◌≡◌, ◌<◌, Some, length, slice_get, marks, take}
+use Rattle.fbl_moments.proofs.Common.{ℕ, ◌≡◌, Some, length, slice_get, marks, take}
 use Rattle.fbl_moments.specs.Lawful.{IsEventPlace}
 use Rattle.fbl_moments.proofs.reason.event_places.Given as goal
 

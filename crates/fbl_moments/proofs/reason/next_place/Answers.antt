@@ -1,6 +1,6 @@
-use Rattle.fbl_moments.proofs.Common.{arith, ◌≡◌, ◌∙◌, ◌<◌, inl, inr, cases_lt, false≢true, sym, ap, subst, refl, ℕ, List, Entry, Some, length, slice_get, slice_get_read, slice_get_within, entry_member, at, HasCome}
+use Rattle.fbl_moments.proofs.Common.{arith, ◌≡◌, ◌∙◌, inl, inr, cases_lt, false≢true, sym, ap, subst, refl, ℕ, List, Entry, Some, length, slice_get, slice_get_read, slice_get_within, entry_member, at}
 use Rattle.std.proofs.Common.{below_more}
-use Rattle.fbl_moments.specs.Clocks.{StandsAt, cut_of, seen}
+use Rattle.fbl_moments.specs.Clocks.{cut_of, seen}
 use Rattle.fbl_moments.specs.Entries.{recorded_in}
 use Rattle.fbl_moments.specs.Logs.{LogParts}
 use Rattle.fbl_moments.proofs.reason.next_place.Goals as goal

@@ -1,4 +1,4 @@
-use Rattle.fbl_moments.proofs.Common.{arith, ◌≡◌, ◌<◌, List, Entry, length, Some, slice_get, slice_get_read, slice_get_within, refl, subst, sym}
+use Rattle.fbl_moments.proofs.Common.{arith, ◌≡◌, ◌<◌, length, Some, slice_get, slice_get_read, slice_get_within, refl, subst}
 use Rattle.fbl_moments.specs.Logs.{LogParts}
 use Rattle.fbl_moments.proofs.HistoryLaws.{advance_stands}
 use Rattle.fbl_moments.specs.Clocks.{IsAdvance}

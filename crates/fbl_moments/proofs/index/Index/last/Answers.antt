@@ -1,4 +1,4 @@
-use Rattle.fbl_moments.proofs.Common.{arith, ℕ, ◌≡◌, ◌∙◌, inl, inr, cases_lt, sym, subst, ap, length, List, Entry, log_of}
+use Rattle.fbl_moments.proofs.Common.{arith, ◌≡◌, ◌∙◌, inl, inr, cases_lt, sym, subst, ap, length, List, Entry, log_of}
 use Rattle.fbl_moments.proofs.index.Index.last.Goals as goal
 
 pub returns : goal.returns
