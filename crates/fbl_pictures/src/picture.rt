@@ -6,8 +6,8 @@ ghost use Rattle.fbl_pictures.specs.Pictures.{ending, opening, picture, text_of,
 use crate::lines::{arrow_text, down_from_text, in_flight_text, label_text, line_text, name_text};
 use crate::look::{entries, look, more_look};
 use crate::marks::{
-    checkpoint_text, held_text, hold_text, moment_text, receipt_text,
-    recovery_text, send_text, store_text, strike_text,
+    checkpoint_text, held_text, hold_text, moment_text, receipt_text, recovery_text, send_text,
+    store_text, strike_text,
 };
 use crate::places::{height, width, y};
 use crate::shape::{Legend, Shape};
