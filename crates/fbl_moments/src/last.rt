@@ -70,9 +70,9 @@ pub struct LogAudit {
 fn loses(history: &History<'_>, determinant: &Determinant, moment: &Clock) -> bool
     ensures { (result ≡ true) ↔ LosesAt (run_of history.now) (cut_of moment.now) history.now.strike determinant.now }
 {
-    let index = history.index();
-    let holders = index.holders(determinant, moment);
-    !index.is_stored(determinant, moment) && holders.without(history.log().strike()).is_empty()
+    let records = history.index().records(determinant);
+    let holders = records.holders(moment);
+    !records.is_stored(moment) && holders.without(history.log().strike()).is_empty()
 }
 
 /// The audit of the last moment of the history's log.

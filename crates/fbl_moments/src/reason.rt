@@ -137,7 +137,7 @@ fn reason_of(
     Ok(MomentReason {
         said: *said,
         cut: moment.counts(),
-        holders: history.index().holders(&said.determinant, &moment),
+        holders: history.index().records(&said.determinant).holders(&moment),
         next: next_place(history, &said.determinant, &moment),
         path: among_entries(alloc, places, path.as_slice())?,
     })

@@ -1,5 +1,9 @@
-use Rattle.fbl_moments.proofs.Common.{◌<◌, List, Entry, length, refl, sym, subst, slice_get_within, log_of, at, IsFirstDependent, IsLeastMoment}
+use Rattle.fbl_moments.proofs.Common.{◌<◌, List, Entry, Determinant, length, refl, sym, subst, slice_get_within, log_of, at, IsFirstDependent, IsLeastMoment}
 use Rattle.fbl_moments.specs.Clocks.{StandsAt, cut_of}
+use Rattle.fbl_moments.specs.Indexes.{AreRecords}
+use Rattle.fbl_moments.specs.Logs.{LogParts, run_of}
+use Rattle.fbl_moments.specs.Runs.{IsCovered}
+use Rattle.fbl_moments.specs.Unsafe.{IsUncovered}
 use Rattle.fbl_moments.proofs.ClockLaws.{last_there}
 use Rattle.fbl_moments.proofs.SafeAlways.{first_is_receipt}
 use Rattle.fbl_moments.proofs.UnsafeLaws.{covered_for, first_dependent, left_orphans, none_covered}
@@ -26,7 +30,8 @@ pub returns-in_err-strike : goal.returns-in_err-strike
 returns-in_err-strike c =
     let c2 = (goal.at.returns-in_err-strike c).After-branch-strike in
     let d = c.args.determinant.now in
-    rw c.from_residual-in_err-strike.ensures (covered_for c.args.history.now c.requires.log.lawful c.requires.log.strike d c.args.member c.in_ok-first.first (cut_of c.moment-moment.result) (dependent c2) (least c2) c.in_err-strike.ensures)
+    let covered = subst (λ (log : LogParts). (d : Determinant) → AreRecords (log_of log.entries) d c.args.records.now → IsCovered (run_of log) (cut_of c.moment-moment.result) d c.args.member) c.log.ensures c.in_err-strike.ensures d c.requires.records in
+    rw c.from_residual-in_err-strike.ensures (covered_for c.args.history.now c.requires.log.lawful c.requires.log.strike d c.args.member c.in_ok-first.first (cut_of c.moment-moment.result) (dependent c2) (least c2) covered)
 
 pub place-requires : goal.place-requires
 place-requires c =
@@ -44,7 +49,8 @@ returns c =
       first = dependent c2;
       cut = cut_of c.moment-moment.result;
       moment = least c2;
-      uncovered = c.in_ok-strike.ensures;
+      uncovered = subst (λ (log : LogParts). (d : Determinant) → AreRecords (log_of log.entries) d c.args.records.now → IsUncovered (run_of log) (cut_of c.moment-moment.result) d c.args.member c.in_ok-strike.strike)
+          c.log.ensures c.in_ok-strike.ensures d c.requires.records;
       orphans = left_orphans c.args.history.now c.requires.log.lawful c.requires.log.strike d (at d.to c.args.number) c.requires.receipt (cut_of c.moment-moment.result) c.in_ok-strike.strike
           c.reached-dependents.result c.without.result c.without.ensures c.reached-dependents.ensures;
     }

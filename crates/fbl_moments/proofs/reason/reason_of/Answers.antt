@@ -4,6 +4,7 @@ use Rattle.std.proofs.Common.{map, slice_index}
 use Rattle.std.specs.FinSet as set
 use Rattle.fbl_moments.specs.Clocks.{cut_of, seen}
 use Rattle.fbl_moments.specs.Histories.{IsLeastMomentOfReceipt}
+use Rattle.fbl_moments.specs.Indexes.{AreRecords}
 use Rattle.fbl_moments.specs.Logs.{LogParts}
 use Rattle.fbl_moments.specs.Reasons.{IsEventPath, IsNextPlace, IsPathFrom, cut_in}
 use Rattle.fbl_moments.proofs.PathLaws.{entry_read, event_within, path_from, path_within, said_receipt}
@@ -38,7 +39,8 @@ returns-clause-reason c =
     let cut : cut_of c.moment-moment.result ≡ cut_in c.counts.result = ap cut_in (sym c.counts.ensures) in
     let receipt = said_receipt log c.requires.log said says in
     let least = subst (λ (i : Position). IsLeastMomentOfReceipt (log_of es) i (cut_of c.moment-moment.result)) there c.moment-moment.ensures.least in
-    let held = subst (λ (es : List Entry). (q : ℕ) → (set.contains c.holders.result q ≡ true) ↔ HoldsAt (log_of es) (cut_of c.moment-moment.result) said.determinant q) c.index.ensures c.holders.ensures in
+    let records = subst (λ (es : List Entry). AreRecords (log_of es) said.determinant c.records.result) c.index.ensures c.records.ensures in
+    let held = c.holders.ensures (log_of es) said.determinant records in
     let are = λ (k : ℕ) (below : k < length (marks es)).
     c.requires.places k (slice_index c.args.places.now k) (slice_get-get_or c.args.places.now k 0 (let n = c.requires.count in omega (arith, below, n))) in
     let among = path_from es (slice_index c.args.places.now) are said.determinant said.place c.in_ok-path.path.items (path (goal.at.returns-clause-reason c).After-as_slice) in
