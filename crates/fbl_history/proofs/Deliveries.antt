@@ -69,8 +69,8 @@ module _ (next : Next ℕ Note) (old new : GroupRecord ℕ Note) (v : Message No
       ∙ ap (map column) step.trace
       ∙ map-append column old.trace (delivery_events next old v)
       ∙ (λ i. sym (same_columns part next) i
-          ++ Receipt v.to ((member old v.to).received + 1) v.from v.ssn (state-now i) false
-          ∷ sends-columns next old.config.members new.trace v.to (length (member old v.to).log) (step_of next old v).sends.items i)
+      ++ Receipt v.to ((member old v.to).received + 1) v.from v.ssn (state-now i) false
+      ∷ sends-columns next old.config.members new.trace v.to (length (member old v.to).log) (step_of next old v).sends.items i)
 
   pub gone_on : (columns : List Column) → IsHistoryOf next old columns → go_on_to next columns new ≡ columns ++ columns_added
   gone_on columns history =
@@ -79,8 +79,11 @@ module _ (next : Next ℕ Note) (old new : GroupRecord ℕ Note) (v : Message No
   made-added : receipts_made columns_added ≡ 1
   made-added =
       let sends = filter_map send_column (step_events v.to (length (member old v.to).log) (step_of next old v).sends.items) in
-      omega (arith, count-cons is_receipt (Receipt v.to ((member old v.to).received + 1) v.from v.ssn (step_of next old v).state false) sends,
-      made_none (step_events v.to (length (member old v.to).log) (step_of next old v).sends.items))
+      omega (
+        arith,
+        count-cons is_receipt (Receipt v.to ((member old v.to).received + 1) v.from v.ssn (step_of next old v).state false) sends,
+        made_none (step_events v.to (length (member old v.to).log) (step_of next old v).sends.items),
+      )
 
   pub follows_delivery : (columns : List Column) → IsHistoryOf next old columns → IsHistoryOf next new (go_on_to next columns new)
   follows_delivery columns history =

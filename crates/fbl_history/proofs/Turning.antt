@@ -97,12 +97,14 @@ module _ (next : Next ℕ Note) (r old new : GroupRecord ℕ Note) (members : Me
   -- a strike, and a recovery where there was one
   struck : (given : Option RecoveryRecord) (columns after : List Column) → StrikeLeads next old members given new → IsHistoryOf next old columns
       → IsAfterRecoveryRecord r members given (columns ++ Strike members ∷ []) after → IsAsStruck next new members given columns after × IsTurned next columns new after
-  struck None columns after led history is =
-      (is, record {
-        history = rw is (follows_strike next old new members columns led.1.1.0 history);
-        sound = struck-sound new led.0 led.1.1.0;
-        sends = λ follow. rw is (follow_push columns (Strike members) refl follow);
-      })
+  struck None columns after led history is = (
+    is,
+    record {
+      history = rw is (follows_strike next old new members columns led.1.1.0 history);
+      sound = struck-sound new led.0 led.1.1.0;
+      sends = λ follow. rw is (follow_push columns (Strike members) refl follow);
+    },
+  )
   struck (Some back) columns after (crash, told) history is =
       let down = crash.1.1.0 in
       let strike = crash.1.1.1.0 in
@@ -113,14 +115,16 @@ module _ (next : Next ℕ Note) (r old new : GroupRecord ℕ Note) (members : Me
       (λ m below. told.sent.each m (rw step.rest.config below)) (columns ++ Strike members ∷ []) history-down in
       let column = same-recovery r new (slice_index back.received.items) members is.0 have (rw (step.rest.config, strike.config) (within crash.0)) told.received.each is.1 in
       let same-as : IsAsStruck next new members (Some back) columns after = (is.0, column, is.2 ∙ ap (λ xs. xs ++ is.0 ∷ []) (sym gone)) in
-      let sound-new = group_recovery_keeps next down new step sound-down in
-      (same-as, record {
-        history = recovery.follows_recovery next down new members (columns ++ Strike members ∷ []) after sound-down step same-as history-down;
-        sound = sound-new;
-        sends = λ follow.
-            (let lies = recovery.recovery-lies new (λ m. (member new m).received) members is.0 column in
-            rw same-as.2 (follow_push _ is.0 lies.1 (follow_on next new (columns ++ Strike members ∷ []) sound-new (follow_push columns (Strike members) refl follow))));
-      })
+      let sound-new = group_recovery_keeps next down new step sound-down in (
+        same-as,
+        record {
+          history = recovery.follows_recovery next down new members (columns ++ Strike members ∷ []) after sound-down step same-as history-down;
+          sound = sound-new;
+          sends = λ follow.
+              (let lies = recovery.recovery-lies new (λ m. (member new m).received) members is.0 column in
+              rw same-as.2 (follow_push _ is.0 lies.1 (follow_on next new (columns ++ Strike members ∷ []) sound-new (follow_push columns (Strike members) refl follow))));
+        },
+      )
 
 -- a crash, where there was one
 crashed : (next : Next ℕ Note) (r old new : GroupRecord ℕ Note) (given : Option CrashRecord) (columns after : List Column) → IsSound next old → old.down ≡ set.empty → HaveSame r new

@@ -22,9 +22,11 @@ loop-start-preserved c =
     let send = event.Send start.from (sends_of (map mark_of done) start.from + 1) start.to start.note in
     let next = (rw (← c.start-item.is) at (at_drop_more (start_events done) c.starts-start-items.result.now c.loop-start.start-index start c.loop-start-test.true)) in (
       omega (arith, c.in_ok-push.ensures.len, so_far.0),
-      (done ++ send ∷ [],
-      c.in_ok-push.ensures.items ∙ (λ i. so_far.1.1 i ++ Send start.from (number i + 1) start.to false ∷ []) ∙ sym (filter_map-append send_column done (send ∷ [])),
-      sym next ∙ so_far.1.2),
+      (
+        done ++ send ∷ [],
+        c.in_ok-push.ensures.items ∙ (λ i. so_far.1.1 i ++ Send start.from (number i + 1) start.to false ∷ []) ∙ sym (filter_map-append send_column done (send ∷ [])),
+        sym next ∙ so_far.1.2,
+      ),
     )
 
 pub invariant_of-result : goal.invariant_of-result
