@@ -24,7 +24,7 @@ module _ (old new : Columns) (member column : ℕ) (sets : (q : ℕ) → column_
 
 module _ (entries : List Entry) (cut : Cut) (p : ℕ) (e : Entry) (m : ℕ) (here : slice_get entries p ≡ Some e) (own : entry_member e ≡ m) where
   own_more : seen entries (p + 1) m ≡ seen entries p m + 1
-  own_more = rw add-one (seen-own entries p e m here own)
+  own_more = rw (add-one p) (seen-own entries p e m here own)
 
   other_more : (q : ℕ) → q ≢ m → seen entries (p + 1) q ≡ seen entries p q
   other_more q apart = rw add-one (seen-other entries p e q here (λ same. apart (sym same ∙ own)))

@@ -31,7 +31,9 @@ IsCrossingOf members entries cut end member (Some column) = (member < members) �
 
 -- the columns before which the moment crosses the members' lines
 abbrev pub AreCrossings : ℕ → List Entry → Cut → Columns → Type 0
-AreCrossings members entries cut columns = (end : ℕ) × IsEnd entries cut (length entries) end × ((q : ℕ) → q < 16 → IsCrossingOf members entries cut end q (column_in columns q))
+AreCrossings members entries cut columns =
+    (end : ℕ) × IsEnd entries cut (length entries) end
+    × ((q : ℕ) → q < 16 → IsCrossingOf members entries cut end q (column_in columns q))
 
 -- ---- how they are found
 

@@ -22,13 +22,18 @@ use Rattle.fbl_pictures.specs.RunPictures.{column_in, path_shapes, placed_from, 
 abbrev pub dump_entries : Parts → List Entry
 dump_entries dump = map Event dump.events
 
+-- the numbers of the dump, and what is said of it
+abbrev pub dump_heading : Parts → List ℕ → List ℕ
+dump_heading dump words = heading dump.members dump.f (length dump.events) (codes "events") words
+
 -- ---- by its audit
 
 -- the steps of a path from a lost receipt to the member, if it is an orphan, and else none
 abbrev pub AreStepsTo : Parts → ℕ → List Shape → Type 0
 AreStepsTo dump member steps =
     (¬ (IsDumpOrphan dump member) × (steps ≡ []))
-    ⊎ ((path : List ℕ) × IsDumpOrphan dump member × IsOrphanPath dump member path × (steps ≡ path_shapes (placed_from 0 (dump_entries dump)) path))
+    ⊎ ((path : List ℕ) × IsDumpOrphan dump member × IsOrphanPath dump member path
+    × (steps ≡ path_shapes (placed_from 0 (dump_entries dump)) path))
 
 -- the steps of the path to each of these members, in their order
 abbrev pub ArePathsDrawn : Parts → List ℕ → List Shape → Type 0
@@ -54,8 +59,8 @@ abbrev pub IsAuditedPicture : Parts → List ℕ → Type 0
 IsAuditedPicture dump text =
     (orphans : Members) × ((q : ℕ) → (set.contains orphans q ≡ true) ↔ IsDumpOrphan dump q)
     × (shapes : List Shape) × AreShapesOf dump shapes
-    × (text ≡ picture (heading dump.members dump.f (length dump.events) (codes "events") (audit_words dump.strike (length (lost_determinants dump)) orphans)) dump.members
-    (length dump.events) Dump shapes)
+    × (text ≡ picture (dump_heading dump (audit_words dump.strike (length (lost_determinants dump)) orphans)) dump.members (length dump.events) Dump
+    shapes)
 
 -- ---- with the receipt that a check finds
 
@@ -67,8 +72,8 @@ IsFirstUnsafe dump found = (rest : List UnsafeReceipt) × SaysUnsafe dump (recei
 abbrev pub IsUnsafePicture : Parts → UnsafeReceipt → List ℕ → Type 0
 IsUnsafePicture dump found text =
     (shapes : List Shape) × AreFoundShapes dump (dump_entries dump) found NoColumns shapes
-    × (text ≡ picture (heading dump.members dump.f (length dump.events) (codes "events") (unsafe_words found.determinant None found.strike found.orphans)) dump.members
-    (length dump.events) UnsafeDump shapes)
+    × (text ≡ picture (dump_heading dump (unsafe_words found.determinant None found.strike found.orphans)) dump.members (length dump.events)
+    UnsafeDump shapes)
 
 -- ---- the whole
 

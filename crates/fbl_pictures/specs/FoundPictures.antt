@@ -43,16 +43,22 @@ AreSteps origin events orphans member steps =
 abbrev pub ArePaths : Origin → List Placed → Members → List ℕ → List Shape → Type 0
 ArePaths origin events orphans [] shapes = shapes ≡ []
 ArePaths origin events orphans (member ∷ members) shapes =
-    (steps : List Shape) × AreSteps origin events orphans member steps × (rest : List Shape) × ArePaths origin events orphans members rest × (shapes ≡ steps ++ rest)
+    (steps : List Shape) × AreSteps origin events orphans member steps × (rest : List Shape) × ArePaths origin events orphans members rest
+    × (shapes ≡ steps ++ rest)
+
+-- where paths begin, at a place of the dump
+abbrev pub from_place : Parts → ℕ → Origin
+from_place dump place = record { events = dump.events; place = place }
 
 -- the shapes of a run of which a check found this receipt, at a moment that stands before these columns
-pub record AreFoundShapes (dump : Parts) (entries : List Entry) (found : UnsafeReceipt) (IsMoment : Columns → Type 0) (shapes : List Shape) : Type 0 where
+pub record AreFoundShapes (dump : Parts) (entries : List Entry) (found : UnsafeReceipt) (IsMoment : Columns → Type 0) (shapes : List Shape)
+    : Type 0 where
   pub place : ℕ
   pub receipt : At dump.events place (receipt_of found.determinant)
   pub lines : Lines
   pub struck : lines.struck ≡ found.strike
-  pub starts : (q : ℕ) → q < 16 → IsStart (record { events = dump.events; place = place }) (placed_from 0 entries) found.orphans q (column_in lines.starts q)
+  pub starts : (q : ℕ) → q < 16 → IsStart (from_place dump place) (placed_from 0 entries) found.orphans q (column_in lines.starts q)
   pub moment : IsMoment lines.moment
   pub paths : List Shape
-  pub drawn : ArePaths (record { events = dump.events; place = place }) (placed_from 0 entries) found.orphans (range_with_len 0 dump.members) paths
+  pub drawn : ArePaths (from_place dump place) (placed_from 0 entries) found.orphans (range_with_len 0 dump.members) paths
   pub are : shapes ≡ run_shapes dump entries (Some found.determinant) lines paths

@@ -18,7 +18,8 @@ place_words (Some place) = codes " at " ++ decimal place
 -- what a check says of a receipt: what names it, at which place it is unsafe, the strike set that loses it, and the orphans
 abbrev pub unsafe_words : Determinant → Option ℕ → Members → Members → List ℕ
 unsafe_words d place strike orphans =
-    joined (codes "unsafe " ∷ decimal d.from ∷ codes " " ∷ decimal d.ssn ∷ codes " " ∷ decimal d.to ∷ codes " " ∷ decimal d.rsn ∷ place_words place ∷ [])
+    joined (codes "unsafe " ∷ decimal d.from ∷ codes " " ∷ decimal d.ssn ∷ codes " " ∷ decimal d.to ∷ codes " " ∷ decimal d.rsn ∷ place_words place
+    ∷ [])
     ++ joined (codes ", strike " ∷ set_words strike ∷ codes ", orphans " ∷ set_words orphans ∷ [])
 
 -- the numbers of the run: its members, f, and how many of these it has; and what is said of it

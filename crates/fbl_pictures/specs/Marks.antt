@@ -84,8 +84,8 @@ onward height (Some column) = joined (codes "L" ∷ decimal (before column) ∷ 
 -- the part of a moment's line at a member: across its line, from 30 above to 40 below, and on to 30 above the next one
 unfoldable pub drawn_moment : ℕ → ℕ → Option ℕ → List ℕ
 drawn_moment member column next =
-    line (codes "<path class='moment' d='M" ∷ decimal (before column) ∷ codes " " ∷ decimal (y member - 30) ∷ codes "V" ∷ decimal (y member + 40) ∷ onward (y member + 50) next
-    ∷ codes "'><title>the moment: what has come is on its left</title></path>" ∷ [])
+    line (codes "<path class='moment' d='M" ∷ decimal (before column) ∷ codes " " ∷ decimal (y member - 30) ∷ codes "V" ∷ decimal (y member + 40)
+    ∷ onward (y member + 50) next ∷ codes "'><title>the moment: what has come is on its left</title></path>" ∷ [])
 
 -- the numbers under a hold or a store: that of the receipt, and that of its receiver
 unfoldable pub numbers : ℕ → ℕ → Determinant → List ℕ
@@ -96,14 +96,14 @@ numbers column member d =
 -- a hold: half a circle under its member's line
 unfoldable pub drawn_hold : ℕ → ℕ → Determinant → List ℕ
 drawn_hold column member d =
-    joined (codes "<path class='hold' d='M" ∷ decimal (x column - 5) ∷ codes " " ∷ decimal (y member) ∷ codes "a5 5 0 0 0 10 0z'><title>member " ∷ decimal member ∷ codes " holds receipt " ∷ decimal d.rsn
-    ∷ codes " of member " ∷ decimal d.to ∷ codes "</title></path>\n" ∷ numbers column member d ∷ [])
+    joined (codes "<path class='hold' d='M" ∷ decimal (x column - 5) ∷ codes " " ∷ decimal (y member) ∷ codes "a5 5 0 0 0 10 0z'><title>member "
+    ∷ decimal member ∷ codes " holds receipt " ∷ decimal d.rsn ∷ codes " of member " ∷ decimal d.to ∷ codes "</title></path>\n" ∷ numbers column member d ∷ [])
 
 -- a store: a small square on its member's line
 unfoldable pub drawn_store : ℕ → ℕ → Determinant → List ℕ
 drawn_store column member d =
-    joined (codes "<rect class='store' x='" ∷ decimal (x column - 4) ∷ codes "' y='" ∷ decimal (y member - 4) ∷ codes "' width='8' height='8'><title>member " ∷ decimal member ∷ codes " stores receipt "
-    ∷ decimal d.rsn ∷ codes " of member " ∷ decimal d.to ∷ codes "</title></rect>\n" ∷ numbers column member d ∷ [])
+    joined (codes "<rect class='store' x='" ∷ decimal (x column - 4) ∷ codes "' y='" ∷ decimal (y member - 4)
+    ∷ codes "' width='8' height='8'><title>member " ∷ decimal member ∷ codes " stores receipt " ∷ decimal d.rsn ∷ codes " of member " ∷ decimal d.to ∷ codes "</title></rect>\n" ∷ numbers column member d ∷ [])
 
 -- a strike: a bolt on the line of a member that it strikes
 unfoldable pub drawn_strike : ℕ → ℕ → List ℕ

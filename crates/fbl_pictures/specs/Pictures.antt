@@ -10,18 +10,22 @@ use Rattle.fbl_pictures.specs.Words.{drawn_arrow, drawn_down_from, drawn_in_flig
 use Rattle.fbl_pictures.specs.Marks.{drawn_checkpoint, drawn_held_receipt, drawn_hold, drawn_moment, drawn_receipt, drawn_recovery, drawn_send, drawn_store, drawn_strike, joined}
 use Rattle.fbl_pictures.specs.Places.{height, width, y}
 
+-- the text of a mark that pictures of logs alone have; what is no such mark has none
+abbrev pub text_of_log_mark : Shape → List ℕ
+text_of_log_mark (Moment member column next) = drawn_moment member column next
+text_of_log_mark (Hold column member determinant) = drawn_hold column member determinant
+text_of_log_mark (Store column member determinant) = drawn_store column member determinant
+text_of_log_mark shape = []
+
 -- the text of a mark; what is no mark has none
 abbrev pub text_of_mark : Shape → List ℕ
 text_of_mark (Send column from ssn to undone) = drawn_send column from ssn to undone
 text_of_mark (Receipt column determinant state undone) = drawn_receipt column determinant state undone
 text_of_mark (Held column determinant kind holders) = drawn_held_receipt column determinant kind holders
-text_of_mark (Moment member column next) = drawn_moment member column next
-text_of_mark (Hold column member determinant) = drawn_hold column member determinant
-text_of_mark (Store column member determinant) = drawn_store column member determinant
 text_of_mark (Strike column member) = drawn_strike column member
 text_of_mark (Recovery column member receipts) = drawn_recovery column member receipts
 text_of_mark (Checkpoint column member) = drawn_checkpoint column member
-text_of_mark shape = []
+text_of_mark mark = text_of_log_mark mark
 
 -- the text of a shape
 abbrev pub text_of : Shape → List ℕ

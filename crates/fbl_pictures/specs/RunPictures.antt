@@ -134,7 +134,8 @@ orphan_line columns member (Some column) = shape.Line member (Some column) colum
 -- a member's label, its number again in a wide picture, and its lines
 abbrev pub member_shapes : ℕ → ℕ → Bool → Option ℕ → Option ℕ → List Shape
 member_shapes columns member struck start moment =
-    label_and_names columns member (Some (run_status struck start)) ++ member_line columns member struck moment ∷ [] ++ orphan_line columns member start
+    label_and_names columns member (Some (run_status struck start)) ++ member_line columns member struck moment ∷ []
+    ++ orphan_line columns member start
 
 abbrev pub shapes_of_member : ℕ → Lines → ℕ → List Shape
 shapes_of_member columns lines member =
@@ -182,7 +183,8 @@ step_between None b = None
 abbrev pub path_shapes : List Placed → List ℕ → List Shape
 path_shapes events [] = []
 path_shapes events (start ∷ []) = []
-path_shapes events (start ∷ end ∷ places) = option_to_list (step_between (slice_get events start) (slice_get events end)) ++ path_shapes events (end ∷ places)
+path_shapes events (start ∷ end ∷ places) =
+    option_to_list (step_between (slice_get events start) (slice_get events end)) ++ path_shapes events (end ∷ places)
 
 -- ---- the whole
 
@@ -193,4 +195,5 @@ lines_and_arrows members entries lines =
 
 -- these, over them paths, and over these the marks; `dump` has who holds what in the end
 unfoldable pub run_shapes : Parts → List Entry → Option Determinant → Lines → List Shape → List Shape
-run_shapes dump entries found lines paths = lines_and_arrows dump.members entries lines ++ paths ++ drawn (entry_marks dump entries found) 0 entries
+run_shapes dump entries found lines paths =
+    lines_and_arrows dump.members entries lines ++ paths ++ drawn (entry_marks dump entries found) 0 entries

@@ -3,7 +3,7 @@
 ghost use Rattle.std.specs.Prelude.{◌≡◌, ◌⊎◌, IfOk, MatchOption, string_bytes};
 ghost use Rattle.fbl_audit.specs.Checking.{IsSafe};
 ghost use Rattle.fbl_input.specs.Faults.{PutsOut};
-ghost use Rattle.fbl_pictures.specs.DumpPictures.{AreShapesOf, HasOrphan, IsAuditedPicture, IsFirstUnsafe, IsPicture, IsUnsafePicture, dump_entries};
+ghost use Rattle.fbl_pictures.specs.DumpPictures.{AreShapesOf, HasOrphan, IsAuditedPicture, IsFirstUnsafe, IsPicture, IsUnsafePicture, dump_entries, dump_heading as dump_heading_of};
 
 use crate::columns::Columns;
 use crate::entries::{Recorded, entries_of, placed_events};
@@ -20,6 +20,14 @@ use fbl_base::audit::{Audit, Dump};
 use fbl_input::{OutputFault, put};
 use std::alloc::{AllocError, Global};
 use std::io::Write;
+
+/// The heading of a picture of the dump: its numbers, and these words.
+fn dump_heading(alloc: Global, dump: &Dump, words: &str) -> Result<String, AllocError>
+    ensures { IfOk result (λ text. string_bytes text ≡ dump_heading_of dump.now words.now) }
+{
+    let count = dump.events().len();
+    heading(alloc, dump.members(), dump.f(), count, "events", words)
+}
 
 /// The shapes of a dump by its audit.
 fn audited_shapes(
@@ -55,23 +63,15 @@ fn audited_picture(alloc: Global, audit: &Audit, recorded: &Recorded) -> Result<
     ensures { IfOk result (λ text. IsAuditedPicture audit.now (string_bytes text)) }
 {
     let dump = audit.dump();
-    let count = dump.events().len();
     let lost = audit.lost(alloc)?;
     let words = audit_words(alloc, dump.strike(), lost.len(), audit.orphans())?;
-    let title = heading(
-        alloc,
-        dump.members(),
-        dump.f(),
-        count,
-        "events",
-        words.as_str(),
-    )?;
+    let title = dump_heading(alloc, dump, words.as_str())?;
     let shapes = audited_shapes(alloc, audit, recorded)?;
     picture_text(
         alloc,
         title.as_str(),
         dump.members(),
-        count,
+        dump.events().len(),
         Legend::Dump,
         shapes.as_slice(),
     )
@@ -89,22 +89,14 @@ fn unsafe_picture(
     ensures { IfOk result (λ text. IsUnsafePicture audit.now found.now (string_bytes text)) }
 {
     let dump = audit.dump();
-    let count = dump.events().len();
     let words = unsafe_words(alloc, &found.determinant, None, found.strike, found.orphans)?;
-    let title = heading(
-        alloc,
-        dump.members(),
-        dump.f(),
-        count,
-        "events",
-        words.as_str(),
-    )?;
+    let title = dump_heading(alloc, dump, words.as_str())?;
     let shapes = found_shapes(alloc, audit, recorded, found, Columns::none())?;
     picture_text(
         alloc,
         title.as_str(),
         dump.members(),
-        count,
+        dump.events().len(),
         Legend::UnsafeDump,
         shapes.as_slice(),
     )

@@ -1,5 +1,5 @@
-//! Pictures: what a history has, member by member, and dumps. Each is made of shapes, in a frame with a
-//! heading and a legend.
+//! Pictures: what a history has, member by member; dumps; and logs, at the first moment at which they are unsafe, or at their last one.
+//! Each is made of shapes, in a frame with a heading and a legend.
 #![tactic(auto)]
 
 mod columns;

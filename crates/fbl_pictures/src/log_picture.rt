@@ -1,13 +1,10 @@
 //! The picture of a log.
 
-ghost use Rattle.std.specs.Prelude.{◌≡◌, [], None, IfOk, string_bytes};
+ghost use Rattle.std.specs.Prelude.{◌≡◌, IfOk, string_bytes};
 ghost use Rattle.fbl_input.specs.Faults.{PutsOut};
 ghost use Rattle.fbl_moments.specs.LastMoments.{dump_of};
 ghost use Rattle.fbl_moments.specs.Unsafe.{IsSaidOf};
-ghost use Rattle.fbl_pictures.specs.FoundPictures.{NoColumns};
-ghost use Rattle.fbl_pictures.specs.LogPictures.{IsLogPicture, IsSafePicture, IsUnsafePicture};
-ghost use Rattle.fbl_pictures.specs.RunPictures.{run_shapes};
-ghost use Rattle.fbl_pictures.specs.declared.run_members.Lines.{Lines};
+ghost use Rattle.fbl_pictures.specs.LogPictures.{AreSafeShapes, AreUnsafeShapes, IsLogPicture, IsSafePicture, IsUnsafePicture, log_heading as log_heading_of};
 
 use crate::columns::Columns;
 use crate::cut::moment_columns;
@@ -26,9 +23,17 @@ use fbl_moments::{RunLog, UnsafeMoment, audit_log, last_dump, moment_reason, uns
 use std::alloc::{AllocError, Global};
 use std::io::Write;
 
+/// The heading of a picture of the log: its numbers, and these words.
+fn log_heading(alloc: Global, log: &RunLog, words: &str) -> Result<String, AllocError>
+    ensures { IfOk result (λ text. string_bytes text ≡ log_heading_of log.now words.now) }
+{
+    let count = log.entries().len();
+    heading(alloc, log.members(), log.f(), count, "entries", words)
+}
+
 /// The shapes of a log that is safe at each moment, at its last one.
 fn safe_shapes(alloc: Global, audit: &Audit, recorded: &Recorded) -> Result<Vec<Shape>, AllocError>
-    ensures { IfOk result (λ shapes. (lines : Lines) × (lines.struck ≡ audit.now.strike) × NoColumns lines.starts × NoColumns lines.moment × (shapes.items ≡ run_shapes audit.now recorded.now None lines [])) }
+    ensures { IfOk result (λ shapes. AreSafeShapes audit.now recorded.now shapes.items) }
 {
     let dump = audit.dump();
     let entries = recorded.entries();
@@ -58,26 +63,41 @@ fn safe_picture(
     requires recorded { recorded.now ≡ log.now.entries }
     ensures { IfOk result (λ text. IsSafePicture log.now (string_bytes text)) }
 {
-    let count = log.entries().len();
     let last = audit_log(alloc, log)?;
     let words = audit_words(alloc, log.strike(), last.lost.len(), last.orphans)?;
-    let title = heading(
-        alloc,
-        log.members(),
-        log.f(),
-        count,
-        "entries",
-        words.as_str(),
-    )?;
+    let title = log_heading(alloc, log, words.as_str())?;
     let shapes = safe_shapes(alloc, audit, recorded)?;
     picture_text(
         alloc,
         title.as_str(),
         log.members(),
-        count,
+        log.entries().len(),
         Legend::Log,
         shapes.as_slice(),
     )
+}
+
+/// The shapes of the log with what is said of one of its receipts.
+fn unsafe_shapes(
+    alloc: Global,
+    log: &RunLog,
+    audit: &Audit,
+    recorded: &Recorded,
+    said: &UnsafeMoment,
+) -> Result<Vec<Shape>, AllocError>
+    requires audit { audit.now ≡ dump_of log.now }
+    requires recorded { recorded.now ≡ log.now.entries }
+    requires said { IsSaidOf log.now said.now.determinant said.now }
+    ensures { IfOk result (λ shapes. AreUnsafeShapes log.now said.now shapes.items) }
+{
+    let reason = moment_reason(alloc, log, said)?;
+    let moment = moment_columns(log.members(), log.entries(), &reason.cut);
+    let found = UnsafeReceipt {
+        determinant: said.determinant,
+        strike: said.strike,
+        orphans: said.orphans,
+    };
+    found_shapes(alloc, audit, recorded, &found, moment)
 }
 
 /// The picture of the log with what is said of one of its receipts.
@@ -93,35 +113,15 @@ fn unsafe_picture(
     requires said { IsSaidOf log.now said.now.determinant said.now }
     ensures { IfOk result (λ text. IsUnsafePicture log.now said.now (string_bytes text)) }
 {
-    let count = log.entries().len();
-    let words = unsafe_words(
-        alloc,
-        &said.determinant,
-        Some(said.place),
-        said.strike,
-        said.orphans,
-    )?;
-    let title = heading(
-        alloc,
-        log.members(),
-        log.f(),
-        count,
-        "entries",
-        words.as_str(),
-    )?;
-    let reason = moment_reason(alloc, log, said)?;
-    let moment = moment_columns(log.members(), log.entries(), &reason.cut);
-    let found = UnsafeReceipt {
-        determinant: said.determinant,
-        strike: said.strike,
-        orphans: said.orphans,
-    };
-    let shapes = found_shapes(alloc, audit, recorded, &found, moment)?;
+    let place = Some(said.place);
+    let words = unsafe_words(alloc, &said.determinant, place, said.strike, said.orphans)?;
+    let title = log_heading(alloc, log, words.as_str())?;
+    let shapes = unsafe_shapes(alloc, log, audit, recorded, said)?;
     picture_text(
         alloc,
         title.as_str(),
         log.members(),
-        count,
+        log.entries().len(),
         Legend::UnsafeLog,
         shapes.as_slice(),
     )

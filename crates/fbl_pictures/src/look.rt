@@ -122,10 +122,10 @@ pub(crate) const LOG_LEGEND: &str =
 <path class='receipt lost' d='M514 -4m-7 -7l14 14m0 -14l-14 14'/><text class='note' x='530' y='0'>lost receipt: no member left holds it</text>
 <path class='message in-flight' d='M14 18h20'/><text class='note' x='40' y='22'>message in flight</text>
 <path class='receipt recorded' d='M204 18m-8 0l8 -8l8 8l-8 8z'/><text class='note' x='220' y='22'>recorded receipt: f or fewer hold it</text>
-<path class='hold' d='M509 17a5 5 0 0 0 10 0z'/><text class='note' x='530' y='22'>hold of a receipt, from here on</text>
+<path class='hold' d='M509 17a5 5 0 0 0 10 0z'/><text class='note' x='530' y='22'>hold of this receipt, from here on</text>
 <path class='line down' d='M14 40h20'/><text class='note' x='40' y='44'>struck member</text>
 <path class='line' d='M188 40h20'/><path class='tip' d='M204 35l10 5l-10 5z'/><text class='note' x='220' y='44'>message, from its send to its receipt</text>
-<rect class='store' x='510' y='36' width='8' height='8'/><text class='note' x='530' y='44'>store of a receipt, from here on</text>
+<rect class='store' x='510' y='36' width='8' height='8'/><text class='note' x='530' y='44'>store of this receipt, from here on</text>
 ";
 
 /// What the marks of a picture of a log at a moment at which a receipt is unsafe mean.
@@ -140,8 +140,8 @@ pub(crate) const UNSAFE_LOG_LEGEND: &str =
 <path class='line' d='M188 40h20'/><path class='tip' d='M204 35l10 5l-10 5z'/><text class='note' x='220' y='44'>message, from its send to its receipt</text>
 <path class='line path' d='M498 40h22'/><path class='path-tip' d='M515 34l12 6l-12 6z'/><text class='note' x='530' y='44'>path from that receipt to an orphan</text>
 <path class='line down' d='M14 62h20'/><text class='note' x='40' y='66'>struck from it on</text>
-<path class='hold' d='M199 61a5 5 0 0 0 10 0z'/><text class='note' x='220' y='66'>hold of a receipt, from here on</text>
-<rect class='store' x='510' y='58' width='8' height='8'/><text class='note' x='530' y='66'>store of a receipt, from here on</text>
+<path class='hold' d='M199 61a5 5 0 0 0 10 0z'/><text class='note' x='220' y='66'>hold of this receipt, from here on</text>
+<rect class='store' x='510' y='58' width='8' height='8'/><text class='note' x='530' y='66'>store of this receipt, from here on</text>
 ";
 
 /// How each class is drawn.

@@ -1,7 +1,7 @@
 //! Pictures: a frame with a heading and a legend, and in it the texts of shapes.
 
 ghost use Rattle.std.specs.Prelude.{◌≡◌, ◌++◌, IfOk, OnOk, string_bytes};
-ghost use Rattle.fbl_pictures.specs.Pictures.{ending, opening, picture, text_of, text_of_mark, texts_of};
+ghost use Rattle.fbl_pictures.specs.Pictures.{ending, opening, picture, text_of, text_of_log_mark, text_of_mark, texts_of};
 
 use crate::lines::{arrow_text, down_from_text, in_flight_text, label_text, line_text, name_text};
 use crate::look::{entries, look, more_look};
@@ -12,6 +12,30 @@ use crate::marks::{
 use crate::places::{height, width, y};
 use crate::shape::{Legend, Shape};
 use std::alloc::{AllocError, Global};
+
+/// The text of a mark that pictures of logs alone have. What is no such mark has none.
+fn log_mark_text(alloc: Global, shape: Shape) -> Result<String, AllocError>
+    ensures { IfOk result (λ text. string_bytes text ≡ text_of_log_mark shape) }
+{
+    match shape {
+        Shape::Moment {
+            member,
+            column,
+            next,
+        } => moment_text(alloc, member, column, next),
+        Shape::Hold {
+            column,
+            member,
+            determinant,
+        } => hold_text(alloc, column, member, &determinant),
+        Shape::Store {
+            column,
+            member,
+            determinant,
+        } => store_text(alloc, column, member, &determinant),
+        _ => Ok(String::new(alloc)),
+    }
+}
 
 /// The text of a mark. What is no mark has none.
 fn mark_text(alloc: Global, shape: Shape) -> Result<String, AllocError>
@@ -37,21 +61,6 @@ fn mark_text(alloc: Global, shape: Shape) -> Result<String, AllocError>
             kind,
             holders,
         } => held_text(alloc, column, &determinant, kind, holders),
-        Shape::Moment {
-            member,
-            column,
-            next,
-        } => moment_text(alloc, member, column, next),
-        Shape::Hold {
-            column,
-            member,
-            determinant,
-        } => hold_text(alloc, column, member, &determinant),
-        Shape::Store {
-            column,
-            member,
-            determinant,
-        } => store_text(alloc, column, member, &determinant),
         Shape::Strike { column, member } => strike_text(alloc, column, member),
         Shape::Recovery {
             column,
@@ -59,7 +68,7 @@ fn mark_text(alloc: Global, shape: Shape) -> Result<String, AllocError>
             receipts,
         } => recovery_text(alloc, column, member, receipts),
         Shape::Checkpoint { column, member } => checkpoint_text(alloc, column, member),
-        _ => Ok(String::new(alloc)),
+        mark => log_mark_text(alloc, mark),
     }
 }
 

@@ -1,10 +1,9 @@
 use Rattle.fbl_pictures.proofs.Common.{List, ◌≡◌, ◌∙◌, ap, length, subst, sym, Entry, IfOk-weaker, NoColumns, dump_entries, picture}
-use Rattle.std.specs.Prelude.{codes}
 use Rattle.fbl_base.specs.Events.{receipts}
 use Rattle.fbl_moments.specs.Entries.{marks}
 use Rattle.fbl_pictures.proofs.Finding.{Has-receipt, first_is, marks-map, weaker_moment}
+use Rattle.fbl_pictures.specs.DumpPictures.{dump_heading}
 use Rattle.fbl_pictures.specs.FoundPictures.{AreFoundShapes}
-use Rattle.fbl_pictures.specs.Headings.{heading}
 use Rattle.fbl_pictures.specs.declared.shape.Legend.TheVariants.{UnsafeDump}
 use Rattle.fbl_pictures.proofs.dump_picture.unsafe_picture.Goals as goal
 
@@ -30,13 +29,12 @@ returns c =
     let found = c.args.found.now in
     let is : c.dump-dump.result.now ≡ dump = c.dump-dump.ensures.dump in
     let words = c.as_str.ensures.value ∙ c.in_ok-words.ensures in
-    let count = ap length (c.events-count.ensures.events ∙ ap (λ d. d.events) is) in
+    let title = c.as_str-2.ensures.value ∙ c.in_ok-title.ensures ∙ (λ i. dump_heading (is i) (words i)) in
+    let count = ap length (c.events.ensures.events ∙ ap (λ d. d.events) is) in
     let members = c.members.ensures ∙ ap (λ d. d.members) is in
-    let f = c.f.ensures ∙ ap (λ d. d.f) is in
-    let title = c.as_str-2.ensures.value ∙ c.in_ok-title.ensures ∙ (λ i. heading (members i) (f i) (count i) (codes "events") (words i)) in
     let shapes = subst (λ (es : List Entry). AreFoundShapes dump es found (λ columns. columns ≡ c.none.result) c.in_ok-shapes.shapes.items) c.requires.recorded c.in_ok-shapes.ensures in
     IfOk-weaker c.picture_text.result _ _ (λ text drawn. (
       c.in_ok-shapes.shapes.items,
       weaker_moment dump (dump_entries dump) found (λ columns. columns ≡ c.none.result) NoColumns c.in_ok-shapes.shapes.items (λ columns same. rw same c.none.ensures) shapes,
-      drawn ∙ (λ i. picture (title i) ((c.members-2.ensures ∙ ap (λ d. d.members) is) i) (count i) UnsafeDump (c.as_slice.ensures.value i)),
+      drawn ∙ (λ i. picture (title i) (members i) (count i) UnsafeDump (c.as_slice.ensures.value i)),
     )) c.picture_text.ensures

@@ -1,67 +1,15 @@
-use Rattle.fbl_pictures.proofs.Common.{ℕ, List, ◌≡◌, ◌≤◌, ◌∙◌, ap, length, subst, sym, Entry, IfOk-weaker, picture}
-use Rattle.std.specs.Prelude.{codes}
-use Rattle.fbl_base.specs.Audit.{Parts}
-use Rattle.fbl_moments.specs.Clocks.{StandsAt}
-use Rattle.fbl_moments.specs.Entries.{log_of}
-use Rattle.fbl_moments.specs.LastMoments.{dump_of}
-use Rattle.fbl_moments.specs.Reasons.{cut_in}
-use Rattle.fbl_moments.specs.declared.check.UnsafeMoment.{UnsafeMoment}
-use Rattle.fbl_pictures.proofs.Finding.{weaker_moment}
-use Rattle.fbl_pictures.proofs.Moments.{least_within, orphans_depend, said_is_received}
-use Rattle.fbl_pictures.specs.Crossings.{AreCrossings}
-use Rattle.fbl_pictures.specs.FoundPictures.{AreFoundShapes}
-use Rattle.fbl_pictures.specs.Headings.{heading}
-use Rattle.fbl_pictures.specs.LogPictures.{found_in}
-use Rattle.fbl_pictures.specs.declared.columns.Columns.{Columns}
+use Rattle.fbl_pictures.proofs.Common.{◌∙◌, ap, length, IfOk-weaker, picture}
+use Rattle.fbl_pictures.specs.LogPictures.{log_heading}
 use Rattle.fbl_pictures.specs.declared.shape.Legend.TheVariants.{UnsafeLog}
 use Rattle.fbl_pictures.proofs.log_picture.unsafe_picture.Goals as goal
 
-pub moment_columns-moment-requires-clause-within : goal.moment_columns-moment-requires-clause-within
-moment_columns-moment-requires-clause-within c q =
-    let reason = c.in_ok-reason.ensures.reason in
-    let cut = cut_in c.in_ok-reason.reason.cut in
-    let within = least_within c.args.log.now.entries c.in_ok-reason.reason.said.place reason.said.shows.position cut reason.said.shows.stands reason.moment q in
-    subst (λ (es : List Entry). cut q ≤ length (log_of es q)) (sym c.entries.ensures.entries) within
-
-pub found_shapes-requires-clause-receipt : goal.found_shapes-requires-clause-receipt
-found_shapes-requires-clause-receipt c =
-    let log = c.args.log.now in
-    let said = c.args.said.now in
-    rw c.requires.audit (said_is_received log c.entries.ensures.rules said.determinant said c.requires.said)
-
-pub found_shapes-requires-clause-orphans : goal.found_shapes-requires-clause-orphans
-found_shapes-requires-clause-orphans c q orphan =
-    let log = c.args.log.now in
-    let said = c.args.said.now in
-    rw c.requires.audit (orphans_depend log c.entries.ensures.rules said.determinant said c.requires.said q orphan)
-
 pub returns : goal.returns
 returns c =
-    let log = c.args.log.now in
-    let said = c.args.said.now in
-    let reason = c.in_ok-reason.ensures.reason in
-    let is : c.in_ok-reason.reason.said ≡ said = c.in_ok-reason.ensures.said in
-    let position = reason.said.shows.position in
-    let cut = cut_in c.in_ok-reason.reason.cut in
-    let moment = c.moment_columns-moment.result in
-    let items = c.in_ok-shapes.shapes.items in
     let words = c.as_str.ensures.value ∙ c.in_ok-words.ensures in
-    let count = ap length c.entries-count.ensures.entries in
-    let title = c.as_str-2.ensures.value ∙ c.in_ok-title.ensures ∙ (λ i. heading (c.members.ensures i) (c.f.ensures i) (count i) (codes "entries") (words i)) in
-    let stands = subst (λ (s : UnsafeMoment). StandsAt log.entries s.place position) is reason.said.shows.stands in
-    let crossings : AreCrossings log.members log.entries cut moment =
-    subst (λ (n : ℕ). AreCrossings n log.entries cut moment) c.members-2.ensures
-    (subst (λ (es : List Entry). AreCrossings c.members-2.result es cut moment) c.entries.ensures.entries c.moment_columns-moment.ensures) in
-    let shapes = subst (λ (d : Parts). AreFoundShapes d log.entries (found_in said) (λ columns. columns ≡ moment) items) c.requires.audit
-    (subst (λ (es : List Entry). AreFoundShapes c.args.audit.now es (found_in said) (λ columns. columns ≡ moment) items) c.requires.recorded c.in_ok-shapes.ensures) in
-    let drawn = weaker_moment (dump_of log) log.entries (found_in said) (λ columns. columns ≡ moment) (AreCrossings log.members log.entries cut) items
-    (λ columns same. subst (λ (m : Columns). AreCrossings log.members log.entries cut m) (sym same) crossings) shapes in
-    IfOk-weaker c.picture_text.result _ _ (λ text is_text. (
-      position,
-      cut,
-      stands,
-      reason.moment,
-      items,
-      drawn,
-      is_text ∙ (λ i. picture (title i) (c.members-3.ensures i) (count i) UnsafeLog (c.as_slice.ensures.value i)),
+    let title = c.as_str-2.ensures.value ∙ c.in_ok-title.ensures ∙ ap (log_heading c.args.log.now) words in
+    let count = ap length c.entries.ensures.entries in
+    IfOk-weaker c.picture_text.result _ _ (λ text drawn. (
+      c.in_ok-shapes.shapes.items,
+      c.in_ok-shapes.ensures,
+      drawn ∙ (λ i. picture (title i) (c.members.ensures i) (count i) UnsafeLog (c.as_slice.ensures.value i)),
     )) c.picture_text.ensures
