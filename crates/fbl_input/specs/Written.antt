@@ -22,23 +22,26 @@ part_at (misfits.BadItem key place) d = option_and_then (at place) (get (name_of
 part_at (misfits.BadCommand place wanted) d = option_and_then (at place) (get (name_of keys.Commands) d)
 part_at fault d = None
 
--- the kind of an input that has the list of one kind, commands or events, and not that of the other; of events, by whether it has a
--- version
+-- the kind of an input that has the list of a script, commands, or that of a dump of either version, events, and not both
 abbrev pub kind_of : Json → Option InputKind
-kind_of d = by_keys (is_some (get (name_of keys.Commands) d)) (is_some (get (name_of keys.Events) d)) (is_some (get (name_of keys.Version) d))
+kind_of d = by_lists (is_some (get (name_of keys.Commands) d)) (is_some (get (name_of keys.Events) d))
   where
-    by_keys : Bool → Bool → Bool → Option InputKind
-    by_keys true false version = Some kinds.Script
-    by_keys false true true = Some kinds.Log
-    by_keys false true false = Some kinds.Dump
-    by_keys commands events version = None
+    by_lists : Bool → Bool → Option InputKind
+    by_lists true false = Some kinds.Script
+    by_lists false true = Some kinds.Dump
+    by_lists commands events = None
+
+-- whether it is a script, and not a dump of either version
+abbrev pub is_script : InputKind → Bool
+is_script kinds.Script = true
+is_script kind = false
 
 -- what is told of the value is so: the text of that part, without spaces, or nothing where there is no such part; or its kind,
 -- where it is another than the one that is wanted
 abbrev pub IsWrittenOf : InputKind → Misfit → Json → Detail → Type 0
 IsWrittenOf kind fault d (details.Written text) = (part : Json) × (part_at fault d ≡ Some part) × (string_bytes text ≡ print (json_tokens part))
 IsWrittenOf kind fault d details.Nothing = part_at fault d ≡ None
-IsWrittenOf kind fault d (details.OtherKind other) = (kind_of d ≡ Some other) × (other ≢ kind)
+IsWrittenOf kind fault d (details.OtherKind other) = (kind_of d ≡ Some other) × (is_script other ≢ is_script kind)
 IsWrittenOf kind fault d (details.NotJson stop) = ⊥
 
 abbrev pub IsNotJson : Misfit → Type 0

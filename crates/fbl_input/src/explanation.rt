@@ -36,18 +36,15 @@ pub struct Explanation<'a> {
     detail: Detail,
 }
 
-/// The kind of an input that has the list of a script, commands, or that of a dump, events, and not both. A dump that has a version is
-/// one of version 2.
+/// The kind of an input that has the list of a script, commands, or that of a dump of either version, events, and not both.
 fn kind_in(value: &Value<'_>) -> Option<InputKind>
     ensures { result ≡ kind_of (value_view value.now) }
 {
     let has_commands = value.get(Key::Commands.name()).is_some();
     let has_events = value.get(Key::Events.name()).is_some();
-    let has_version = value.get(Key::Version.name()).is_some();
-    match (has_commands, has_events, has_version) {
-        (true, false, _) => Some(InputKind::Script),
-        (false, true, true) => Some(InputKind::Log),
-        (false, true, false) => Some(InputKind::Dump),
+    match (has_commands, has_events) {
+        (true, false) => Some(InputKind::Script),
+        (false, true) => Some(InputKind::Dump),
         _ => None,
     }
 }
@@ -88,7 +85,9 @@ fn detail_in(
     ensures { IfOk result (IsWrittenOf kind misfit.now (value_view value.now)) }
 {
     match kind_in(value) {
-        Some(other) if other != kind => return Ok(Detail::OtherKind(other)),
+        Some(other) if other.is_script() != kind.is_script() => {
+            return Ok(Detail::OtherKind(other));
+        }
         _ => (),
     }
     match found_at(value, misfit) {
@@ -138,26 +137,17 @@ impl InputFault {
     }
 }
 
-/// Writes that the input is of this kind, and must be of another. A script may be meant as a dump of either version.
-fn write_other_kind<W: fmt::Write>(
-    f: &mut fmt::Formatter<W>,
-    found: InputKind,
-    wanted: InputKind,
-) -> fmt::Result {
-    let (name, readers) = match found {
-        InputKind::Script => ("script", "play and show"),
-        InputKind::Dump => ("dump", "audit, check and draw"),
-        InputKind::Log => ("dump of version 2", "audit, check and draw"),
-    };
-    let (other, keys) = match (wanted, found) {
-        (InputKind::Script, _) => ("script", InputKind::Script),
-        (_, InputKind::Script) => ("dump", InputKind::Dump),
-        (_, InputKind::Log) => ("dump without version", InputKind::Dump),
-        (_, InputKind::Dump) => ("dump of version 2", InputKind::Log),
+/// Writes that the input is of this kind, and must be of the other.
+fn write_other_kind<W: fmt::Write>(f: &mut fmt::Formatter<W>, found: InputKind) -> fmt::Result {
+    let (name, readers, other, wanted) = match found {
+        InputKind::Script => ("script", "play and show", "dump", InputKind::Dump),
+        InputKind::Dump | InputKind::Log => {
+            ("dump", "audit, check and draw", "script", InputKind::Script)
+        }
     };
     write!(
         f,
-        "the input is a {name}, which {readers} read, and must be a {other}: {keys}"
+        "the input is a {name}, which {readers} read, and must be a {other}: {wanted}"
     )
 }
 
@@ -221,7 +211,7 @@ impl fmt::Display for Explanation<'_> {
     fn fmt<W: fmt::Write>(&self, f: &mut fmt::Formatter<W>) -> fmt::Result {
         match &self.detail {
             Detail::Nothing => write_misfit(f, self.fault, "another value"),
-            Detail::OtherKind(found) => write_other_kind(f, *found, self.fault.kind),
+            Detail::OtherKind(found) => write_other_kind(f, *found),
             Detail::Written(text) => write_misfit(f, self.fault, text.as_str()),
             Detail::NotJson(stop) => {
                 write_misfit(f, self.fault, "")?;

@@ -26,6 +26,17 @@ pub enum InputKind {
 
 impl InputKind {
     ghost use Rattle.fbl_input.specs.Items.{known_keys};
+    ghost use Rattle.fbl_input.specs.Written.{is_script as is_script_of};
+
+    /// Whether it is a script, and not a dump of either version.
+    pub(crate) fn is_script(self) -> bool
+        ensures { result ≡ is_script_of self }
+    {
+        match self {
+            InputKind::Script => true,
+            InputKind::Dump | InputKind::Log => false,
+        }
+    }
 
     /// The keys that such an input may have.
     pub fn keys(self) -> &'static [Key]
@@ -49,7 +60,6 @@ impl InputKind {
     /// What is wanted at the key.
     pub fn wanted_at(self, key: Key) -> &'static str {
         match (key, self) {
-            (Key::Version, InputKind::Log) => "2, or no such key",
             (Key::Version, _) => "1 or 2",
             (Key::Members, _) => "a number 2 to 16",
             (Key::F, _) => "a number 1 to one less than members",

@@ -63,8 +63,8 @@ fn reads_a_log_before_its_rules_are_checked(rt: HostRuntime) -> Result<(), Fail>
 const FAULTS: &[(&str, &str, &str)] = &[
     (
         r#"{"version":3,"members":2,"f":1,"events":[],"strike":[]}"#,
-        "bad field version",
-        "version is 3, and must be 2, or no such key",
+        "bad field held",
+        r#"held is missing, and must be a list of pairs [holder, from, number of the send, to, number of the receipt]; the key "version" is unknown"#,
     ),
     (
         r#"{"version":2,"members":2,"f":1,"events":[["store",0,0,1,1]],"strike":[]}"#,
@@ -83,7 +83,7 @@ const FAULTS: &[(&str, &str, &str)] = &[
     ),
     (
         r#"{"version":1,"members":2,"f":1,"behaviour":"mix","start":[],"commands":[]}"#,
-        "bad field version",
+        "bad field events",
         "the input is a script, which play and show read, and must be a dump: a dump has members, f, events, held and strike",
     ),
     (

@@ -1,6 +1,6 @@
 -- The fault of an input that records a run, where what it gives is refused.
 use Rattle.std.proofs.Common.{◌≡◌, ℕ, ◌∙◌, ap, inr, refl, sym, subst, List, Ok, Err, Result, Bool, true, false}
-use Rattle.std.specs.Prelude.{is_some, if◌then◌else◌}
+use Rattle.std.specs.Prelude.{is_some, option_and_then, if◌then◌else◌}
 use Rattle.serde_json.specs.Find.{get}
 use Rattle.fbl_base.specs.Audit.{parts_of}
 use Rattle.fbl_base.specs.declared.fault.Breach.{Breach}
@@ -14,7 +14,7 @@ use Rattle.fbl_input.specs.declared.misfit.Misfit.TheVariants as misfits
 use Rattle.fbl_moments.specs.Logs.{IsLogBreach, LogParts, RefusesLog}
 use Rattle.fbl_moments.specs.declared.fault.LogBreach.{LogBreach}
 use Rattle.fbl_texts.proofs.Common.{Data, IsFirstFault, Parts, RefusesDump, RunFault, name_of, parts_of_data, refused, run_fault, value_of_input, ◌>>=◌}
-use Rattle.fbl_texts.specs.Logs.{IsMisfitOf, IsNotChecked, IsNotRecorded, IsOfRecorded, IsRecordedOf, RefusesRecorded, log_of_data, recorded_as, recorded_kind, recorded_of_data, recorded_of_input, recorded_parts}
+use Rattle.fbl_texts.specs.Logs.{IsMisfitOf, IsNotChecked, IsNotRecorded, IsOfRecorded, IsRecordedOf, RefusesRecorded, log_of_data, log_version, recorded_as, recorded_kind, recorded_of_data, recorded_of_input, recorded_parts}
 use Rattle.fbl_texts.specs.RawDumps.{IsRefusalOf}
 use Rattle.fbl_texts.specs.declared.reading.DumpInput.{DumpInput}
 use Rattle.fbl_texts.specs.declared.recorded.Checked.{Checked}
@@ -45,7 +45,7 @@ by_version true d found is = of_log (log_of_data d) found is
 by_version false d found is = of_dump (parts_of_data d) found is
 
 kind_is : (input : List ℕ) (found : Checked) → recorded_of_input input ≡ Ok found → (d : Data) → value_of_input input ≡ Ok d → kind_in found ≡ recorded_kind d
-kind_is input found is d spelled = by_version (is_some (get (name_of keys.Version) d)) d found (ap (λ v. v >>= recorded_of_data) (sym spelled) ∙ is)
+kind_is input found is d spelled = by_version (is_some (option_and_then log_version (get (name_of keys.Version) d))) d found (ap (λ v. v >>= recorded_of_data) (sym spelled) ∙ is)
 
 -- ---- refusals
 

@@ -1,5 +1,5 @@
 -- What an input records of a run, a dump or a log, or its first fault.
-use Rattle.std.specs.Prelude.{◌≡◌, ℕ, List, Option, is_some, Result, Ok, Err, if◌then◌else◌}
+use Rattle.std.specs.Prelude.{◌≡◌, ℕ, List, Option, is_some, option_and_then, Result, Ok, Err, if◌then◌else◌}
 use Rattle.serde_json.specs.Data.{Data}
 use Rattle.serde_json.specs.Find.{as_object, get}
 use Rattle.fbl_base.specs.declared.refusal.DumpRefusal.TheVariants as dump
@@ -42,9 +42,9 @@ log_of_data d = do
   strike ← field keys.Strike set_shape d
   if is_some (unknown_key kinds.Log d) then Err faults.UnknownKey else Ok (record { members = members; f = f; entries = entries; strike = strike })
 
--- what a value is read as: a log where it has a version, and else a dump
+-- what a value is read as: a log where its version is 2, and else a dump
 abbrev pub recorded_kind : Data → InputKind
-recorded_kind d = if is_some (get (name_of keys.Version) d) then kinds.Log else kinds.Dump
+recorded_kind d = if is_some (option_and_then log_version (get (name_of keys.Version) d)) then kinds.Log else kinds.Dump
 
 -- the parts of what a value of this kind records of a run, or its first fault
 abbrev pub recorded_as : InputKind → Data → Result Checked RunFault

@@ -69,7 +69,7 @@ impl JsonShape<Entry> for EntryShape {
 }
 
 /// The version of a log: the number 2.
-struct LogVersionShape;
+pub(crate) struct LogVersionShape;
 
 impl JsonShape<u8> for LogVersionShape {
     ghost use Rattle.fbl_texts.specs.Logs.{log_version};

@@ -1,16 +1,19 @@
 //! What an input records of a run: a dump, or a log, which is a dump of version 2.
 
-ghost use Rattle.std.specs.Prelude.{◌≡◌, ℕ, List, Ok, IfOk, IfErr, IfSome};
+ghost use Rattle.std.specs.Prelude.{◌≡◌, ℕ, List, option_and_then, Ok, IfOk, IfErr, IfSome};
+ghost use Rattle.serde_json.specs.Find.{get};
 ghost use Rattle.serde_json.specs.View.{view};
+ghost use Rattle.fbl_input.specs.Shapes.{name_of};
+ghost use Rattle.fbl_input.specs.declared.fault.Key.TheVariants.{Version};
 ghost use Rattle.fbl_input.specs.Misfits.{Gives, IsMisfit, IsOfShape};
 ghost use Rattle.fbl_texts.specs.RawDumps.{RefusesNone};
-ghost use Rattle.fbl_texts.specs.Logs.{IsCheckedOf, IsNotChecked, IsNotRecorded, IsMisfitOf, IsRecordedOf, ObeysRules, recorded_kind, recorded_of_data, recorded_of_input, recorded_parts};
+ghost use Rattle.fbl_texts.specs.Logs.{IsCheckedOf, IsNotChecked, IsNotRecorded, IsMisfitOf, IsRecordedOf, ObeysRules, recorded_kind, recorded_of_data, recorded_of_input, recorded_parts, log_version};
 
-use crate::log_reading::raw_log_of;
+use crate::log_reading::{LogVersionShape, raw_log_of};
 use crate::reading::{DumpInput, dump_of_input, raw_dump_of};
 use fbl_base::RawDump;
 use fbl_base::audit::Dump;
-use fbl_input::shapes::value_in;
+use fbl_input::shapes::{JsonShape, value_in};
 use fbl_input::{InputFault, InputKind, Key, Misfit, read_input};
 use fbl_moments::{RawLog, RunLog, checked_log};
 use serde_json::Value;
@@ -44,11 +47,18 @@ pub enum Checked {
     Log(RunLog),
 }
 
-/// What the value is read as: a log where it has a version, and else a dump.
+/// The version of a log, if the value has it.
+fn log_version_in(value: &Value) -> Option<u8>
+    ensures { result ≡ option_and_then log_version (get (name_of Version) (view value.now)) }
+{
+    LogVersionShape::in_value(value.get(Key::Version.name())?)
+}
+
+/// What the value is read as: a log where its version is 2, and else a dump.
 fn kind_of(value: &Value) -> InputKind
     ensures { result ≡ recorded_kind (view value.now) }
 {
-    match value.get(Key::Version.name()) {
+    match log_version_in(value) {
         Some(_) => InputKind::Log,
         None => InputKind::Dump,
     }
@@ -80,7 +90,7 @@ fn recorded_in(alloc: Global, input: &[u8]) -> Result<Recorded, (InputKind, Misf
     }
 }
 
-/// What the reader has, as one JSON object in the form of a log where it has the key `version`, and else in the form of a dump, or the
+/// What the reader has, as one JSON object in the form of a log where its `version` is 2, and else in the form of a dump, or the
 /// first fault of that form.
 pub fn read_recorded<R: Read>(alloc: Global, reader: &mut R) -> Result<RecordedInput, InputFault>
     ensures parts { IfOk result (λ found. IfSome (R.remaining reader.old) (λ input. IsRecordedOf input found)) }
