@@ -109,7 +109,7 @@ pub(crate) const UNSAFE_DUMP_LEGEND: &str =
 <path class='receipt lost' d='M474 -4m-7 -7l14 14m0 -14l-14 14'/><text class='note' x='496' y='0'>lost receipt: the struck alone hold it</text>
 <path class='message in-flight' d='M14 18h20'/><text class='note' x='40' y='22'>message in flight</text>
 <path class='receipt recorded' d='M204 18m-8 0l8 -8l8 8l-8 8z'/><text class='note' x='220' y='22'>recorded receipt: f or fewer hold it</text>
-<path class='line orphan' d='M460 18h28'/><text class='note' x='496' y='22'>orphan: depends on the unsafe receipt</text>
+<path class='line orphan' d='M460 18h28'/><text class='note' x='496' y='22'>orphan: depends on that receipt</text>
 <path class='line down' d='M14 40h20'/><text class='note' x='40' y='44'>struck member</text>
 <path class='line' d='M188 40h20'/><path class='tip' d='M204 35l10 5l-10 5z'/><text class='note' x='220' y='44'>message, from its send to its receipt</text>
 <path class='line path' d='M460 40h22'/><path class='path-tip' d='M477 34l12 6l-12 6z'/><text class='note' x='496' y='44'>path from that receipt to an orphan</text>
@@ -135,7 +135,7 @@ pub(crate) const UNSAFE_LOG_LEGEND: &str =
 <path class='receipt lost' d='M514 -4m-7 -7l14 14m0 -14l-14 14'/><text class='note' x='530' y='0'>lost receipt: the struck alone hold it</text>
 <path class='message in-flight' d='M14 18h20'/><text class='note' x='40' y='22'>message in flight</text>
 <path class='receipt recorded' d='M204 18m-8 0l8 -8l8 8l-8 8z'/><text class='note' x='220' y='22'>recorded receipt: f or fewer hold it</text>
-<path class='line orphan' d='M498 18h28'/><text class='note' x='530' y='22'>orphan: depends on the unsafe receipt</text>
+<path class='line orphan' d='M498 18h28'/><text class='note' x='530' y='22'>orphan: depends on that receipt</text>
 <path class='moment' d='M24 30v20'/><text class='note' x='40' y='44'>the moment</text>
 <path class='line' d='M188 40h20'/><path class='tip' d='M204 35l10 5l-10 5z'/><text class='note' x='220' y='44'>message, from its send to its receipt</text>
 <path class='line path' d='M498 40h22'/><path class='path-tip' d='M515 34l12 6l-12 6z'/><text class='note' x='530' y='44'>path from that receipt to an orphan</text>
