@@ -46,7 +46,7 @@ pub record IsMergedLog (whole log : LogParts) (places : List ℕ) : Type 0 where
   pub rules : IsLog log
   pub parts : log ≡ with_entries log.entries whole
   pub order : IsOrderOfEntries whole.members whole.entries log.entries
-  pub places : ArePlaces whole.entries log.entries places
+  pub given : ArePlaces whole.entries log.entries places
   pub kept : WellFormed whole.members (marks whole.entries) → log ≡ whole
   pub answers : AnswersAlike whole log
 

@@ -1,6 +1,6 @@
 //! Does what is asked for with the script or the dump that a reader has, or with dumps together.
 
-ghost use Rattle.std.specs.Prelude.{◌≡◌, ◌<◌, ◌≤◌, IfSome, length};
+ghost use Rattle.std.specs.Prelude.{◌≡◌, ◌<◌, ◌≤◌, [], IfSome, length};
 ghost use Rattle.fbl_input.specs.Faults.{PutsOut};
 ghost use Rattle.fbl_texts.specs.Scripts.{outline};
 ghost use Rattle.fbl_texts.specs.DumpLines.{dump_line};
