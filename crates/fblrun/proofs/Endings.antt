@@ -23,14 +23,14 @@ cut IsRight IsSeen f right before after e (Err x) same puts = rw same (puts_as I
 -- what several dumps are together is refused, whether for the fault or for want of memory to tell it
 pub merge_refused : {A : Type 0} (task : DumpTask) (dumps : List (RawDump A)) (known : Option (List ℕ)) (fault : MergeFault) (status : ℕ) → RefusesMerge dumps fault
     → (status ≡ merge_status fault) ⊎ (status ≡ 4) → EndsMerged task dumps known known status
-merge_refused task dumps known fault status refuses (inl is) = inr (fault, refuses, keeps_itself known, is)
-merge_refused task dumps known fault status refuses (inr is) = inr (faults.Parts parts.Memory, inl refl, keeps_itself known, is)
+merge_refused task dumps known fault status refuses (inl is) = inr (fault, refuses, (keeps_itself known, is))
+merge_refused task dumps known fault status refuses (inr is) = inr (faults.Parts parts.Memory, inl refl, (keeps_itself known, is))
 
 -- so are several logs
 pub log_merge_refused : (task : DumpTask) (logs : List RawLog) (names : List (List ℕ)) (known : Option (List ℕ)) (fault : MergeFault) (status : ℕ) → RefusesLogMerge logs fault
     → (status ≡ merge_status fault) ⊎ (status ≡ 4) → EndsLogs task logs names known known status
-log_merge_refused task logs names known fault status refuses (inl is) = inr (fault, refuses, keeps_itself known, is)
-log_merge_refused task logs names known fault status refuses (inr is) = inr (faults.Parts parts.Memory, inl refl, keeps_itself known, is)
+log_merge_refused task logs names known fault status refuses (inl is) = inr (fault, refuses, (keeps_itself known, is))
+log_merge_refused task logs names known fault status refuses (inr is) = inr (faults.Parts parts.Memory, inl refl, (keeps_itself known, is))
 
 -- an observer that keeps whether some command was refused
 module _ {O : Type 0} (has : O → Bool) where

@@ -1,6 +1,6 @@
 //! Does what is asked for with the script or the dump that a reader has, or with dumps together.
 
-ghost use Rattle.std.specs.Prelude.{◌≡◌, ◌<◌, ◌≤◌, [], IfSome, length};
+ghost use Rattle.std.specs.Prelude.{◌≡◌, ◌<◌, ◌≤◌, [], IfSome, length, map};
 ghost use Rattle.fbl_input.specs.Faults.{PutsOut};
 ghost use Rattle.fbl_texts.specs.Scripts.{outline};
 ghost use Rattle.fbl_texts.specs.DumpLines.{dump_line};
@@ -236,7 +236,7 @@ pub(crate) fn end_merged_logs<T: Eprint, W: Write>(
     writer: &mut Named<'_, W>,
 ) -> u8
     requires { 0 < length logs.now }
-    ensures { EndsLogs task logs.now names.now (W.contents writer.old.stream) (W.contents writer.new.stream) result }
+    ensures { EndsLogs task logs.now (map (λ name. name.now) names.now) (W.contents writer.old.stream) (W.contents writer.new.stream) result }
 {
     match merged_log(alloc, logs) {
         Ok(MergedLog { log, origins }) => {

@@ -31,10 +31,10 @@ returns-in_ok-write_log_picture-in-Draw g c = (let puts = c.in_ok-write_log_pict
 pub returns-in_err-write_line-in-Write : goal.returns-in_err-write_line-in-Write
 returns-in_err-write_line-in-Write g c =
     rw c.in-Write.is (cut (λ _ told. told ≡ c.as_str.result.now) (IsLogAnswer Write c.args.log.now c.args.sources.now) (λ _. true)
-    (λ _ _ is. (is ∙ c.as_str.ensures.value ∙ c.in_ok-line.ensures.line, refl)) _ _ _ _
+    (λ _ _ is. (is ∙ c.as_str.ensures.value ∙ c.in_ok-line-in-Write.ensures.line, refl)) _ _ _ _
     c.from_residual-in_err-write_line-in-Write.ensures.1 c.in_err-write_line-in-Write.ensures)
 
 pub returns-in_ok-write_line-in-Write : goal.returns-in_ok-write_line-in-Write
 returns-in_ok-write_line-in-Write g c =
     let puts = c.in_ok-write_line-in-Write.ensures in
-    rw c.in-Write.is (puts.0, (puts.1 ∙ c.as_str.ensures.value ∙ c.in_ok-line.ensures.line, refl), puts.2)
+    rw c.in-Write.is (puts.0, (puts.1 ∙ c.as_str.ensures.value ∙ c.in_ok-line-in-Write.ensures.line, refl), puts.2)

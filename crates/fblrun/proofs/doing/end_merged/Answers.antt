@@ -1,4 +1,4 @@
-use Rattle.fblrun.proofs.Common.{inl, parts}
+use Rattle.fblrun.proofs.Common.{inl}
 use Rattle.fblrun.proofs.Endings.{merge_refused}
 use Rattle.fblrun.proofs.doing.end_merged.Goals as goal
 

@@ -22,7 +22,7 @@ returns-in-Err-read_checked g c =
     let had = g.W.Write.contents c.args.writer.now.stream in
     let known = g.R.Read.remaining c.args.reader.now.stream in
     rw c.in-Dump.is (IfSome_then known c.in-Err-read_checked.ensures.fault
-    (λ input no. inr (c.in-Err-read_checked.fault, no, keeps_itself had, c.refuse_input-in-Err-read_checked.ensures)))
+    (λ input no. inr (c.in-Err-read_checked.fault, no, (keeps_itself had, c.refuse_input-in-Err-read_checked.ensures))))
 
 pub returns-in-Ok-read_recorded : goal.returns-in-Ok-read_recorded
 returns-in-Ok-read_recorded g c =
@@ -34,4 +34,4 @@ returns-in-Err-read_recorded g c =
     let had = g.W.Write.contents c.args.writer.now.stream in
     let known = g.R.Read.remaining c.args.reader.now.stream in
     rw c.in-Merged.is (IfSome_then known c.in-Err-read_recorded.ensures.fault
-    (λ input no. inr (c.in-Err-read_recorded.fault, no, keeps_itself had, c.refuse_input-in-Err-read_recorded.ensures)))
+    (λ input no. inr (c.in-Err-read_recorded.fault, no, (keeps_itself had, c.refuse_input-in-Err-read_recorded.ensures))))
