@@ -47,12 +47,12 @@ pub use Rattle.fbl_play.proofs.Moments.{unobserved}
 pub use Rattle.fbl_play.specs.Transcripts.{Transcript, text}
 pub use Rattle.fbl_texts.specs.Scripts.{IsScriptFault, IsScriptOf, Outline, behaviour_word, outline}
 pub use Rattle.fbl_texts.specs.declared.script.Command.{Command}
-pub use Rattle.fblrun.specs.Merging.{RefusesLogMerge, RefusesMerge, merge_status}
+pub use Rattle.fblrun.specs.Merging.{RefusesLogMerge, RefusesMerge, RefusesOrder, merge_status}
 pub use Rattle.fblrun.specs.Orders.{DoesScript, EndsLogs, EndsMerged, IsDumpAnswer, IsLogAnswer, IsShown, PlaysWell, is_well_after}
 pub use Rattle.fblrun.specs.declared.merging.MergeFault.{MergeFault}
 pub use Rattle.fblrun.specs.declared.DumpTask.{DumpTask}
 pub use Rattle.fbl_pictures.specs.DumpPictures.{IsPicture}
-pub use Rattle.fbl_moments.specs.Logs.{parts_of_log}
+pub use Rattle.fbl_moments.specs.Logs.{LogParts, parts_of_log}
 pub use Rattle.fbl_moments.specs.declared.log.RawLog.{RawLog}
 pub use Rattle.fbl_pictures.specs.LogPictures.{IsLogPicture}
 pub use Rattle.fbl_texts.specs.Auditing.{IsAuditText, IsChecked}

@@ -50,15 +50,25 @@ pub record IsMergedLog (whole log : LogParts) (places : List ℕ) : Type 0 where
   pub kept : WellFormed whole.members (marks whole.entries) → log ≡ whole
   pub answers : AnswersAlike whole log
 
+-- it has the whole's entries in an order, and for each of them the item that the whole has for it
+pub record IsOrderedFrom (whole : LogParts) (own : List EntryOrigin) (merged : MergedLog) : Type 0 where
+  pub places : List ℕ
+  pub log : IsMergedLog whole merged.log places
+  pub origins : merged.origins.items ≡ items_at own places
+
 -- the same of what the logs have together, and where each entry stands in its own log
 pub record IsLogMergeOf (logs : List RawLog) (merged : MergedLog) : Type 0 where
   pub whole : LogParts
   pub united : IsUnitedLog logs whole
-  pub places : List ℕ
-  pub log : IsMergedLog whole merged.log places
   pub own : List EntryOrigin
   pub are_own : AreOrigins logs own
-  pub origins : merged.origins.items ≡ items_at own places
+  pub ordered : IsOrderedFrom whole own merged
+
+-- the whole has no order, or breaks another rule; or memory ran out
+abbrev pub RefusesOrder : LogParts → MergeFault → Type 0
+RefusesOrder whole (faults.Log fault) = RefusesUnorderedLog whole fault
+RefusesOrder whole (faults.Parts parts.Memory) = Unit {0}
+RefusesOrder whole fault = ⊥
 
 -- the logs differ; or what they have together has no order, or breaks another rule; or memory ran out
 abbrev pub RefusesLogMerge : List RawLog → MergeFault → Type 0

@@ -1,7 +1,8 @@
 //! What several files record of a run, as one: what they have together, with the events in an order that obeys the rules.
 
 ghost use Rattle.std.specs.Prelude.{◌≡◌, ◌<◌, IfErr, IfOk, length};
-ghost use Rattle.fblrun.specs.Merging.{IsLogMergeOf, IsMergeOf, RefusesLogMerge, RefusesMerge, merge_status};
+ghost use Rattle.fbl_moments.specs.Logs.{parts_of_log};
+ghost use Rattle.fblrun.specs.Merging.{IsLogMergeOf, IsMergeOf, IsOrderedFrom, RefusesLogMerge, RefusesMerge, RefusesOrder, merge_status};
 
 use crate::{INPUT_FAULT, MEMORY_FAULT};
 use fbl_base::audit::Dump;
@@ -134,8 +135,7 @@ pub(crate) enum Together {
 }
 
 /// What these files record, where they are of one version.
-pub(crate) fn in_one_version(alloc: Global, files: Vec<Recorded>) -> Result<Together, MergeFault>
-{
+pub(crate) fn in_one_version(alloc: Global, files: Vec<Recorded>) -> Result<Together, MergeFault> {
     let mut dumps = Vec::new(alloc);
     let mut logs = Vec::new(alloc);
     for (part, recorded) in files.into_iter().enumerate() {
@@ -180,6 +180,16 @@ pub(crate) struct MergedLog {
     pub(crate) origins: Vec<EntryOrigin>,
 }
 
+/// The log with its entries in an order, and for each of them, in that order, what is given here for it.
+fn ordered_log(alloc: Global, whole: RawLog, own: Vec<EntryOrigin>) -> Result<MergedLog, MergeFault>
+    ensures merged { IfOk result (IsOrderedFrom (parts_of_log whole) own.items) }
+    ensures refused { IfErr result (RefusesOrder (parts_of_log whole)) }
+{
+    let OrderedLog { log, places } = order_log(alloc, whole)?;
+    let origins = at_places(alloc, own.as_slice(), places.as_slice())?;
+    Ok(MergedLog { log, origins })
+}
+
 /// The log of all parts together, its entries in an order in which each member's own stand as the parts have them, one part's
 /// behind another's.
 pub(crate) fn merged_log(alloc: Global, parts: &[RawLog]) -> Result<MergedLog, MergeFault>
@@ -188,9 +198,8 @@ pub(crate) fn merged_log(alloc: Global, parts: &[RawLog]) -> Result<MergedLog, M
     ensures refused { IfErr result (RefusesLogMerge parts.now) }
 {
     let UnitedLog { log, origins } = united_logs(alloc, parts)?;
-    let OrderedLog { log, places } = order_log(alloc, log)?;
-    let origins = at_places(alloc, origins.as_slice(), places.as_slice())?;
-    Ok(MergedLog { log, origins })
+    let merged = ordered_log(alloc, log, origins)?;
+    Ok(merged)
 }
 
 /// A place in the list of a file, and the file's name where there are several.

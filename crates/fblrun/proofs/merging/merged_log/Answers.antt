@@ -1,26 +1,36 @@
-use Rattle.fblrun.proofs.Common.{◌≡◌, Err, IfErr, IsErrAnd, List, MergeFault, Ok, RawLog, RefusesLogMerge, Result, parts_of_log, rules, subst, sym}
-use Rattle.fblrun.specs.declared.merging.MergeFault.TheVariants.{Log}
+use Rattle.fblrun.proofs.Common.{◌≡◌, Err, IfErr, IsErrAnd, List, LogParts, MergeFault, Ok, RawLog, RefusesLogMerge, RefusesOrder, Result, inl, parts_of_log, refl, subst, sym}
+use Rattle.fbl_order.specs.Parts.{IsUnitedLog}
+use Rattle.fbl_order.specs.declared.parts.PartsFault.TheVariants as parts
+use Rattle.fblrun.specs.declared.merging.MergeFault.TheVariants as faults
+use Rattle.fblrun.specs.Merging.{IsOrderedFrom}
 use Rattle.fblrun.proofs.merging.merged_log.Goals as goal
+
+-- the fault of the whole is one of the logs that it unites
+of_whole : (logs : List RawLog) (whole : LogParts) (fault : MergeFault) → IsUnitedLog logs whole → RefusesOrder whole fault → RefusesLogMerge logs fault
+of_whole logs whole (faults.Log fault) united refuses = (whole, united, refuses)
+of_whole logs whole (faults.Parts parts.Memory) united refuses = inl refl
+of_whole logs whole (faults.Parts (parts.Members part first other)) united refuses = absurd refuses
+of_whole logs whole (faults.Parts (parts.F part first other)) united refuses = absurd refuses
+of_whole logs whole (faults.Order fault) united refuses = absurd refuses
+of_whole logs whole (faults.Version part) united refuses = absurd refuses
 
 -- a fault that is passed on
 passed : {X : Type 0} (logs : List RawLog) (fault : MergeFault) (r : Result X MergeFault) → IsErrAnd r (λ e. e ≡ fault) → RefusesLogMerge logs fault → IfErr r (RefusesLogMerge logs)
 passed logs fault (Ok x) same refuses = tt
 passed logs fault (Err e) same refuses = subst (RefusesLogMerge logs) (sym same) refuses
 
-pub returns-in_err-log-2-clause-refused : goal.returns-in_err-log-2-clause-refused
-returns-in_err-log-2-clause-refused c =
-    passed c.args.parts.now (Log c.in_err-log-2.field-0.0) c.from_residual-in_err-log-2.result c.from_residual-in_err-log-2.ensures.1
-    (parts_of_log c.in_ok-log.log, c.in_ok-log.ensures.united, c.in_err-log-2.ensures.refused)
+pub returns-in_err-merged-clause-refused : goal.returns-in_err-merged-clause-refused
+returns-in_err-merged-clause-refused c =
+    let united = rw c.in_ok-log.log-is c.in_ok-log.ensures.united in
+    passed c.args.parts.now c.in_err-merged.field-0.0 c.from_residual-in_err-merged.result c.from_residual-in_err-merged.ensures.1
+    (of_whole c.args.parts.now (parts_of_log c.in_ok-log.log) c.in_err-merged.field-0.0 united c.in_err-merged.ensures.refused)
 
 pub returns-clause-merged : goal.returns-clause-merged
 returns-clause-merged c =
-    let found = c.in_ok-log-2.ensures in
     record {
       whole = parts_of_log c.in_ok-log.log;
-      united = c.in_ok-log.ensures.united;
-      places = c.in_ok-log-2.places.items;
-      log = record { rules = found.rules; parts = found.parts; order = found.order; given = found.places; kept = found.kept; answers = found.answers };
+      united = rw c.in_ok-log.log-is c.in_ok-log.ensures.united;
       own = c.in_ok-log.origins.items;
-      are_own = c.in_ok-log.ensures.origins;
-      origins = rules
+      are_own = rw c.in_ok-log.origins-is c.in_ok-log.ensures.origins;
+      ordered = c.in_ok-merged.ensures.merged;
     }
