@@ -9,8 +9,8 @@ use fbl_base::audit::Dump;
 use fbl_base::{Breach, DumpRefusal, MemberSet, PairFault, RawDump};
 use fbl_moments::{EntryOrigin, LogBreach, RawLog, RunLog};
 use fbl_order::{
-    LogOrderFault, Obstacle, OrderFault, OrderedLog, PartsFault, Stuck, UnitedLog, at_places,
-    order_dump, order_log, place_in_lists, united, united_logs,
+    LogOrderFault, Obstacle, OrderFault, OrderedLog, PartsFault, Stuck, at_places, order_dump,
+    order_log, place_in_lists, united, united_logs,
 };
 use fbl_texts::Recorded;
 use std::alloc::{AllocError, AllocFailed, Global};
@@ -197,8 +197,8 @@ pub(crate) fn merged_log(alloc: Global, parts: &[RawLog]) -> Result<MergedLog, M
     ensures merged { IfOk result (IsLogMergeOf parts.now) }
     ensures refused { IfErr result (RefusesLogMerge parts.now) }
 {
-    let UnitedLog { log, origins } = united_logs(alloc, parts)?;
-    let merged = ordered_log(alloc, log, origins)?;
+    let whole = united_logs(alloc, parts)?;
+    let merged = ordered_log(alloc, whole.log, whole.origins)?;
     Ok(merged)
 }
 

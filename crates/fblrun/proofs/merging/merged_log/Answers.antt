@@ -21,16 +21,15 @@ passed logs fault (Err e) same refuses = subst (RefusesLogMerge logs) (sym same)
 
 pub returns-in_err-merged-clause-refused : goal.returns-in_err-merged-clause-refused
 returns-in_err-merged-clause-refused c =
-    let united = rw c.in_ok-log.log-is c.in_ok-log.ensures.united in
-    passed c.args.parts.now c.in_err-merged.field-0.0 c.from_residual-in_err-merged.result c.from_residual-in_err-merged.ensures.1
-    (of_whole c.args.parts.now (parts_of_log c.in_ok-log.log) c.in_err-merged.field-0.0 united c.in_err-merged.ensures.refused)
+    passed c.args.parts.now c.in_err-merged.field-0.0 c.from_residual.result c.from_residual.ensures.1
+    (of_whole c.args.parts.now (parts_of_log c.in_ok-whole.whole.log) c.in_err-merged.field-0.0 c.in_ok-whole.ensures.united c.in_err-merged.ensures.refused)
 
 pub returns-clause-merged : goal.returns-clause-merged
 returns-clause-merged c =
     record {
-      whole = parts_of_log c.in_ok-log.log;
-      united = rw c.in_ok-log.log-is c.in_ok-log.ensures.united;
-      own = c.in_ok-log.origins.items;
-      are_own = rw c.in_ok-log.origins-is c.in_ok-log.ensures.origins;
+      whole = parts_of_log c.in_ok-whole.whole.log;
+      united = c.in_ok-whole.ensures.united;
+      own = c.in_ok-whole.whole.origins.items;
+      are_own = c.in_ok-whole.ensures.origins;
       ordered = c.in_ok-merged.ensures.merged;
     }
