@@ -21,7 +21,7 @@ passed logs fault (Err e) same refuses = subst (RefusesLogMerge logs) (sym same)
 
 pub returns-in_err-merged-clause-refused : goal.returns-in_err-merged-clause-refused
 returns-in_err-merged-clause-refused c =
-    passed c.args.parts.now c.in_err-merged.field-0.0 c.from_residual.result c.from_residual.ensures.1
+    passed c.args.parts.now c.in_err-merged.field-0.0 c.from_residual-in_err-merged.result c.from_residual-in_err-merged.ensures.1
     (of_whole c.args.parts.now (parts_of_log c.in_ok-whole.whole.log) c.in_err-merged.field-0.0 c.in_ok-whole.ensures.united c.in_err-merged.ensures.refused)
 
 pub returns-clause-merged : goal.returns-clause-merged
