@@ -6,7 +6,7 @@ ghost use Rattle.fbl_texts.specs.Scripts.{outline};
 ghost use Rattle.fbl_texts.specs.DumpLines.{dump_line};
 ghost use Rattle.fblrun.specs.Orders.{DoesScript, EndsLogs, EndsMerged, EndsRecorded, EndsWith, IsAnswer, IsDumpAnswer, IsLogAnswer, IsShown, Obeys, is_well_after};
 
-use crate::merging::{MergedLog, Parts, merged, merged_log};
+use crate::merging::{Parts, merged, merged_log};
 use crate::streams::Named;
 use crate::telling::{Teller, refuse_input, refuse_merge, tell_why};
 use crate::{DumpTask, Order, ScriptTask, Task, end};
@@ -239,10 +239,10 @@ pub(crate) fn end_merged_logs<T: Eprint, W: Write>(
     ensures { EndsLogs task logs.now (map (λ name. name.now) names.now) (W.contents writer.old.stream) (W.contents writer.new.stream) result }
 {
     match merged_log(alloc, logs) {
-        Ok(MergedLog { log, origins }) => {
-            let found = Checked::Log(log);
+        Ok(merged) => {
+            let found = Checked::Log(merged.log);
             let sources = Sources {
-                origins: origins.as_slice(),
+                origins: merged.origins.as_slice(),
                 names,
             };
             end_task(rt, alloc, task, explain, &found, &sources, writer)

@@ -3,7 +3,7 @@ use Rattle.fblrun.proofs.Endings.{log_merge_refused}
 use Rattle.fblrun.proofs.doing.end_merged_logs.Goals as goal
 
 pub returns-in-Ok : goal.returns-in-Ok
-returns-in-Ok g c = inl (c.in-Ok.field-0, c.in-Ok.ensures.merged, (_, (c.as_slice.ensures.value, refl), c.end_task.ensures))
+returns-in-Ok g c = inl (c.in-Ok.merged, c.in-Ok.ensures.merged, _, (c.as_slice.ensures.value, refl), c.end_task.ensures)
 
 pub returns-in-Err : goal.returns-in-Err
 returns-in-Err g c =
