@@ -1,6 +1,7 @@
 """Pictures read as XML, and those of dumps compared with the dumps."""
 import json
 from functools import lru_cache
+from typing import NamedTuple
 from xml.dom import minidom
 
 from hostile_parts.inputs import dumps
@@ -131,31 +132,51 @@ def names_of(picture):
     return [(part.firstChild.data, *numbers_of(part, "x", "y")) for part in picture.texts if sorts_of(part) == ["name"]]
 
 
-def is_picture_of(dump, picture, places, orphans):
-    """Whether the marks, the arrows, the names and the orphans' lines of the picture are those of the dump."""
+class Found(NamedTuple):
+    """What a check finds first: a determinant, the members whose loss loses it, and how many orphans these leave."""
+    determinant: list
+    strike: set
+    orphans: int
+
+
+def members_in(words):
+    return set() if words == "none" else set(map(int, words.split(",")))
+
+
+def found_first(check_text):
+    """What the first line of a check says, if it isn't safe."""
+    words = check_text.splitlines()[0].split()
+    return None if words == ["safe"] else Found([int(word) for word in words[1:5]], members_in(words[6]), len(members_in(words[8])))
+
+
+def is_picture_of(dump, picture, places, orphans, found=None):
+    """Whether the marks, the arrows, the names and the orphans' lines of the picture are those of the dump, or of what a check of it
+    found."""
     events, marks = dump["events"], picture.marks
+    strike, orphans = (found.strike, found.orphans) if found else (set(dump["strike"]), orphans)
     well = len(marks) == len(events)
     for column, (mark, event) in enumerate(zip(marks, events)):
         holders = {pair[0] for pair in dump["held"] if event[0] == "receipt" and pair[1:] == [event[3], event[4], event[1], event[2]]}
         well = well and mark_is(places, mark, column, event, holders)
-        well = well and (event[0] == "send" or sorts_of(mark) == ["receipt", kind_of(dump, holders)])
+        is_found = found is not None and event[0] == "receipt" and [event[3], event[4], event[1], event[2]] == found.determinant
+        well = well and (event[0] == "send" or sorts_of(mark) == ["receipt", "lost" if is_found else kind_of(dump, holders)])
     sends = [event for event in events if event[0] == "send"]
     well = well and len(picture.lines_of("message")) == len(sends)
     well = well and len(picture.stubs()) == 2 * len(sends) - len(events)
-    well = well and len(picture.lines_of("line", "down")) == len(dump["strike"])
+    well = well and len(picture.lines_of("line", "down")) == len(strike)
     well = well and len(picture.lines_of("line", "orphan")) == orphans
     # a path within one member's line has no arrow: it begins at a lost receipt of a member that is not struck
-    lost_here = any(sorts_of(mark)[-1] == "lost" and event[1] not in dump["strike"] for mark, event in zip(marks, events))
+    lost_here = any(sorts_of(mark)[-1] == "lost" and event[1] not in strike for mark, event in zip(marks, events))
     has_path = picture.lines_of("path") != []
     well = well and has_path <= (orphans > 0) and (lost_here or has_path == (orphans > 0))
     return well and places.have_names(names_of(picture), dump["members"], len(events))
 
 
-def try_picture(tally, places, name, given, orphans):
+def try_picture(tally, places, name, given, orphans, found=None):
     """The picture is XML, with what the dump has in it."""
     ran = run(["draw"], given)
     try:
-        well = is_picture_of(json.loads(given), Picture(ran.text), places, orphans)
+        well = is_picture_of(json.loads(given), Picture(ran.text), places, orphans, found)
     except Exception as error:
         tally.note(False, f"the picture of {name}: {error}: {ran}")
         return
@@ -166,7 +187,8 @@ def try_pictures(examples, tally):
     places = places_of_pictures()
     tally.note(places.are_in_order(), f"columns stand at {places.columns}, lines at {places.lines}")
     for example in dumps(examples):
-        orphans = example.text.splitlines()[-1].split()[1]
-        try_picture(tally, places, example.name, example.given, 0 if orphans == "none" else len(orphans.split(",")))
+        orphans = len(members_in(example.text.splitlines()[-1].split()[1]))
+        # where its own strike set leaves nobody as an orphan, what a check finds is drawn
+        try_picture(tally, places, example.name, example.given, orphans, None if orphans else found_first(example.check_text))
     for count in (0, 24, 25, 48, 49, 100, 8192):
         try_picture(tally, places, f"{count} sends", sends_alone(count), 0)
