@@ -11,7 +11,7 @@ use fbl_base::{
 use fbl_fixtures::first_receipt;
 use fbl_moments::{
     Entry, LogBreach, RawLog, RecordFault, RecordRule, RunLog, UnsafeMoment, audit_log,
-    checked_log, event_place, last_dump, moment_reason, moment_reasons, unsafe_moments,
+    checked_log, event_place, last_dump, moment_reasons, unsafe_moments,
 };
 use std::alloc::Global;
 use std::test::Fail;
@@ -131,10 +131,9 @@ fn is_refused(
     refusal: DumpRefusal,
     breach: LogBreach,
 ) -> Result<bool, Fail> {
-    match checked_log(alloc, raw_log(alloc, parts, strike)?) {
-        Ok(_) => Ok(false),
-        Err(found) => Ok(found == (refusal, breach)),
-    }
+    let raw = raw_log(alloc, parts, strike)?;
+    let found = checked_log(alloc, raw).err();
+    Ok(found == Some((refusal, breach)))
 }
 
 /// The first receipt at a place at which the member holds it alone that sent it on, and the next one is an orphan.
@@ -199,10 +198,6 @@ fn gives_the_reason(rt: HostRuntime) -> Result<(), Fail> {
         assert!(rt; reason.holders == only(1));
         assert!(rt; reason.next == Some(7));
         assert!(rt; reason.path.as_slice() == [1, 3, 4].as_slice());
-    }
-    for said in &unsafe_moments(alloc, &log)? {
-        let reason = moment_reason(alloc, &log, said)?;
-        assert!(rt; reason.said == *said && reason.next == Some(7));
     }
     Ok(())
 }
