@@ -19,7 +19,7 @@ use Rattle.fbl_moments.specs.Entries.{marks}
 use Rattle.fbl_pictures.specs.DumpPictures.{IsFirstUnsafe}
 use Rattle.fbl_pictures.specs.FoundPictures.{AreFoundShapes, column_of, column_of_end}
 use Rattle.fbl_pictures.specs.declared.columns.Columns.{Columns}
-use Rattle.fbl_pictures.specs.declared.shape.Shape.{Shape}
+use Rattle.fbl_shapes.specs.declared.shape.Shape.{Shape}
 use Rattle.fbl_pictures.specs.declared.entries.Placed.{Placed}
 
 -- ---- events and their columns

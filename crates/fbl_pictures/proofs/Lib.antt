@@ -5,6 +5,3 @@ pub mod Stores
 pub mod Finding
 pub mod Crossing
 pub mod Moments
-pub mod Lasts
-pub mod Layers
-pub mod HistoryLaws

@@ -11,8 +11,8 @@ use Rattle.fbl_audit.specs.declared.checking.UnsafeReceipt.{UnsafeReceipt}
 use Rattle.fbl_moments.specs.declared.entry.Entry.{Entry}
 use Rattle.fbl_moments.specs.declared.entry.Entry.TheVariants.{Event}
 use Rattle.fbl_pictures.specs.declared.run_members.Lines.{Lines}
-use Rattle.fbl_pictures.specs.declared.shape.Legend.TheVariants.{Dump, UnsafeDump}
-use Rattle.fbl_pictures.specs.declared.shape.Shape.{Shape}
+use Rattle.fbl_shapes.specs.declared.shape.Legend.TheVariants.{Dump, UnsafeDump}
+use Rattle.fbl_shapes.specs.declared.shape.Shape.{Shape}
 use Rattle.fbl_pictures.specs.FoundPictures.{AreFoundShapes, NoColumns}
 use Rattle.fbl_pictures.specs.Headings.{audit_words, heading, unsafe_words}
 use Rattle.fbl_pictures.specs.Pictures.{picture}

@@ -11,7 +11,7 @@ use Rattle.fbl_moments.specs.declared.entry.Entry.{Entry}
 use Rattle.fbl_pictures.specs.declared.columns.Columns.{Columns}
 use Rattle.fbl_pictures.specs.declared.entries.Placed.{Placed}
 use Rattle.fbl_pictures.specs.declared.run_members.Lines.{Lines}
-use Rattle.fbl_pictures.specs.declared.shape.Shape.{Shape}
+use Rattle.fbl_shapes.specs.declared.shape.Shape.{Shape}
 use Rattle.fbl_pictures.specs.RunPictures.{column_in, path_shapes, placed_from, run_shapes}
 
 -- there is none for any member

@@ -1,13 +1,8 @@
 pub mod Places
 pub mod Words
-pub mod Names
 pub mod Marks
 pub mod Pictures
-pub mod HistoryMembers
-pub mod HistoryMessages
-pub mod HistoryMarks
 pub mod HistoryPictures
-pub mod HistoryLaws
 pub mod RunPictures
 pub mod Headings
 pub mod FoundPictures

@@ -15,8 +15,8 @@ use Rattle.fbl_moments.specs.Moments.{Cut, IsLeastMoment}
 use Rattle.fbl_moments.specs.Runs.{AlwaysSafe}
 use Rattle.fbl_moments.specs.Unsafe.{SaysUnsafe}
 use Rattle.fbl_pictures.specs.declared.run_members.Lines.{Lines}
-use Rattle.fbl_pictures.specs.declared.shape.Legend.TheVariants.{Log, UnsafeLog}
-use Rattle.fbl_pictures.specs.declared.shape.Shape.{Shape}
+use Rattle.fbl_shapes.specs.declared.shape.Legend.TheVariants.{Log, UnsafeLog}
+use Rattle.fbl_shapes.specs.declared.shape.Shape.{Shape}
 use Rattle.fbl_pictures.specs.Crossings.{AreCrossings}
 use Rattle.fbl_pictures.specs.FoundPictures.{AreFoundShapes, NoColumns}
 use Rattle.fbl_pictures.specs.Headings.{audit_words, heading, unsafe_words}

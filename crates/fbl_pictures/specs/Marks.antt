@@ -5,8 +5,8 @@ use Rattle.std.specs.FinSet as set
 use Rattle.fbl_base.specs.declared.trace.Determinant.{Determinant}
 use Rattle.fbl_texts.specs.Lines.{line}
 use Rattle.fbl_texts.specs.Sets.{set_words}
-use Rattle.fbl_pictures.specs.declared.shape.Kind.{Kind}
-use Rattle.fbl_pictures.specs.declared.shape.Kind.TheVariants.{Stable, Recorded, Lost}
+use Rattle.fbl_shapes.specs.declared.shape.Kind.{Kind}
+use Rattle.fbl_shapes.specs.declared.shape.Kind.TheVariants.{Stable, Recorded, Lost}
 use Rattle.fbl_pictures.specs.Places.{before, below, x, y}
 use Rattle.fbl_pictures.specs.Words.{kind_class, receipts_word, words_if}
 

@@ -2,10 +2,10 @@
 use Rattle.std.specs.Prelude.{ℕ, ◌-◌, List, [], ◌∷◌, ◌++◌, codes, decimal}
 use Rattle.std.specs.List.{flat_map}
 use Rattle.fbl_pictures.specs.declared.look.TheConstants.{DUMP_LEGEND, HISTORY_LEGEND, LOG_LEGEND, LOG_LOOK, LOOK, UNSAFE_DUMP_LEGEND, UNSAFE_LOG_LEGEND}
-use Rattle.fbl_pictures.specs.declared.shape.Legend.{Legend}
-use Rattle.fbl_pictures.specs.declared.shape.Legend.TheVariants as legend
-use Rattle.fbl_pictures.specs.declared.shape.Shape.{Shape}
-use Rattle.fbl_pictures.specs.declared.shape.Shape.TheVariants.{Label, Name, Line, DownFrom, Arrow, InFlight, Send, Receipt, Held, Moment, Hold, Store, Strike, Recovery, Checkpoint}
+use Rattle.fbl_shapes.specs.declared.shape.Legend.{Legend}
+use Rattle.fbl_shapes.specs.declared.shape.Legend.TheVariants as legend
+use Rattle.fbl_shapes.specs.declared.shape.Shape.{Shape}
+use Rattle.fbl_shapes.specs.declared.shape.Shape.TheVariants.{Label, Name, Line, DownFrom, Arrow, InFlight, Send, Receipt, Held, Moment, Hold, Store, Strike, Recovery, Checkpoint}
 use Rattle.fbl_pictures.specs.Words.{drawn_arrow, drawn_down_from, drawn_in_flight, drawn_label, drawn_line, drawn_name}
 use Rattle.fbl_pictures.specs.Marks.{drawn_checkpoint, drawn_held_receipt, drawn_hold, drawn_moment, drawn_receipt, drawn_recovery, drawn_send, drawn_store, drawn_strike, joined}
 use Rattle.fbl_pictures.specs.Places.{height, width, y}

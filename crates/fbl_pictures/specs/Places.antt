@@ -1,8 +1,7 @@
--- Where shapes stand, counted from the left and from the top, and shapes in columns one after another.
-use Rattle.std.specs.Prelude.{ℕ, ◌+◌, ◌-◌, ◌*◌, ◌/◌, ◌%◌, ◌==◌, ◌&&◌, Bool, max, nat_lt, List, [], ◌∷◌, ◌++◌, Option, Some, None, if◌then◌else◌}
-use Rattle.fbl_pictures.specs.declared.shape.Legend.{Legend}
-use Rattle.fbl_pictures.specs.declared.shape.Legend.TheVariants as legend
-use Rattle.fbl_pictures.specs.declared.shape.Shape.{Shape}
+-- Where shapes stand, counted from the left and from the top.
+use Rattle.std.specs.Prelude.{ℕ, ◌+◌, ◌-◌, ◌*◌, ◌/◌, ◌%◌, ◌==◌, ◌&&◌, Bool, max, nat_lt, Option, Some, None, if◌then◌else◌}
+use Rattle.fbl_shapes.specs.declared.shape.Legend.{Legend}
+use Rattle.fbl_shapes.specs.declared.shape.Legend.TheVariants as legend
 
 -- where a column stands: before each that follows 24 others there is room for the members' names
 abbrev pub x : ℕ → ℕ
@@ -37,8 +36,3 @@ width columns = max (x columns + 30) 760
 abbrev pub height : ℕ → Legend → ℕ
 height members legend.UnsafeLog = y members + 84
 height members other = y members + 62
-
--- what is drawn of each of these in turn, the first of which stands in this column
-abbrev pub drawn : {A : Type 0} → (ℕ → A → List Shape) → ℕ → List A → List Shape
-drawn draw column [] = []
-drawn draw column (item ∷ items) = draw column item ++ drawn draw (column + 1) items

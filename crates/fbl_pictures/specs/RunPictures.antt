@@ -17,17 +17,17 @@ use Rattle.fbl_moments.specs.declared.entry.Entry.TheVariants.{Event, Hold, Stor
 use Rattle.fbl_pictures.specs.declared.columns.Columns.{Columns}
 use Rattle.fbl_pictures.specs.declared.entries.Placed.{Placed}
 use Rattle.fbl_pictures.specs.declared.run_members.Lines.{Lines}
-use Rattle.fbl_pictures.specs.declared.shape.ArrowKind.TheVariants as arrow_kind
-use Rattle.fbl_pictures.specs.declared.shape.Kind.{Kind}
-use Rattle.fbl_pictures.specs.declared.shape.Kind.TheVariants.{Stable, Recorded, Lost}
-use Rattle.fbl_pictures.specs.declared.shape.LineKind.TheVariants as line_kind
-use Rattle.fbl_pictures.specs.declared.shape.Shape.{Shape}
-use Rattle.fbl_pictures.specs.declared.shape.Shape.TheVariants as shape
-use Rattle.fbl_pictures.specs.declared.shape.Status.{Status}
-use Rattle.fbl_pictures.specs.declared.shape.Status.TheVariants.{Struck, Orphan, Up}
-use Rattle.fbl_pictures.specs.Names.{label_and_names}
-use Rattle.fbl_pictures.specs.Places.{drawn}
-use Rattle.fbl_pictures.specs.Words.{line_kind_of}
+use Rattle.fbl_shapes.specs.declared.shape.ArrowKind.TheVariants as arrow_kind
+use Rattle.fbl_shapes.specs.declared.shape.Kind.{Kind}
+use Rattle.fbl_shapes.specs.declared.shape.Kind.TheVariants.{Stable, Recorded, Lost}
+use Rattle.fbl_shapes.specs.declared.shape.LineKind.TheVariants as line_kind
+use Rattle.fbl_shapes.specs.declared.shape.Shape.{Shape}
+use Rattle.fbl_shapes.specs.declared.shape.Shape.TheVariants as shape
+use Rattle.fbl_shapes.specs.declared.shape.Status.{Status}
+use Rattle.fbl_shapes.specs.declared.shape.Status.TheVariants.{Struck, Orphan, Up}
+use Rattle.fbl_shapes.specs.Names.{label_and_names}
+use Rattle.fbl_shapes.specs.Shapes.{drawn}
+use Rattle.fbl_shapes.specs.Shapes.{line_kind_of}
 
 -- ---- receipts: of which kind each is by who holds it, and which message it takes
 

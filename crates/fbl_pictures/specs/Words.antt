@@ -1,14 +1,14 @@
 -- The words of shapes: what their classes and titles say; and the texts of labels, of lines and of arrows.
 use Rattle.std.specs.Prelude.{ℕ, ◌+◌, ◌-◌, ◌==◌, Bool, true, false, List, [], ◌∷◌, ◌++◌, Option, Some, None, codes, decimal, if◌then◌else◌}
 use Rattle.fbl_texts.specs.Lines.{line}
-use Rattle.fbl_pictures.specs.declared.shape.Status.{Status}
-use Rattle.fbl_pictures.specs.declared.shape.Status.TheVariants as status
-use Rattle.fbl_pictures.specs.declared.shape.LineKind.{LineKind}
-use Rattle.fbl_pictures.specs.declared.shape.LineKind.TheVariants as line_kind
-use Rattle.fbl_pictures.specs.declared.shape.ArrowKind.{ArrowKind}
-use Rattle.fbl_pictures.specs.declared.shape.ArrowKind.TheVariants as arrow_kind
-use Rattle.fbl_pictures.specs.declared.shape.Kind.{Kind}
-use Rattle.fbl_pictures.specs.declared.shape.Kind.TheVariants as kind
+use Rattle.fbl_shapes.specs.declared.shape.Status.{Status}
+use Rattle.fbl_shapes.specs.declared.shape.Status.TheVariants as status
+use Rattle.fbl_shapes.specs.declared.shape.LineKind.{LineKind}
+use Rattle.fbl_shapes.specs.declared.shape.LineKind.TheVariants as line_kind
+use Rattle.fbl_shapes.specs.declared.shape.ArrowKind.{ArrowKind}
+use Rattle.fbl_shapes.specs.declared.shape.ArrowKind.TheVariants as arrow_kind
+use Rattle.fbl_shapes.specs.declared.shape.Kind.{Kind}
+use Rattle.fbl_shapes.specs.declared.shape.Kind.TheVariants as kind
 use Rattle.fbl_pictures.specs.Places.{before, below, left, towards, x, y}
 
 -- these words, if so
@@ -22,11 +22,6 @@ status_words None = []
 status_words (Some status.Struck) = codes " struck"
 status_words (Some status.Orphan) = codes " orphan"
 status_words (Some status.Up) = codes " up"
-
--- how a part of a member's line is drawn where the member is down, and where it isn't
-abbrev pub line_kind_of : Bool → LineKind
-line_kind_of true = line_kind.Down
-line_kind_of false = line_kind.Up
 
 -- the class of a part of a member's line
 abbrev pub line_class : LineKind → List ℕ

@@ -13,7 +13,7 @@ use crate::run_events::{Receipts, push_marks};
 use crate::run_members::Lines;
 use crate::run_paths::{push_paths_to, starts_of};
 use crate::run_picture::lines_and_arrows;
-use crate::shape::Shape;
+use fbl_shapes::Shape;
 use fbl_audit::{Paths, UnsafeReceipt};
 use fbl_base::audit::Audit;
 use fbl_base::{Determinant, Mark};

@@ -1,10 +1,10 @@
 //! The lines of the members.
 
 ghost use Rattle.std.specs.Prelude.{◌≡◌, ◌++◌, ◌≤◌, OnOk, false};
-ghost use Rattle.fbl_pictures.specs.HistoryMembers.{is_back, is_down_after, line_parts, members_shapes};
+ghost use Rattle.fbl_shapes.specs.HistoryMembers.{is_back, is_down_after, line_parts, members_shapes};
 
 use crate::names::push_names;
-use crate::shape::{LineKind, Shape};
+use fbl_shapes::{LineKind, Shape};
 use fbl_base::Member;
 use fbl_history::{Column, Replay};
 use std::alloc::AllocError;

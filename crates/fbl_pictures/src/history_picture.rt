@@ -1,13 +1,14 @@
 //! The whole picture.
 
 ghost use Rattle.std.specs.Prelude.{◌≡◌, ◌≤◌, IfOk, string_bytes};
-ghost use Rattle.fbl_pictures.specs.HistoryPictures.{history_title, history_picture, history_shapes};
+ghost use Rattle.fbl_pictures.specs.HistoryPictures.{history_title, history_picture};
+ghost use Rattle.fbl_shapes.specs.HistoryShapes.{history_shapes};
 
 use crate::history_marks::push_marks;
 use crate::history_members::push_members;
 use crate::history_messages::{push_arrows, push_stubs};
 use crate::picture::picture_text;
-use crate::shape::{Legend, Shape};
+use fbl_shapes::{Legend, Shape};
 use crate::words::receipts_word;
 use fbl_history::{Column, receipts_made, receipts_undone};
 use std::alloc::{AllocError, Global};

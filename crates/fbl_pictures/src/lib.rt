@@ -12,7 +12,6 @@ mod history_marks;
 mod history_members;
 mod history_messages;
 mod history_picture;
-pub mod laws;
 mod lines;
 mod log_picture;
 mod look;
@@ -24,7 +23,6 @@ mod run_events;
 mod run_members;
 mod run_paths;
 mod run_picture;
-mod shape;
 mod words;
 
 pub use dump_picture::write_picture;

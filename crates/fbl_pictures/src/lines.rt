@@ -4,7 +4,7 @@ ghost use Rattle.std.specs.Prelude.{◌≡◌, IfOk, string_bytes};
 ghost use Rattle.fbl_pictures.specs.Words.{drawn_arrow, drawn_down_from, drawn_in_flight, drawn_label, drawn_line, drawn_name, segment};
 
 use crate::places::{before, below, left, towards, x, y};
-use crate::shape::{ArrowKind, LineKind, Status};
+use fbl_shapes::{ArrowKind, LineKind, Status};
 use crate::words::{in_flight_class, status_words};
 use fbl_base::Member;
 use std::alloc::{AllocError, Global};

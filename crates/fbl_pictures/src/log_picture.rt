@@ -15,7 +15,7 @@ use crate::picture::picture_text;
 use crate::run_events::{Receipts, push_marks};
 use crate::run_members::Lines;
 use crate::run_picture::lines_and_arrows;
-use crate::shape::{Legend, Shape};
+use fbl_shapes::{Legend, Shape};
 use fbl_audit::UnsafeReceipt;
 use fbl_base::audit::Audit;
 use fbl_input::{OutputFault, put};

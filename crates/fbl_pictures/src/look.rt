@@ -3,7 +3,7 @@
 ghost use Rattle.std.specs.Prelude.{◌≡◌};
 ghost use Rattle.fbl_pictures.specs.Pictures.{drawn_legend, look as look_of, more_look as more_look_of};
 
-use crate::shape::Legend;
+use fbl_shapes::Legend;
 
 /// How each class is drawn, in light and in dark, and the tips of arrows. All of it is under one class and behind one prefix,
 /// so that another picture or a page has nothing of the same name.

@@ -4,7 +4,7 @@ ghost use Rattle.std.specs.Prelude.{◌≡◌, ◌<◌, IfOk, length, string_byt
 ghost use Rattle.fbl_pictures.specs.Marks.{drawn_checkpoint, cross, drawn_held_receipt, drawn_hold, drawn_moment, number, numbers, onward, drawn_receipt, receipt_words, drawn_recovery, drawn_send, drawn_store, drawn_strike, stroke};
 
 use crate::places::{before, below, x, y};
-use crate::shape::Kind;
+use fbl_shapes::Kind;
 use crate::words::{receipts_word, words_if};
 use fbl_base::{Determinant, Member, MemberSet};
 use fbl_texts::set_text;

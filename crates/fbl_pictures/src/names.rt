@@ -2,9 +2,9 @@
 
 ghost use Rattle.std.specs.Prelude.{◌≡◌, ◌++◌, OnOk};
 ghost use Rattle.std.specs.Option.{option_to_list};
-ghost use Rattle.fbl_pictures.specs.Names.{label_and_names};
+ghost use Rattle.fbl_shapes.specs.Names.{label_and_names};
 
-use crate::shape::{Shape, Status};
+use fbl_shapes::{Shape, Status};
 use fbl_base::Member;
 use std::alloc::AllocError;
 

@@ -10,7 +10,7 @@ use crate::marks::{
     store_text, strike_text,
 };
 use crate::places::{height, width, y};
-use crate::shape::{Legend, Shape};
+use fbl_shapes::{Legend, Shape};
 use std::alloc::{AllocError, Global};
 
 /// The text of a mark that pictures of logs alone have. What is no such mark has none.

@@ -2,10 +2,10 @@
 
 ghost use Rattle.std.specs.Prelude.{◌≡◌, ◌++◌, IfOk, OnOk};
 ghost use Rattle.fbl_pictures.specs.RunPictures.{IsPlacesOf, entry_arrow, entry_mark, entry_marks, event_arrow, event_mark, kind_in, kind_of, message_arrow, taken_by, taken_in};
-ghost use Rattle.fbl_pictures.specs.Places.{drawn};
+ghost use Rattle.fbl_shapes.specs.Shapes.{drawn};
 
 use crate::entries::Recorded;
-use crate::shape::{ArrowKind, Kind, Shape};
+use fbl_shapes::{ArrowKind, Kind, Shape};
 use fbl_base::audit::Audit;
 use fbl_base::{Determinant, Mark, Member, MessageName};
 use fbl_moments::Entry;

@@ -6,7 +6,7 @@ ghost use Rattle.fbl_pictures.specs.RunPictures.{column_in, member_line, member_
 
 use crate::columns::Columns;
 use crate::names::{push_any, push_names};
-use crate::shape::{LineKind, Shape, Status};
+use fbl_shapes::{LineKind, Shape, Status};
 use fbl_base::{Member, MemberSet};
 use std::alloc::AllocError;
 

@@ -8,12 +8,12 @@ ghost use Rattle.fbl_audit.specs.Paths.{IsPathTo};
 ghost use Rattle.fbl_pictures.specs.RunPictures.{column_in, path_shapes, placed_from, step_between as step_between_of, step_shape};
 ghost use Rattle.fbl_pictures.specs.DumpPictures.{ArePathsDrawn, dump_entries};
 ghost use Rattle.fbl_pictures.specs.FoundPictures.{ArePaths, IsStart, column_of_end};
-ghost use Rattle.fbl_pictures.specs.declared.shape.Shape.{Shape};
+ghost use Rattle.fbl_shapes.specs.declared.shape.Shape.{Shape};
 
 use crate::columns::Columns;
 use crate::entries::Placed;
 use crate::names::push_any;
-use crate::shape::{ArrowKind, LineKind, Shape};
+use fbl_shapes::{ArrowKind, LineKind, Shape};
 use fbl_audit::{Paths, orphan_path};
 use fbl_base::audit::Audit;
 use fbl_base::{Member, MemberSet};

@@ -2,9 +2,10 @@
 
 ghost use Rattle.std.specs.Prelude.{◌≡◌};
 ghost use Rattle.fbl_pictures.specs.Marks.{drawn_outline};
-ghost use Rattle.fbl_pictures.specs.Words.{arrow_class, in_flight_class as in_flight_class_of, kind_class, line_class, line_kind_of, receipts_word as receipts_word_of, status_words as status_words_of, words_if as words_if_of};
+ghost use Rattle.fbl_pictures.specs.Words.{arrow_class, in_flight_class as in_flight_class_of, kind_class, line_class, receipts_word as receipts_word_of, status_words as status_words_of, words_if as words_if_of};
+ghost use Rattle.fbl_shapes.specs.Shapes.{line_kind_of};
 
-use crate::shape::{ArrowKind, Kind, LineKind, Status};
+use fbl_shapes::{ArrowKind, Kind, LineKind, Status};
 
 /// These words, if so.
 pub(crate) fn words_if(condition: bool, words: &'static str) -> &'static str

@@ -1,5 +1,5 @@
-use Rattle.fbl_pictures.proofs.HistoryLaws.{has_arrow_from_its_send, is_dashed_while_down, marks_each_event}
-use Rattle.fbl_pictures.proofs.laws.history_law.Goals as goal
+use Rattle.fbl_shapes.proofs.HistoryLaws.{has_arrow_from_its_send, is_dashed_while_down, marks_each_event}
+use Rattle.fbl_shapes.proofs.laws.history_law.Goals as goal
 
 pub returns : goal.returns
 returns c = record {

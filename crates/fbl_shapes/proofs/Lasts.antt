@@ -1,5 +1,5 @@
 -- The last place that passes a test.
-use Rattle.fbl_pictures.proofs.Common.{ℕ, zero, suc, ◌<◌, ◌≤◌, ◌≡◌, ◌⊎◌, Bool, true, false, cond, inl, inr, Option, Some, None, refl, sym, ap, ◌∙◌, arith, cases_lt, last_before, later}
+use Rattle.fbl_shapes.proofs.Common.{ℕ, zero, suc, ◌<◌, ◌≤◌, ◌≡◌, ◌⊎◌, Bool, true, false, cond, inl, inr, Option, Some, None, refl, sym, ap, ◌∙◌, arith, cases_lt, last_before, later}
 
 -- it passes the test, and none behind it does
 pub last_is : (test : ℕ → Bool) (place t : ℕ) → last_before test place ≡ Some t

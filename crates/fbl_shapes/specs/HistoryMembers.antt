@@ -6,10 +6,10 @@ use Rattle.std.specs.FinSet as set
 use Rattle.fbl_history.specs.declared.column.Column.{Column}
 use Rattle.fbl_history.specs.declared.column.Column.TheVariants as columns
 use Rattle.fbl_history.specs.declared.column.Replay.{Replay}
-use Rattle.fbl_pictures.specs.declared.shape.Shape.{Shape}
-use Rattle.fbl_pictures.specs.declared.shape.Shape.TheVariants as shapes
-use Rattle.fbl_pictures.specs.Names.{label_and_names}
-use Rattle.fbl_pictures.specs.Words.{line_kind_of}
+use Rattle.fbl_shapes.specs.declared.shape.Shape.{Shape}
+use Rattle.fbl_shapes.specs.declared.shape.Shape.TheVariants as shapes
+use Rattle.fbl_shapes.specs.Names.{label_and_names}
+use Rattle.fbl_shapes.specs.Shapes.{line_kind_of}
 
 -- whether a member is among those that came back
 abbrev pub is_back : ℕ → List Replay → Bool

@@ -3,16 +3,16 @@
 use Rattle.fbl_base.specs.MemberSets.{member_list}
 use Rattle.fbl_history.specs.declared.column.Column.TheVariants as columns
 use Rattle.fbl_base.specs.declared.trace.Determinant.{Determinant}
-use Rattle.fbl_pictures.specs.HistoryPictures.{history_shapes}
-use Rattle.fbl_pictures.specs.declared.shape.ArrowKind.{ArrowKind}
-use Rattle.fbl_pictures.specs.declared.shape.LineKind.{LineKind}
-use Rattle.fbl_pictures.specs.declared.shape.Shape.TheVariants as shapes
-use Rattle.fbl_pictures.specs.declared.shape.Status.{Status}
-use Rattle.fbl_pictures.proofs.Common.{ℕ, zero, suc, ◌+◌, ◌*◌, ◌/◌, ◌<◌, ◌≡◌, ◌≢◌, ◌||◌, Bool, true, false, cond, List, [], ◌∷◌, ◌++◌, map, Option, Some, None, slice_get, filter, filter-append}
+use Rattle.fbl_shapes.specs.HistoryShapes.{history_shapes}
+use Rattle.fbl_shapes.specs.declared.shape.ArrowKind.{ArrowKind}
+use Rattle.fbl_shapes.specs.declared.shape.LineKind.{LineKind}
+use Rattle.fbl_shapes.specs.declared.shape.Shape.TheVariants as shapes
+use Rattle.fbl_shapes.specs.declared.shape.Status.{Status}
+use Rattle.fbl_shapes.proofs.Common.{ℕ, zero, suc, ◌+◌, ◌*◌, ◌/◌, ◌<◌, ◌≡◌, ◌≢◌, ◌||◌, Bool, true, false, cond, List, [], ◌∷◌, ◌++◌, map, Option, Some, None, slice_get, filter, filter-append}
 use Rattle.std.proofs.lemmas.List.FromFn.{length-range_with_len}
-use Rattle.fbl_pictures.proofs.Common.{append-nil, slice_get-get_or, flat_map, range_with_len, refl, ap, ◌∙◌, arith, length, option_to_list, Column, Shape, MessageName, arrow_between, arrow_from, back_before}
-use Rattle.fbl_pictures.proofs.Common.{column_marks, drawn, has_standing_receipt, history_member_shapes, is_down_after, label_and_names, last_sent, line_kind_of, line_parts, members_shapes}
-use Rattle.fbl_pictures.proofs.Common.{nat_lt, arrow_kind, receipt_arrow, recovery_mark, sent_before, strike_mark, stub, stub_where}
+use Rattle.fbl_shapes.proofs.Common.{append-nil, slice_get-get_or, flat_map, range_with_len, refl, ap, ◌∙◌, arith, length, option_to_list, Column, Shape, MessageName, arrow_between, arrow_from, back_before}
+use Rattle.fbl_shapes.proofs.Common.{column_marks, drawn, has_standing_receipt, history_member_shapes, is_down_after, label_and_names, last_sent, line_kind_of, line_parts, members_shapes}
+use Rattle.fbl_shapes.proofs.Common.{nat_lt, arrow_kind, receipt_arrow, recovery_mark, sent_before, strike_mark, stub, stub_where}
 
 -- what is drawn of each number, seen as drawn in columns
 numbers-drawn : (f : ℕ → List Shape) (k n : ℕ) → flat_map f (range_with_len k n) ≡ drawn (λ q _. f q) k (range_with_len k n)

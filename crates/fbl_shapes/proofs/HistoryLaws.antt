@@ -2,18 +2,17 @@
 -- while the member is down.
 use Rattle.fbl_base.specs.MemberSets.{member_list}
 use Rattle.fbl_history.specs.declared.column.Column.TheVariants as columns
-use Rattle.fbl_pictures.specs.declared.shape.Shape.TheVariants as shapes
-use Rattle.fbl_pictures.specs.HistoryLaws.{is_arrow_to, is_before, is_dashed, is_mark_in, leads_to, mark_of_event, ComesFromItsSend, HasArrowFromItsSend, IsDashedWhileDown, IsDownBefore}
-use Rattle.fbl_pictures.specs.HistoryLaws.{IsLastSend, IsRecoveredAt, IsSentAgainAt, IsSentAt, IsStruckAt, MarksEachEvent}
-use Rattle.fbl_pictures.proofs.Common.{ℕ, zero, suc, ◌+◌, ◌<◌, ◌≤◌, ◌≡◌, ◌⊎◌, ◌↔◌, not, Bool, true, false, cond, inl, inr, List, [], ◌∷◌, length, take, get_or, Option, Some, None}
-use Rattle.fbl_pictures.proofs.Common.{slice_get, beq, fold, slice_get-get_or, get_or_from_slice_get, subst, filter, max, refl, sym, ap, ◌∙◌, append-nil, arith, cases_lt, lt-ltb, le-ltb, eqb-self, ne_eqb}
-use Rattle.fbl_pictures.proofs.Common.{or_left, or_right, option_to_list, Decides-and, Decides-not, Decides-or, Column, Shape, ReceiptsFollowSends, arrow_between, arrow_kind}
-use Rattle.fbl_pictures.proofs.Common.{back_before, brings_back, column_marks, history_member_shapes, is_back, is_comeback, is_down_after, label_and_names, last_sent, later, line_kind_of, line_parts}
-use Rattle.fbl_pictures.proofs.Common.{receipt_arrow, recovery_mark, sends, sent_before, strike_mark, strikes}
-use Rattle.fbl_pictures.proofs.Indexing.{Decides-same_message}
-use Rattle.fbl_pictures.proofs.Lasts.{last_is, last_some, later_is}
-use Rattle.fbl_pictures.proofs.Layers.{IsNoEvent, arrow_none, arrows_none, drawn_one, filter_map_none, filter_none, filter_nothing, layers, mark_none, marks_none, members_none, names_none, numbers_one, parts_none, stubs_none}
-use Rattle.fbl_pictures.proofs.Steps.{agree, fold_more}
+use Rattle.fbl_shapes.specs.declared.shape.Shape.TheVariants as shapes
+use Rattle.fbl_shapes.specs.HistoryLaws.{is_arrow_to, is_before, is_dashed, is_mark_in, leads_to, mark_of_event, ComesFromItsSend, HasArrowFromItsSend, IsDashedWhileDown, IsDownBefore}
+use Rattle.fbl_shapes.specs.HistoryLaws.{IsLastSend, IsRecoveredAt, IsSentAgainAt, IsSentAt, IsStruckAt, MarksEachEvent}
+use Rattle.fbl_shapes.proofs.Common.{ℕ, zero, suc, ◌+◌, ◌<◌, ◌≤◌, ◌≡◌, ◌⊎◌, ◌↔◌, not, Bool, true, false, cond, inl, inr, List, [], ◌∷◌, length, take, get_or, Option, Some, None}
+use Rattle.fbl_shapes.proofs.Common.{slice_get, beq, fold, slice_get-get_or, get_or_from_slice_get, subst, filter, max, refl, sym, ap, ◌∙◌, append-nil, arith, cases_lt, lt-ltb, le-ltb, eqb-self, ne_eqb}
+use Rattle.fbl_shapes.proofs.Common.{or_left, or_right, option_to_list, Decides-and, Decides-not, Decides-or, Column, Shape, ReceiptsFollowSends, arrow_between, arrow_kind}
+use Rattle.fbl_shapes.proofs.Common.{back_before, brings_back, column_marks, history_member_shapes, is_back, is_comeback, is_down_after, label_and_names, last_sent, later, line_kind_of, line_parts}
+use Rattle.fbl_shapes.proofs.Common.{receipt_arrow, recovery_mark, sends, sent_before, strike_mark, strikes}
+use Rattle.fbl_shapes.proofs.Lasts.{last_is, last_some, later_is}
+use Rattle.fbl_shapes.proofs.Layers.{IsNoEvent, arrow_none, arrows_none, drawn_one, filter_map_none, filter_none, filter_nothing, layers, mark_none, marks_none, members_none, names_none, numbers_one, parts_none, stubs_none}
+use Rattle.fbl_shapes.proofs.Columns.{agree, fold_more, Decides-same_message}
 
 -- ---- events
 

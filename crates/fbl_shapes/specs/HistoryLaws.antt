@@ -5,12 +5,12 @@ use Rattle.std.specs.List.{filter}
 use Rattle.std.specs.FinSet as set
 use Rattle.fbl_history.specs.declared.column.Column.{Column}
 use Rattle.fbl_history.specs.declared.column.Column.TheVariants as columns
-use Rattle.fbl_pictures.specs.declared.shape.LineKind.TheVariants as line_kinds
-use Rattle.fbl_pictures.specs.declared.shape.Shape.{Shape}
-use Rattle.fbl_pictures.specs.declared.shape.Shape.TheVariants as shapes
-use Rattle.fbl_pictures.specs.HistoryMembers.{is_back}
-use Rattle.fbl_pictures.specs.HistoryMessages.{arrow_kind}
-use Rattle.fbl_pictures.specs.HistoryPictures.{history_shapes}
+use Rattle.fbl_shapes.specs.declared.shape.LineKind.TheVariants as line_kinds
+use Rattle.fbl_shapes.specs.declared.shape.Shape.{Shape}
+use Rattle.fbl_shapes.specs.declared.shape.Shape.TheVariants as shapes
+use Rattle.fbl_shapes.specs.HistoryMembers.{is_back}
+use Rattle.fbl_shapes.specs.HistoryMessages.{arrow_kind}
+use Rattle.fbl_shapes.specs.HistoryShapes.{history_shapes}
 
 -- ---- events
 

@@ -1,9 +1,9 @@
 -- A member's names.
 use Rattle.std.specs.Prelude.{ℕ, ◌+◌, ◌*◌, ◌/◌, List, ◌∷◌, Option, map}
 use Rattle.std.specs.List.{range_with_len}
-use Rattle.fbl_pictures.specs.declared.shape.Shape.{Shape}
-use Rattle.fbl_pictures.specs.declared.shape.Shape.TheVariants.{Label, Name}
-use Rattle.fbl_pictures.specs.declared.shape.Status.{Status}
+use Rattle.fbl_shapes.specs.declared.shape.Shape.{Shape}
+use Rattle.fbl_shapes.specs.declared.shape.Shape.TheVariants.{Label, Name}
+use Rattle.fbl_shapes.specs.declared.shape.Status.{Status}
 
 -- a member's label, and its name again after each 24 columns
 abbrev pub names : ℕ → ℕ → List Shape

@@ -5,8 +5,8 @@ use Rattle.fbl_base.specs.MemberSets.{member_list}
 use Rattle.fbl_history.specs.declared.column.Column.{Column}
 use Rattle.fbl_history.specs.declared.column.Replay.{Replay}
 use Rattle.fbl_history.specs.declared.column.Column.TheVariants as columns
-use Rattle.fbl_pictures.specs.declared.shape.Shape.{Shape}
-use Rattle.fbl_pictures.specs.declared.shape.Shape.TheVariants as shapes
+use Rattle.fbl_shapes.specs.declared.shape.Shape.{Shape}
+use Rattle.fbl_shapes.specs.declared.shape.Shape.TheVariants as shapes
 
 abbrev pub strike_mark : ℕ → ℕ → Shape
 strike_mark place member = shapes.Strike place member

@@ -6,12 +6,12 @@ use Rattle.std.specs.Option.{option_to_list}
 use Rattle.fbl_base.specs.Events.{is_message}
 use Rattle.fbl_history.specs.declared.column.Column.{Column}
 use Rattle.fbl_history.specs.declared.column.Column.TheVariants as columns
-use Rattle.fbl_pictures.specs.declared.shape.ArrowKind.{ArrowKind}
-use Rattle.fbl_pictures.specs.declared.shape.ArrowKind.TheVariants as arrows
-use Rattle.fbl_pictures.specs.declared.shape.Shape.{Shape}
-use Rattle.fbl_pictures.specs.declared.shape.Shape.TheVariants as shapes
+use Rattle.fbl_shapes.specs.declared.shape.ArrowKind.{ArrowKind}
+use Rattle.fbl_shapes.specs.declared.shape.ArrowKind.TheVariants as arrows
+use Rattle.fbl_shapes.specs.declared.shape.Shape.{Shape}
+use Rattle.fbl_shapes.specs.declared.shape.Shape.TheVariants as shapes
 use Rattle.fbl_base.specs.declared.trace.MessageName.{MessageName}
-use Rattle.fbl_pictures.specs.HistoryMembers.{brings_back}
+use Rattle.fbl_shapes.specs.HistoryMembers.{brings_back}
 
 -- the last place before this one that passes the test
 abbrev pub last_before : (ℕ → Bool) → ℕ → Option ℕ
