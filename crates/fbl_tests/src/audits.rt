@@ -2,28 +2,13 @@
 
 ghost use Rattle.std.specs.Prelude.{◌<◌};
 
+use crate::orders::{receipt, round, send};
 use fbl_audit::{orphan_path, orphan_starts};
 use fbl_base::audit::{Audit, check_dump, lost, orphans};
 use fbl_base::{Determinant, Mark, Member, MemberSet, RawDump};
 use fbl_fixtures::{Example, member, refuse_each, set};
 use std::alloc::{AllocError, Allocator, Global};
 use std::test::Fail;
-
-fn send(from: u8, ssn: u32, to: u8) -> Mark
-    requires from { from < 16 }
-    requires to { to < 16 }
-{
-    let (from, to) = (Member::at(from), Member::at(to));
-    Mark::Send { from, ssn, to }
-}
-
-fn receipt(to: u8, rsn: u32, from: u8, ssn: u32) -> Mark
-    requires to { to < 16 }
-    requires from { from < 16 }
-{
-    let (to, from) = (Member::at(to), Member::at(from));
-    Mark::Receipt { to, rsn, from, ssn }
-}
 
 /// The member holds the determinant of the receipt with this sender, send number, receiver and receipt number.
 fn pair(holder: u8, from: u8, ssn: u32, to: u8, rsn: u32) -> (Member, Determinant)
@@ -52,20 +37,8 @@ fn dump_of<A: Allocator + Copy>(
     })
 }
 
-/// The events of a message that goes once round a group of three.
-fn round() -> [Mark; 6] {
-    [
-        send(0, 1, 1),
-        receipt(1, 1, 0, 1),
-        send(1, 1, 2),
-        receipt(2, 1, 1, 1),
-        send(2, 1, 0),
-        receipt(0, 1, 2, 1),
-    ]
-}
-
-/// The dump of that message, with or without the pair by which member 2 holds the first receipt, with members struck: whether that
-/// receipt is lost then, and the orphans.
+/// The dump of a message that goes once round a group of three, with or without the pair by which member 2 holds the first receipt, with
+/// members struck: whether that receipt is lost then, and the orphans.
 #[derive(Clone, Copy)]
 struct Audited {
     has_pair: bool,

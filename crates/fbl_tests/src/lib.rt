@@ -10,8 +10,6 @@ mod audits;
 #[cfg(test)]
 mod group;
 #[cfg(test)]
-mod logs;
-#[cfg(test)]
 mod merged_logs;
 #[cfg(test)]
 mod moments;

@@ -2,13 +2,10 @@
 
 use crate::moments::{event, first, hold, raw_log, second, store};
 use crate::orders::{receipt, send};
-use fbl_base::{Breach, DumpRefusal, Member, MemberSet};
+use fbl_base::{Member, MemberSet};
 use fbl_fixtures::first_receipt;
-use fbl_moments::{Entry, EntryOrigin, LogBreach, RawLog, RecordFault, RecordRule, unsafe_moments};
-use fbl_order::{
-    LogOrderFault, Obstacle, OrderedLog, PartsFault, Stuck, UnitedLog, at_places, order_log,
-    united_logs,
-};
+use fbl_moments::{Entry, EntryOrigin, RawLog, unsafe_moments};
+use fbl_order::{OrderedLog, UnitedLog, at_places, order_log, united_logs};
 use std::alloc::Global;
 use std::test::Fail;
 
@@ -72,101 +69,5 @@ fn orders_logs_of_members(rt: HostRuntime) -> Result<(), Fail> {
     let place = moments.first().map(|moment| moment.place).ok_or("safe")?;
     let origin = EntryOrigin { log: 2, place: 1 };
     assert!(rt; origins.get(place) == Some(&origin));
-    Ok(())
-}
-
-/// Entries whose sends and receipts obey the rules stay as they stand, also where a hold is listed late.
-#[test]
-fn leaves_a_log_in_its_order(rt: HostRuntime) -> Result<(), Fail> {
-    let alloc = rt.alloc();
-    let late = [
-        event(send(0, 1, 1)),
-        event(receipt(1, 1, 0, 1)),
-        event(send(0, 2, 2)),
-        hold(1, first()),
-    ];
-    let ordered = order_log(alloc, log(alloc, &late)?).ok().ok_or("refused")?;
-    assert!(rt; ordered.log.entries() == late.as_slice());
-    assert!(rt; ordered.places.as_slice() == [0, 1, 2, 3].as_slice());
-    Ok(())
-}
-
-/// Whether the log is refused for this.
-fn is_refused(alloc: Global, raw: RawLog, refusal: DumpRefusal, breach: LogBreach) -> bool {
-    match &order_log(alloc, raw) {
-        Err(LogOrderFault::Log(found, why)) => *found == refusal && *why == breach,
-        _ => false,
-    }
-}
-
-/// A member holds a determinant that no message can have brought.
-#[test]
-fn names_a_hold_where_it_was_given(rt: HostRuntime) -> Result<(), Fail> {
-    let alloc = rt.alloc();
-    let early = [
-        event(receipt(2, 1, 1, 1)),
-        hold(2, first()),
-        event(send(1, 1, 2)),
-        event(receipt(1, 1, 0, 1)),
-        event(send(0, 1, 1)),
-    ];
-    let breach = LogBreach::Record(RecordFault {
-        place: 1,
-        entry: hold(2, first()),
-        rule: RecordRule::NotBefore,
-    });
-    let raw = log(alloc, &early)?;
-    assert!(rt; is_refused(alloc, raw, DumpRefusal::BadEvent(1), breach));
-    Ok(())
-}
-
-/// Whether its sends and receipts have no order, since these, of which each waits for the next one, can't come.
-fn has_none(alloc: Global, raw: RawLog, stuck: &[Stuck]) -> bool {
-    match &order_log(alloc, raw) {
-        Err(LogOrderFault::NoOrder(chain)) => chain.as_slice() == stuck,
-        _ => false,
-    }
-}
-
-/// Two members wait for one another; each place is that among all entries.
-#[test]
-fn names_a_circle_where_it_was_given(rt: HostRuntime) -> Result<(), Fail> {
-    let alloc = rt.alloc();
-    let circle = [
-        event(receipt(0, 1, 1, 1)),
-        hold(0, first_receipt(Member::at(1), Member::at(0))),
-        event(send(0, 1, 1)),
-        event(receipt(1, 1, 0, 1)),
-        event(send(1, 1, 0)),
-    ];
-    let chain = [
-        Stuck {
-            place: 0,
-            event: receipt(0, 1, 1, 1),
-            obstacle: Obstacle::Waits(3),
-        },
-        Stuck {
-            place: 3,
-            event: receipt(1, 1, 0, 1),
-            obstacle: Obstacle::Waits(0),
-        },
-    ];
-    let raw = log(alloc, &circle)?;
-    assert!(rt; has_none(alloc, raw, &chain));
-    Ok(())
-}
-
-#[test]
-fn refuses_logs_of_other_groups(rt: HostRuntime) -> Result<(), Fail> {
-    let alloc = rt.alloc();
-    let mut parts = [log(alloc, &zero())?, log(alloc, &one())?];
-    parts[1].f = 2;
-    let (part, first, other) = (1, 1, 2);
-    let fault = PartsFault::F { part, first, other };
-    assert!(rt; united_logs(alloc, &parts).err() == Some(fault));
-    let mut large = log(alloc, &zero())?;
-    large.members = 17;
-    let breach = LogBreach::Trace(Breach::Members { members: 17 });
-    assert!(rt; is_refused(alloc, large, DumpRefusal::BadMembers, breach));
     Ok(())
 }

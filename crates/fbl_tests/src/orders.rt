@@ -2,11 +2,10 @@
 
 ghost use Rattle.std.specs.Prelude.{◌<◌};
 
-use fbl_base::{Breach, DumpRefusal, EventFault, EventRule, Mark, Member};
+use fbl_base::{DumpRefusal, Mark, Member};
 use fbl_fixtures::Refusing;
 use fbl_order::{Obstacle, OrderFault, Stuck, order};
 use std::alloc::Global;
-use std::test::Fail;
 
 pub(crate) fn send(from: u8, ssn: u32, to: u8) -> Mark
     requires from { from < 16 }
@@ -100,74 +99,6 @@ fn names_the_events_of_a_circle(rt: HostRuntime) {
         stuck(4, receipt(1, 1, 0, 1), Obstacle::Waits(1)),
     ];
     assert!(rt; has_none(rt.alloc(), &events, &chain));
-}
-
-/// The second message is taken before the first.
-#[test]
-fn names_the_message_that_is_due(rt: HostRuntime) {
-    let events = [
-        receipt(1, 1, 0, 2),
-        receipt(1, 2, 0, 1),
-        send(0, 1, 1),
-        send(0, 2, 1),
-    ];
-    let (from, to) = (Member::at(0), Member::at(1));
-    let rule = EventRule::OtherInFlight { from, to, first: 1 };
-    let chain = [stuck(0, receipt(1, 1, 0, 2), Obstacle::Rule(rule))];
-    assert!(rt; has_none(rt.alloc(), &events, &chain));
-}
-
-#[test]
-fn names_a_message_that_is_not_sent(rt: HostRuntime) {
-    let events = [receipt(1, 1, 0, 1), send(0, 1, 2)];
-    let chain = [stuck(0, receipt(1, 1, 0, 1), Obstacle::NeverSent)];
-    assert!(rt; has_none(rt.alloc(), &events, &chain));
-}
-
-#[test]
-fn names_a_message_that_is_taken_twice(rt: HostRuntime) {
-    let events = [receipt(1, 1, 0, 1), receipt(1, 2, 0, 1), send(0, 1, 1)];
-    let chain = [stuck(1, receipt(1, 2, 0, 1), Obstacle::Received)];
-    assert!(rt; has_none(rt.alloc(), &events, &chain));
-}
-
-/// A log lacks an event.
-#[test]
-fn names_the_event_behind_a_gap(rt: HostRuntime) -> Result<(), Fail> {
-    let gap = [send(0, 1, 1), send(0, 3, 1), receipt(1, 1, 0, 1)];
-    let found = stuck(1, send(0, 3, 1), Obstacle::Rule(EventRule::WrongNumber(2)));
-    assert!(rt; has_none(rt.alloc(), &gap, &[found]));
-    let words = format!(in rt.alloc(); "{found}")?;
-    assert!(rt; words.as_str() == "event 1 is [\"send\",0,3,1], and its number must be 2");
-    Ok(())
-}
-
-/// Whether these events are refused in a group of three for their event at place 8192.
-fn has_fault(alloc: Global, events: &[Mark], breach: Breach) -> bool {
-    match &order(alloc, 3, events) {
-        Err(OrderFault::Dump(refusal, found)) => {
-            *refusal == DumpRefusal::BadEvent(8192) && *found == breach
-        }
-        _ => false,
-    }
-}
-
-/// An event more than a run may have.
-#[test]
-fn refuses_too_many(rt: HostRuntime) -> Result<(), Fail> {
-    let mut events = Vec::new(rt.alloc());
-    for number in 1..=8192u32 {
-        events.push(send(0, number, 1))?;
-    }
-    assert!(rt; has_order(rt.alloc(), events.as_slice(), events.as_slice()));
-    events.push(send(1, 1, 0))?;
-    let breach = Breach::Event(EventFault {
-        place: 8192,
-        event: send(1, 1, 0),
-        rule: EventRule::TooMany,
-    });
-    assert!(rt; has_fault(rt.alloc(), events.as_slice(), breach));
-    Ok(())
 }
 
 /// What became of an order of these events with one request for memory refused: whether it was answered as it is with none refused.

@@ -5,7 +5,7 @@ ghost use Rattle.std.specs.Prelude.{◌<◌};
 use crate::orders::{receipt, round, send};
 use fbl_base::audit::Audit;
 use fbl_base::{Determinant, Mark, Member, MemberSet, RawDump};
-use fbl_order::{PartsFault, order_dump, place_in_lists, united};
+use fbl_order::{order_dump, place_in_lists, united};
 use std::alloc::Global;
 use std::test::Fail;
 
@@ -57,6 +57,7 @@ fn audits_parts(rt: HostRuntime) -> Result<(), Fail> {
     ];
     let whole = united(alloc, &parts).ok().ok_or("refused parts")?;
     assert!(rt; whole.held.len() == 4);
+    assert!(rt; place_in_lists(&[1, 1, 2], 3) == Some((2, 1)));
     let dump = order_dump(alloc, whole).ok().ok_or("refused")?;
     assert!(rt; dump.events() == round().as_slice());
     let audit = Audit::of(alloc, &dump)?;
@@ -65,33 +66,4 @@ fn audits_parts(rt: HostRuntime) -> Result<(), Fail> {
     let (zero, two) = (Member::at(0), Member::at(2));
     assert!(rt; audit.orphans() == MemberSet::empty().with(zero).with(two));
     Ok(())
-}
-
-#[test]
-fn names_the_first_part_that_differs(rt: HostRuntime) -> Result<(), Fail> {
-    let alloc = rt.alloc();
-    let nobody = MemberSet::empty();
-    let mut parts = [
-        part(alloc, &[], &[], nobody)?,
-        part(alloc, &[], &[], nobody)?,
-        part(alloc, &[], &[], nobody)?,
-    ];
-    parts[2].members = 4;
-    let (part, first, other) = (2, 3, 4);
-    let fault = PartsFault::Members { part, first, other };
-    assert!(rt; united(alloc, &parts).err() == Some(fault));
-    let words = format!(in alloc; "{fault}")?;
-    assert!(rt; words.as_str() == "members is 4, and 3 in the first part");
-    parts[1].f = 2;
-    let (part, first, other) = (1, 1, 2);
-    let fault = PartsFault::F { part, first, other };
-    assert!(rt; united(alloc, &parts).err() == Some(fault));
-    Ok(())
-}
-
-#[test]
-fn finds_places_in_lists(rt: HostRuntime) {
-    assert!(rt; place_in_lists(&[2, 0, 3], 0) == Some((0, 0)));
-    assert!(rt; place_in_lists(&[2, 0, 3], 2) == Some((2, 0)));
-    assert!(rt; place_in_lists(&[2, 0, 3], 5) == None);
 }
