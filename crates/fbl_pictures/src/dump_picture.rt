@@ -14,10 +14,10 @@ use crate::run_events::{Receipts, push_marks};
 use crate::run_members::Lines;
 use crate::run_paths::push_paths;
 use crate::run_picture::lines_and_arrows;
-use fbl_shapes::{Legend, Shape};
 use fbl_audit::{UnsafeReceipt, orphan_starts, unsafe_receipts};
 use fbl_base::audit::{Audit, Dump};
 use fbl_input::{OutputFault, put};
+use fbl_shapes::{Legend, Shape};
 use std::alloc::{AllocError, Global};
 use std::io::Write;
 

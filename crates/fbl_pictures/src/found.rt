@@ -13,10 +13,10 @@ use crate::run_events::{Receipts, push_marks};
 use crate::run_members::Lines;
 use crate::run_paths::{push_paths_to, starts_of};
 use crate::run_picture::lines_and_arrows;
-use fbl_shapes::Shape;
 use fbl_audit::{Paths, UnsafeReceipt};
 use fbl_base::audit::Audit;
 use fbl_base::{Determinant, Mark};
+use fbl_shapes::Shape;
 use std::alloc::{AllocError, Global};
 
 /// The place of the receipt with the determinant.

@@ -4,9 +4,10 @@ ghost use Rattle.std.specs.Prelude.{◌≡◌, ◌++◌, ◌≤◌, OnOk, false}
 ghost use Rattle.fbl_shapes.specs.HistoryMembers.{is_back, is_down_after, line_parts, members_shapes};
 
 use crate::names::push_names;
-use fbl_shapes::{LineKind, Shape};
+use crate::words::line_kind;
 use fbl_base::Member;
 use fbl_history::{Column, Replay};
+use fbl_shapes::Shape;
 use std::alloc::AllocError;
 
 /// Whether a member is among those that came back.
@@ -36,7 +37,7 @@ fn push_line(shapes: &mut Vec<Shape>, member: Member, columns: &[Column]) -> Res
     for (place, column) in columns.iter().enumerate() {
         let is_down_after = after(member, is_down, column);
         if is_down_after != is_down {
-            let kind = LineKind::of(is_down);
+            let kind = line_kind(is_down);
             shapes.push(Shape::Line {
                 member,
                 start,
@@ -48,7 +49,7 @@ fn push_line(shapes: &mut Vec<Shape>, member: Member, columns: &[Column]) -> Res
         }
     }
     let end = columns.len();
-    let kind = LineKind::of(is_down);
+    let kind = line_kind(is_down);
     shapes.push(Shape::Line {
         member,
         start,

@@ -8,9 +8,9 @@ use crate::history_marks::push_marks;
 use crate::history_members::push_members;
 use crate::history_messages::{push_arrows, push_stubs};
 use crate::picture::picture_text;
-use fbl_shapes::{Legend, Shape};
 use crate::words::receipts_word;
 use fbl_history::{Column, receipts_made, receipts_undone};
+use fbl_shapes::{Legend, Shape};
 use std::alloc::{AllocError, Global};
 
 /// The heading: the numbers of the group, the behaviour, and how many receipts were made and undone.

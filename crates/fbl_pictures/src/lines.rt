@@ -4,9 +4,9 @@ ghost use Rattle.std.specs.Prelude.{◌≡◌, IfOk, string_bytes};
 ghost use Rattle.fbl_pictures.specs.Words.{drawn_arrow, drawn_down_from, drawn_in_flight, drawn_label, drawn_line, drawn_name, segment};
 
 use crate::places::{before, below, left, towards, x, y};
-use fbl_shapes::{ArrowKind, LineKind, Status};
-use crate::words::{in_flight_class, status_words};
+use crate::words::{arrow_class, in_flight_class, line_class, status_words};
 use fbl_base::Member;
+use fbl_shapes::{ArrowKind, LineKind, Status};
 use std::alloc::{AllocError, Global};
 
 /// The text of a member's name.
@@ -65,7 +65,7 @@ pub(crate) fn line_text(
     let y = y(member.number());
     let start = Point { x: left(start), y };
     let end = Point { x: x(end), y };
-    segment_text(alloc, kind.class(), start, end)
+    segment_text(alloc, line_class(kind), start, end)
 }
 
 /// The text of the line of a member that is down from the moment before a column on.
@@ -85,8 +85,8 @@ pub(crate) fn down_from_text(
         y,
     };
     let end = Point { x: x(end), y };
-    let mut text = segment_text(alloc, LineKind::Up.class(), start, moment)?;
-    let rest = segment_text(alloc, LineKind::Down.class(), moment, end)?;
+    let mut text = segment_text(alloc, line_class(LineKind::Up), start, moment)?;
+    let rest = segment_text(alloc, line_class(LineKind::Down), moment, end)?;
     text.push_str(rest.as_str())?;
     Ok(text)
 }
@@ -111,7 +111,7 @@ pub(crate) fn arrow_text(
         x: x(received),
         y: y(to.number()),
     };
-    segment_text(alloc, kind.class(), start, end)
+    segment_text(alloc, arrow_class(kind), start, end)
 }
 
 /// The text of a message in flight.

@@ -15,11 +15,11 @@ use crate::picture::picture_text;
 use crate::run_events::{Receipts, push_marks};
 use crate::run_members::Lines;
 use crate::run_picture::lines_and_arrows;
-use fbl_shapes::{Legend, Shape};
 use fbl_audit::UnsafeReceipt;
 use fbl_base::audit::Audit;
 use fbl_input::{OutputFault, put};
 use fbl_moments::{RunLog, UnsafeMoment, audit_log, last_dump, moment_reason, unsafe_moments};
+use fbl_shapes::{Legend, Shape};
 use std::alloc::{AllocError, Global};
 use std::io::Write;
 

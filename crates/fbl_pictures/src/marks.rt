@@ -4,9 +4,9 @@ ghost use Rattle.std.specs.Prelude.{◌≡◌, ◌<◌, IfOk, length, string_byt
 ghost use Rattle.fbl_pictures.specs.Marks.{drawn_checkpoint, cross, drawn_held_receipt, drawn_hold, drawn_moment, number, numbers, onward, drawn_receipt, receipt_words, drawn_recovery, drawn_send, drawn_store, drawn_strike, stroke};
 
 use crate::places::{before, below, x, y};
-use fbl_shapes::Kind;
-use crate::words::{receipts_word, words_if};
+use crate::words::{kind_class, outline, receipts_word, words_if};
 use fbl_base::{Determinant, Member, MemberSet};
+use fbl_shapes::Kind;
 use fbl_texts::set_text;
 use std::alloc::{AllocError, Global};
 
@@ -153,8 +153,8 @@ pub(crate) fn held_text(
     let rsn = determinant.rsn;
     let x = x(column);
     let y = y(determinant.to.number());
-    let class = kind.class();
-    let outline = kind.outline();
+    let class = kind_class(kind);
+    let outline = outline(kind);
     let title = receipt_title_text(alloc, determinant)?;
     let holders = set_text(alloc, holders)?;
     let words = format!(in alloc; "{rsn}")?;

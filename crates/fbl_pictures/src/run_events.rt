@@ -5,10 +5,10 @@ ghost use Rattle.fbl_pictures.specs.RunPictures.{IsPlacesOf, entry_arrow, entry_
 ghost use Rattle.fbl_shapes.specs.Shapes.{drawn};
 
 use crate::entries::Recorded;
-use fbl_shapes::{ArrowKind, Kind, Shape};
 use fbl_base::audit::Audit;
 use fbl_base::{Determinant, Mark, Member, MessageName};
 use fbl_moments::Entry;
+use fbl_shapes::{ArrowKind, Kind, Shape};
 use std::alloc::{AllocError, Global};
 use std::collections::HashMap;
 use std::hash::{BuildHasherDefault, FoldHasher};

@@ -6,8 +6,9 @@ ghost use Rattle.fbl_pictures.specs.RunPictures.{column_in, member_line, member_
 
 use crate::columns::Columns;
 use crate::names::{push_any, push_names};
-use fbl_shapes::{LineKind, Shape, Status};
+use crate::words::line_kind;
 use fbl_base::{Member, MemberSet};
+use fbl_shapes::{LineKind, Shape, Status};
 use std::alloc::AllocError;
 
 /// How the members' lines are drawn.
@@ -46,7 +47,7 @@ fn line(columns: usize, member: Member, is_struck: bool, moment: Option<usize>) 
             member,
             start: None,
             end: columns,
-            kind: LineKind::of(is_struck),
+            kind: line_kind(is_struck),
         },
     }
 }

@@ -13,10 +13,10 @@ ghost use Rattle.fbl_shapes.specs.declared.shape.Shape.{Shape};
 use crate::columns::Columns;
 use crate::entries::Placed;
 use crate::names::push_any;
-use fbl_shapes::{ArrowKind, LineKind, Shape};
 use fbl_audit::{Paths, orphan_path};
 use fbl_base::audit::Audit;
 use fbl_base::{Member, MemberSet};
+use fbl_shapes::{ArrowKind, LineKind, Shape};
 use std::alloc::{AllocError, Global};
 
 /// A step from one event to another.
