@@ -36,7 +36,7 @@ pub use Rattle.serde_json.specs.View.{items_of, view}
 pub use Rattle.serde_json.specs.Written.{compact_text, has_float, items_have_float}
 pub use Rattle.serde_json.specs.declared.value.Value.{Value}
 pub use Rattle.fbl_texts.specs.Auditing.{ArePathsFrom, IsAuditText, IsChecked, IsLossReason, IsPathFrom, IsVerdict, check_lines, unsafe_lines}
-pub use Rattle.fbl_texts.specs.DumpLines.{ReadsBack, dump_object, event_data, list_data, number_data, pair_data}
+pub use Rattle.fbl_texts.specs.DumpLines.{ReadsBack, event_data, list_data, number_data, pair_data}
 pub use Rattle.fbl_texts.specs.Dumps.{IsDumpFault, IsDumpOf, RefusesParts, event_shape, pair_shape, parts_of_data, parts_of_input}
 pub use Rattle.fbl_texts.specs.declared.auditing.Verdict.{Verdict}
 pub use Rattle.fbl_texts.specs.declared.auditing.Verdict.TheVariants.{Safe, Unsafe}

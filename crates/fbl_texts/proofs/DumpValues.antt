@@ -1,6 +1,6 @@
 -- The value of a dump, and how it is read back.
 use Rattle.fbl_texts.proofs.Common.{◌≡◌, ℕ, ◌≤◌, map, refl, arith, false, Some, Ok, All, Data, Parts, IsDump, Mark, Send, Receipt, member_list, member_shape, depth, has_float}
-use Rattle.fbl_texts.proofs.Common.{dump_object, event_data, pair_data, list_data, number_data, event_shape, pair_shape}
+use Rattle.fbl_texts.proofs.Common.{event_data, pair_data, list_data, number_data, event_shape, pair_shape}
 use Rattle.fbl_texts.specs.DumpLines.{dump_data}
 use Rattle.fbl_texts.specs.Dumps.{parts_of_data}
 use Rattle.fbl_texts.proofs.Values.{IsWritable, flat, list_read, number_read, set_read}
@@ -19,12 +19,6 @@ parts_read dump rules events held strike =
       list_read pair_shape pair_data dump.held held,
       set_read dump.strike (λ q h. let lt = rules.strike q h in omega (arith, few, lt)) strike,
     )
-
--- an object of a dump's parts
-pub dump_same : (dump : Parts) (m f : ℕ) (e h s : Data) → m ≡ dump.members → f ≡ dump.f → e ≡ list_data (map event_data dump.events)
-    → h ≡ list_data (map pair_data dump.held) → s ≡ list_data (map number_data (member_list dump.strike)) → dump_object m f e h s ≡ dump_data dump
-unfolding dump_data
-dump_same dump m f e h s em ef ee eh es = rw (em, ef, ee, eh, es)
 
 -- an event nests to a depth of one
 pub flat_event : (e : Mark) → (has_float (event_data e) ≡ false) × (depth (event_data e) ≤ 1)

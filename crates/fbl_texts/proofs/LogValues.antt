@@ -4,7 +4,7 @@ use Rattle.fbl_input.specs.Items.{entry_shape}
 use Rattle.fbl_moments.specs.Logs.{IsLog, LogParts}
 use Rattle.fbl_moments.specs.declared.entry.Entry.{Entry}
 use Rattle.fbl_moments.specs.declared.entry.Entry.TheVariants.{Event, Hold, Store}
-use Rattle.fbl_texts.specs.LogLines.{entry_data, log_data, log_object}
+use Rattle.fbl_texts.specs.LogLines.{entry_data, log_data}
 use Rattle.fbl_texts.specs.Logs.{log_of_data, recorded_of_data}
 use Rattle.fbl_texts.specs.declared.recorded.Checked.TheVariants.{Log}
 use Rattle.fbl_texts.proofs.DumpValues.{flat_event}
@@ -28,12 +28,6 @@ log_read log rules entries strike =
 pub recorded_read : (log : LogParts) → log_of_data (log_data log) ≡ Ok log → recorded_of_data (log_data log) ≡ Ok (Log log)
 unfolding log_data
 recorded_read log is = rw is
-
--- an object of a log's parts
-pub log_same : (log : LogParts) (m f : ℕ) (e s : Data) → m ≡ log.members → f ≡ log.f → e ≡ list_data (map entry_data log.entries)
-    → s ≡ list_data (map number_data (member_list log.strike)) → log_object m f e s ≡ log_data log
-unfolding log_data
-log_same log m f e s em ef ee es = rw (em, ef, ee, es)
 
 flat_entry : (e : Entry) → (has_float (entry_data e) ≡ false) × (depth (entry_data e) ≤ 1)
 flat_entry (Event e) = flat_event e

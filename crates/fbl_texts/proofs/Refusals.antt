@@ -1,22 +1,56 @@
 -- The fault of an input that is refused for what it gives, and of one that a reader of its form refuses.
-use Rattle.std.proofs.Common.{◌≡◌, ℕ, inl, inr, refl, sym, subst, List, Ok, Err, Result, Option, IfErr, IfSome}
+use Rattle.std.proofs.Common.{◌≡◌, ◌<◌, ◌∙◌, ℕ, ap, cond, inl, inr, length, refl, sym, subst, List, None, Ok, Err, Result, Option, Some, IfErr, IfSome}
+use Rattle.std.proofs.lemmas.Bool.{lt-ltb}
 use Rattle.std.proofs.lemmas.Option.{IfSome_then}
 use Rattle.std.specs.Result.{IsErrAnd}
 use Rattle.fbl_base.specs.Audit.{parts_of}
 use Rattle.fbl_base.specs.declared.fault.Breach.{Breach}
 use Rattle.fbl_base.specs.declared.refusal.DumpRefusal.{DumpRefusal}
 use Rattle.fbl_base.specs.declared.refusal.DumpRefusal.TheVariants as dump
-use Rattle.fbl_input.specs.Faults.{IsFaultOf}
+use Rattle.fbl_input.specs.Faults.{HasInput, IsFaultOf, IsReadFault, IsUnread}
 use Rattle.fbl_input.specs.declared.fault.RunFault.TheVariants as faults
 use Rattle.fbl_input.specs.declared.input_fault.InputFault.{InputFault}
 use Rattle.fbl_input.specs.declared.misfit.InputKind.{InputKind}
 use Rattle.fbl_input.specs.declared.misfit.InputKind.TheVariants as kinds
 use Rattle.fbl_input.specs.declared.misfit.Misfit.{Misfit}
 use Rattle.fbl_input.specs.declared.misfit.Misfit.TheVariants as misfits
-use Rattle.fbl_texts.proofs.Common.{IsFirstFault, IsOfParts, Parts, RefusesDump, RefusesParts, RunFault, parts_of_input, refused, run_fault}
+use Rattle.fbl_texts.proofs.Common.{Data, IsFirstFault, IsOfParts, Parts, RefusesDump, RefusesParts, RunFault, json_of, longest, or_fault, parts_of_input, refused, run_fault, value_of_input, ◌>>=◌}
 use Rattle.fbl_texts.specs.Dumps.{IsNoDump}
 use Rattle.fbl_texts.specs.RawDumps.{IsNoRawDump, IsRawDumpOf, IsRefusalOf, RefusesNone}
 use Rattle.fbl_texts.specs.declared.reading.DumpInput.{DumpInput}
+
+-- ---- inputs
+
+too_long : (input : List ℕ) → longest < length input → value_of_input input ≡ Err faults.TooLong
+too_long input is = ap (λ b. cond b (Err faults.TooLong) (or_fault faults.NotJson (json_of input))) (lt-ltb longest (length input) is)
+
+unread_misfit : {A : Type 0} (kind : InputKind) (asked : Data → Result A RunFault) (Refuses : A → RunFault → Type 0) (IsOf : A → Misfit → Type 0) (input bytes : List ℕ) (misfit : Misfit)
+    → ((a : A) → IsOf a misfits.Read × IsOf a misfits.Memory) → IsUnread (Some input) misfit → IsFaultOf kind (value_of_input input >>= asked) Refuses IsOf input misfit × HasInput misfit bytes input
+unread_misfit kind asked Refuses IsOf input bytes misfits.Read any is = (record { first = tt; value = λ d e. tt; given = λ a e. (any a).0 }, tt)
+unread_misfit kind asked Refuses IsOf input bytes misfits.Memory any is = (record { first = tt; value = λ d e. tt; given = λ a e. (any a).1 }, tt)
+unread_misfit kind asked Refuses IsOf input bytes misfits.TooLong any is =
+    let long : (value_of_input input >>= asked) ≡ Err faults.TooLong = ap (λ v. v >>= asked) (too_long input is) in
+    (record { first = inl long; value = λ d e. tt; given = λ a e. absurd cc }, tt)
+unread_misfit kind asked Refuses IsOf input bytes misfit any is = absurd is
+
+-- that an input could not be had is its first fault
+pub unread : {A : Type 0} (kind : InputKind) (asked : Data → Result A RunFault) (Refuses : A → RunFault → Type 0) (IsOf : A → Misfit → Type 0) → ((a : A) → IsOf a misfits.Read × IsOf a misfits.Memory)
+    → (known : Option (List ℕ)) (fault : InputFault) → (fault.kind ≡ kind) × IsUnread known fault.misfit
+    → IfSome known (λ input. IsReadFault kind (λ i. IsFaultOf kind (value_of_input i >>= asked) Refuses IsOf i) input fault)
+unread kind asked Refuses IsOf any None fault is = tt
+unread kind asked Refuses IsOf any (Some input) fault is = (let of = unread_misfit kind asked Refuses IsOf input fault.input.items fault.misfit any is.1 in (is.0, of.0, of.1))
+
+-- what is so of the bytes that were read is so of the input
+pub of_bytes : (P : List ℕ → Type 0) (known : Option (List ℕ)) (bytes read : List ℕ) → IfSome known (λ input. bytes ≡ input) → read ≡ bytes → P read → IfSome known P
+of_bytes P None bytes read is same h = tt
+of_bytes P (Some input) bytes read is same h = subst P (same ∙ is) h
+
+-- the bytes are those of the input
+pub has_input : (misfit : Misfit) (bytes input : List ℕ) → bytes ≡ input → HasInput misfit bytes input
+has_input misfits.Read bytes input same = tt
+has_input misfits.TooLong bytes input same = tt
+has_input misfits.Memory bytes input same = tt
+has_input misfit bytes input same = same
 
 -- ---- faults of the form
 

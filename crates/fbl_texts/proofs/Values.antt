@@ -1,7 +1,7 @@
 -- Values in lists, how they are read back, and texts: of values that have no float and whose brackets nest to a small depth.
 use Rattle.fbl_texts.proofs.Common.{◌≡◌, ℕ, ◌+◌, ◌<◌, ◌≤◌, List, [], ◌∷◌, ◌++◌, map, take, get_or, length, suc, zero, refl, sym, ap, subst, ◌∙◌, arith, Bool, cond}
 use Rattle.fbl_texts.proofs.Common.{true, false, Option, Some, option_map, Err, nat_cmp, nat_eq, nat_lt, take_more, map_push, All-push, any-filter_same, eqb-true, le-leb, le-ltb, Result}
-use Rattle.fbl_texts.proofs.Common.{All, IsUtf8, filter, list_any, range_with_len, nat_cmp_total, Data, view, Value, AllBelow, all_shaped, number_within, list_of, member_shape, set_shape}
+use Rattle.fbl_texts.proofs.Common.{All, IsUtf8, filter, list_any, range_with_len, nat_cmp_total, append_assoc, Data, view, Value, AllBelow, all_shaped, number_within, list_of, member_shape, set_shape}
 use Rattle.fbl_texts.proofs.Common.{list_data, number_data, elements_of, depth, items_depth, read, max_depth, items_of, has_float, items_have_float, compact_text, RunFault}
 use Rattle.fbl_texts.proofs.Common.{json_of, longest, or_fault, value_of_input, ◌>>=◌}
 use Rattle.std.specs.FinSet as set
@@ -10,11 +10,11 @@ use Rattle.fbl_input.specs.declared.fault.RunFault.TheVariants as faults
 use Rattle.fbl_texts.proofs.Newlines.{read_newline}
 
 -- one more value
-pub next_value : {X : Type 0} (f : X → Data) (vs : List Value) (v : Value) (xs : List X) (i : ℕ) (x : X) → i < length xs
-    → map view vs ≡ map f (take i xs) → view v ≡ f (get_or xs i x) → map view (vs ++ v ∷ []) ≡ map f (take (i + 1) xs)
-next_value f vs v xs i x lt before is =
-    map_push view vs v ∙ ap (λ l. l ++ view v ∷ []) before ∙ ap (λ d. map f (take i xs) ++ d ∷ []) is
-    ∙ sym (map_push f (take i xs) (get_or xs i x)) ∙ ap (map f) (sym (take_more xs i x lt))
+pub next_value : {X : Type 0} (f : X → Data) (front : List Data) (vs : List Value) (v : Value) (xs : List X) (i : ℕ) (x : X) → i < length xs
+    → map view vs ≡ front ++ map f (take i xs) → view v ≡ f (get_or xs i x) → map view (vs ++ v ∷ []) ≡ front ++ map f (take (i + 1) xs)
+next_value f front vs v xs i x lt before is =
+    map_push view vs v ∙ ap (λ l. l ++ view v ∷ []) before ∙ append_assoc front _ _ ∙ ap (λ l. front ++ l) (ap (λ d. map f (take i xs) ++ d ∷ []) is
+    ∙ sym (map_push f (take i xs) (get_or xs i x)) ∙ ap (map f) (sym (take_more xs i x lt)))
 
 pub next_read : {X : Type 0} (P : X → Type 0) (xs : List X) (i : ℕ) (x : X) → i < length xs → All P (take i xs) → P (get_or xs i x) → All P (take (i + 1) xs)
 next_read P xs i x lt before is = let Q : List _ → Type 0 = All P in subst Q (sym (take_more xs i x lt)) (All-push P (take i xs) (get_or xs i x) before is)

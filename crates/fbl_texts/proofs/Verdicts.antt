@@ -1,11 +1,18 @@
 -- The verdict of a check, by the receipts that are said to be unsafe.
-use Rattle.fbl_texts.proofs.Common.{◌≡◌, ◌↔◌, List, [], ◌∷◌, refl, Verdict, Safe, Unsafe}
-use Rattle.fbl_texts.specs.Auditing.{IsVerdictThat}
+use Rattle.fbl_texts.proofs.Common.{◌≡◌, ◌↔◌, ℕ, List, [], ◌∷◌, Option, Result, Ok, Err, refl, PutsOut, Verdict, Safe, Unsafe}
+use Rattle.fbl_input.specs.declared.output.OutputFault.{OutputFault}
+use Rattle.fbl_input.specs.declared.output.OutputFault.TheVariants as outputs
+use Rattle.fbl_texts.specs.Auditing.{IsVerdictThat, verdict_of}
 
-abbrev pub verdict_of : {X : Type 0} → List X → Verdict
-verdict_of [] = Safe
-verdict_of (first ∷ rest) = Unsafe
-
-pub verdict_is : {X : Type 0} (Holds : Type 0) (said : List X) → (said ≡ []) ↔ Holds → IsVerdictThat Holds (verdict_of said)
+verdict_is : {X : Type 0} (Holds : Type 0) (said : List X) → (said ≡ []) ↔ Holds → IsVerdictThat Holds (verdict_of said)
 verdict_is Holds [] safe = safe.0 refl
 verdict_is {X} Holds (first ∷ rest) safe = λ is. (let none : ◌≡◌ {A = List X} (first ∷ rest) [] = safe.1 is in cc)
+
+-- the text of a check and its verdict are put out, by what is said to be unsafe
+pub puts_verdict : {X : Type 0} (Holds : Type 0) (IsText : List X → List ℕ → Type 0) (Says : List X → Type 0) (said : List X) (text : List ℕ) → Says said → (said ≡ []) ↔ Holds → IsText said text
+    → (before after : Option (List ℕ)) (verdict : Verdict) (r : Result Verdict OutputFault) → verdict ≡ verdict_of said → PutsOut (λ v t. (v ≡ verdict) × (t ≡ text)) before after r
+    → PutsOut (λ v t. IsVerdictThat Holds v × ((xs : List X) × Says xs × IsText xs t)) before after r
+puts_verdict Holds IsText Says said text says safe is before after verdict (Ok v) same (t, was, appends) = (t, (rw (was.0, same) (verdict_is Holds said safe), (said, says, (rw was.1 is))), appends)
+puts_verdict Holds IsText Says said text says safe is before after verdict (Err outputs.Memory) same keeps = keeps
+puts_verdict Holds IsText Says said text says safe is before after verdict (Err outputs.Write) same (v, t, part, was, short, appends) =
+    (v, t, part, (rw (was.0, same) (verdict_is Holds said safe), (said, says, (rw was.1 is))), short, appends)

@@ -33,6 +33,11 @@ abbrev pub IsVerdictThat : Type 0 → Verdict → Type 0
 IsVerdictThat Holds Safe = Holds
 IsVerdictThat Holds Unsafe = ¬ Holds
 
+-- the verdict, by what is said to be unsafe
+abbrev pub verdict_of : {X : Type 0} → List X → Verdict
+verdict_of [] = Safe
+verdict_of (first ∷ rest) = Unsafe
+
 -- the verdict on the dump: whichever members may be lost, no orphan is left
 abbrev pub IsVerdict : Parts → Verdict → Type 0
 IsVerdict dump = IsVerdictThat (IsSafe dump)

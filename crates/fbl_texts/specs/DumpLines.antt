@@ -1,6 +1,8 @@
 -- A dump as a JSON value, and as a line.
 use Rattle.std.specs.Prelude.{◌≡◌, ℕ, ◌≤◌, length, Ok, List, [], ◌∷◌, ◌++◌, map, codes}
-use Rattle.serde_json.specs.Data.{Data, number, unsigned, string, array, object, member, no_members}
+use Rattle.std.specs.Ordering.{nat_cmp}
+use Rattle.std.specs.FinSet as set
+use Rattle.serde_json.specs.Data.{Data, Members, number, unsigned, string, array, object, member, no_members}
 use Rattle.serde_json.specs.View.{items_of}
 use Rattle.serde_json.specs.Written.{compact_text}
 use Rattle.fbl_base.specs.declared.trace.Determinant.{Determinant}
@@ -26,6 +28,13 @@ event_data (Receipt to rsn from ssn) = list_data (string (codes "receipt") ∷ n
 -- `[holder, from, ssn, to, rsn]`
 abbrev pub pair_data : ℕ × Determinant → Data
 pair_data h = list_data (number_data h.0 ∷ number_data h.1.from ∷ number_data h.1.ssn ∷ number_data h.1.to ∷ number_data h.1.rsn ∷ [])
+
+-- the members of an object that a dump has in either version, but for its events, in the order of their letters
+abbrev pub common_data : ℕ → ℕ → set.FinSet nat_cmp → Members
+common_data members f strike =
+    member (name_of keys.F) (number_data f)
+    (member (name_of keys.Members) (number_data members)
+    (member (name_of keys.Strike) (list_data (map number_data (member_list strike))) no_members))
 
 -- an object with the keys of a dump, in the order of their letters
 abbrev pub dump_object : ℕ → ℕ → Data → Data → Data → Data

@@ -19,23 +19,25 @@ lost_line lost = line (codes "lost " ∷ decimal lost ∷ [])
 abbrev pub orphans_line : set.FinSet nat_cmp → List ℕ
 orphans_line orphans = line (codes "orphans " ∷ set_words orphans ∷ [])
 
--- a determinant: source, send number, destination, receipt number
+-- a determinant: source, send number, destination, receipt number, each behind a space
+abbrev pub determinant_words : Determinant → List ℕ
+determinant_words d = codes " " ++ decimal d.from ++ codes " " ++ decimal d.ssn ++ codes " " ++ decimal d.to ++ codes " " ++ decimal d.rsn
+
 abbrev pub determinant_line : Determinant → List ℕ
-determinant_line d = line (codes "determinant " ∷ decimal d.from ∷ codes " " ∷ decimal d.ssn ∷ codes " " ∷ decimal d.to ∷ codes " " ∷ decimal d.rsn ∷ [])
+determinant_line d = line (codes "determinant" ∷ determinant_words d ∷ [])
 
 -- what the audit prints: how many receipts are lost, their determinants, and the orphans
 abbrev pub audit_lines : List Determinant → set.FinSet nat_cmp → List ℕ
 audit_lines lost orphans = lost_line (length lost) ++ flat_map determinant_line lost ++ orphans_line orphans
 
--- a receipt that could be lost, by its determinant: the members lost with it, and the orphans that are left
-abbrev pub unsafe_line : UnsafeReceipt → List ℕ
-unsafe_line u =
-    line (codes "unsafe " ∷ decimal u.determinant.from ∷ codes " " ∷ decimal u.determinant.ssn ∷ codes " " ∷ decimal u.determinant.to ∷ codes " " ∷ decimal u.determinant.rsn
-    ∷ codes " strike " ∷ set_words u.strike ∷ codes " orphans " ∷ set_words u.orphans ∷ [])
+-- the members lost with a receipt, and the orphans that are left
+abbrev pub outcome_line : set.FinSet nat_cmp → set.FinSet nat_cmp → List ℕ
+outcome_line strike orphans = line (codes " strike " ∷ set_words strike ∷ codes " orphans " ∷ set_words orphans ∷ [])
 
--- a receipt that could be lost at a moment: its determinant, the place of the moment in its file with the words for that file, the
--- members lost then, and the orphans that are left
+-- a receipt that could be lost, by its determinant
+abbrev pub unsafe_line : UnsafeReceipt → List ℕ
+unsafe_line u = codes "unsafe" ++ determinant_words u.determinant ++ outcome_line u.strike u.orphans
+
+-- a receipt that could be lost at a moment: its determinant, and the place of the moment in its file with the words for that file
 abbrev pub unsafe_moment_line : ℕ → List ℕ → UnsafeMoment → List ℕ
-unsafe_moment_line place file u =
-    line (codes "unsafe " ∷ decimal u.determinant.from ∷ codes " " ∷ decimal u.determinant.ssn ∷ codes " " ∷ decimal u.determinant.to ∷ codes " " ∷ decimal u.determinant.rsn
-    ∷ codes " at " ∷ decimal place ∷ file ∷ codes " strike " ∷ set_words u.strike ∷ codes " orphans " ∷ set_words u.orphans ∷ [])
+unsafe_moment_line place file u = codes "unsafe" ++ determinant_words u.determinant ++ codes " at " ++ decimal place ++ file ++ outcome_line u.strike u.orphans

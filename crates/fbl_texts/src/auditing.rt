@@ -5,8 +5,8 @@ ghost use Rattle.std.specs.List.{flat_map};
 ghost use Rattle.fbl_audit.specs.Checking.{IsSafe, SaysUnsafe};
 ghost use Rattle.fbl_base.specs.Events.{receipts};
 ghost use Rattle.fbl_input.specs.Faults.{PutsOut};
-ghost use Rattle.fbl_texts.specs.Auditing.{Audits, IsAuditText, IsChecked, check_lines, unsafe_lines};
-ghost use Rattle.fbl_texts.specs.Lines.{audit_lines, determinant_line, unsafe_line};
+ghost use Rattle.fbl_texts.specs.Auditing.{Audits, IsAuditText, IsChecked, check_lines, unsafe_lines, verdict_of};
+ghost use Rattle.fbl_texts.specs.Lines.{audit_lines, determinant_line, determinant_words, outcome_line, unsafe_line};
 
 use crate::reading::read_dump;
 use crate::sets::set_text;
@@ -26,28 +26,32 @@ pub enum Verdict {
     Unsafe,
 }
 
-/// The line of a lost determinant.
-fn determinant_text(alloc: Global, determinant: Determinant) -> Result<String, AllocError>
-    ensures { IfOk result (λ text. string_bytes text ≡ determinant_line determinant) }
+/// Writes the numbers of a determinant, each behind a space.
+pub(crate) fn push_numbers(text: &mut String, determinant: Determinant) -> Result<(), AllocError>
+    ensures { OnOk result (string_bytes text.new ≡ string_bytes text.old ++ determinant_words determinant) }
 {
     let from = determinant.from.number();
     let ssn = determinant.ssn;
     let to = determinant.to.number();
     let rsn = determinant.rsn;
-    format!(in alloc; "determinant {from} {ssn} {to} {rsn}\n")
+    Ok(write!(text, " {from} {ssn} {to} {rsn}")?)
+}
+
+/// Writes the line of a lost determinant.
+fn push_lost(text: &mut String, determinant: Determinant) -> Result<(), AllocError>
+    ensures { OnOk result (string_bytes text.new ≡ string_bytes text.old ++ determinant_line determinant) }
+{
+    text.push_str("determinant")?;
+    push_numbers(text, determinant)?;
+    Ok(text.push_str("\n")?)
 }
 
 /// Writes the line of each determinant.
-fn push_determinants(
-    text: &mut String,
-    alloc: Global,
-    lost: &[Determinant],
-) -> Result<(), AllocError>
+fn push_determinants(text: &mut String, lost: &[Determinant]) -> Result<(), AllocError>
     ensures { OnOk result (string_bytes text.new ≡ string_bytes text.old ++ flat_map determinant_line lost.now) }
 {
     for determinant in lost {
-        let line = determinant_text(alloc, *determinant)?;
-        text.push_str(line.as_str())?;
+        push_lost(text, *determinant)?;
     }
     Ok(())
 }
@@ -62,7 +66,7 @@ pub(crate) fn lines_text(
 {
     let count = lost.len();
     let mut text = format!(in alloc; "lost {count}\n")?;
-    push_determinants(&mut text, alloc, lost)?;
+    push_determinants(&mut text, lost)?;
     let set = set_text(alloc, orphans)?;
     write!(text, "orphans {set}\n")?;
     Ok(text)
@@ -98,19 +102,32 @@ pub fn audit<R: Read, W: Write>(
     Ok(write_audit(alloc, &dump, writer)?)
 }
 
-/// The line of an unsafe receipt: its determinant, the members lost with it, and the orphans then.
-fn unsafe_text(alloc: Global, receipt: &UnsafeReceipt) -> Result<String, AllocError>
-    ensures { IfOk result (λ text. string_bytes text ≡ unsafe_line receipt.now) }
+/// Writes the end of the line of an unsafe receipt: the members lost with it, and the orphans then.
+pub(crate) fn push_outcome(
+    text: &mut String,
+    alloc: Global,
+    strike: MemberSet,
+    orphans: MemberSet,
+) -> Result<(), AllocError>
+    ensures { OnOk result (string_bytes text.new ≡ string_bytes text.old ++ outcome_line strike orphans) }
 {
-    let from = receipt.determinant.from.number();
-    let ssn = receipt.determinant.ssn;
-    let to = receipt.determinant.to.number();
-    let rsn = receipt.determinant.rsn;
-    let strike = set_text(alloc, receipt.strike)?;
-    let orphans = set_text(alloc, receipt.orphans)?;
-    let mut text = format!(in alloc; "unsafe {from} {ssn} {to} {rsn}")?;
+    let strike = set_text(alloc, strike)?;
+    let orphans = set_text(alloc, orphans)?;
     write!(text, " strike {strike} orphans {orphans}\n")?;
-    Ok(text)
+    Ok(())
+}
+
+/// Writes the line of an unsafe receipt: its determinant, the members lost with it, and the orphans then.
+fn push_unsafe(
+    text: &mut String,
+    alloc: Global,
+    receipt: &UnsafeReceipt,
+) -> Result<(), AllocError>
+    ensures { OnOk result (string_bytes text.new ≡ string_bytes text.old ++ unsafe_line receipt.now) }
+{
+    text.push_str("unsafe")?;
+    push_numbers(text, receipt.determinant)?;
+    push_outcome(text, alloc, receipt.strike, receipt.orphans)
 }
 
 /// The lines of the unsafe receipts.
@@ -119,8 +136,7 @@ fn unsafe_texts(alloc: Global, unsafe_receipts: &[UnsafeReceipt]) -> Result<Stri
 {
     let mut text = String::new(alloc);
     for receipt in unsafe_receipts {
-        let line = unsafe_text(alloc, receipt)?;
-        text.push_str(line.as_str())?;
+        push_unsafe(&mut text, alloc, receipt)?;
     }
     Ok(text)
 }
@@ -144,6 +160,28 @@ fn found(alloc: Global, dump: &Dump) -> Result<Vec<UnsafeReceipt>, AllocError>
     unsafe_receipts(alloc, &audit)
 }
 
+/// The verdict, by what is said to be unsafe.
+pub(crate) fn verdict_on<T>(said: &[T]) -> Verdict
+    ensures { result ≡ verdict_of said.now }
+{
+    match said {
+        [] => Verdict::Safe,
+        _ => Verdict::Unsafe,
+    }
+}
+
+/// Writes the text of a check, and answers its verdict.
+pub(crate) fn put_verdict<W: Write>(
+    writer: &mut W,
+    text: &str,
+    verdict: Verdict,
+) -> Result<Verdict, OutputFault>
+    ensures { PutsOut (λ v t. (v ≡ verdict) × (t ≡ text.now)) (W.contents writer.old) (W.contents writer.new) result }
+{
+    put(writer, text.as_bytes())?;
+    Ok(verdict)
+}
+
 /// Checks the dump, and writes a line for each receipt that some members may lose with an orphan left, or that there is none;
 /// answers which of the two it is.
 pub fn write_check<W: Write>(
@@ -153,12 +191,7 @@ pub fn write_check<W: Write>(
 ) -> Result<Verdict, OutputFault>
     ensures { PutsOut (IsChecked dump.now) (W.contents writer.old) (W.contents writer.new) result }
 {
-    let unsafe_receipts = found(alloc, dump)?;
-    let text = check_text(alloc, unsafe_receipts.as_slice())?;
-    put(writer, text.as_bytes())?;
-    if unsafe_receipts.is_empty() {
-        Ok(Verdict::Safe)
-    } else {
-        Ok(Verdict::Unsafe)
-    }
+    let said = found(alloc, dump)?;
+    let text = check_text(alloc, said.as_slice())?;
+    put_verdict(writer, text.as_str(), verdict_on(said.as_slice()))
 }

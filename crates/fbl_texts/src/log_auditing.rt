@@ -1,11 +1,11 @@
 //! The audit and the check of a log.
 
-ghost use Rattle.std.specs.Prelude.{◌≡◌, ◌↔◌, [], IfOk, IfSome, string_bytes};
+ghost use Rattle.std.specs.Prelude.{◌≡◌, ◌↔◌, ◌++◌, ℕ, List, [], IfOk, IfSome, OnOk, string_bytes};
 ghost use Rattle.fbl_input.specs.Faults.{PutsOut};
+ghost use Rattle.fbl_texts.specs.Lines.{unsafe_moment_line};
 ghost use Rattle.fbl_texts.specs.LogAuditing.{AreUnsafeMomentLines, IsLogAuditText, IsLogCheckText, IsLogChecked, IsUnsafeMomentLine};
 
-use crate::auditing::{Verdict, lines_text};
-use crate::sets::set_text;
+use crate::auditing::{Verdict, lines_text, push_numbers, push_outcome, put_verdict, verdict_on};
 use crate::sources::Sources;
 use fbl_input::{OutputFault, put};
 use fbl_moments::{RunLog, UnsafeMoment, audit_log, unsafe_moments};
@@ -33,29 +33,35 @@ pub fn write_log_audit<W: Write>(
     put(writer, text.as_bytes())
 }
 
-/// The line of an unsafe receipt: its determinant, the moment, the members lost with it then, and the orphans.
-fn unsafe_moment_text(
+/// Writes the line of an unsafe receipt with this place and these words for its file.
+fn push_line(
+    text: &mut String,
+    alloc: Global,
+    place: usize,
+    file: &str,
+    moment: &UnsafeMoment,
+) -> Result<(), AllocError>
+    ensures { OnOk result (string_bytes text.new ≡ string_bytes text.old ++ unsafe_moment_line place file.now moment.now) }
+{
+    text.push_str("unsafe")?;
+    push_numbers(text, moment.determinant)?;
+    write!(text, " at {place}{file}")?;
+    push_outcome(text, alloc, moment.strike, moment.orphans)
+}
+
+/// Writes the line of an unsafe receipt: its determinant, the moment, the members lost with it then, and the orphans.
+fn push_unsafe_moment(
+    text: &mut String,
     alloc: Global,
     sources: &Sources<'_>,
     moment: &UnsafeMoment,
-) -> Result<String, AllocError>
-    ensures { IfOk result (λ text. IsUnsafeMomentLine sources.now moment.now (string_bytes text)) }
+) -> Result<(), AllocError>
+    ensures { OnOk result ((line : List ℕ) × IsUnsafeMomentLine sources.now moment.now line × (string_bytes text.new ≡ string_bytes text.old ++ line)) }
 {
-    let from = moment.determinant.from.number();
-    let ssn = moment.determinant.ssn;
-    let to = moment.determinant.to.number();
-    let rsn = moment.determinant.rsn;
     let spot = sources.spot(moment.place);
-    let place = spot.place;
     let file = spot.file.to_string(alloc)?;
-    let strike = set_text(alloc, moment.strike)?;
-    let orphans = set_text(alloc, moment.orphans)?;
-    let mut text = format!(in alloc; "unsafe {from} {ssn} {to} {rsn}")?;
-    write!(
-        text,
-        " at {place}{file} strike {strike} orphans {orphans}\n"
-    )?;
-    Ok(text)
+    push_line(text, alloc, spot.place, file.as_str(), moment)?;
+    Ok(())
 }
 
 /// The lines of the unsafe receipts.
@@ -68,8 +74,7 @@ fn unsafe_moment_texts(
 {
     let mut text = String::new(alloc);
     for moment in moments {
-        let line = unsafe_moment_text(alloc, sources, moment)?;
-        text.push_str(line.as_str())?;
+        push_unsafe_moment(&mut text, alloc, sources, moment)?;
     }
     Ok(text)
 }
@@ -98,12 +103,7 @@ pub fn write_log_check<W: Write>(
 ) -> Result<Verdict, OutputFault>
     ensures { PutsOut (IsLogChecked log.now sources.now) (W.contents writer.old) (W.contents writer.new) result }
 {
-    let moments = unsafe_moments(alloc, log)?;
-    let text = log_check_text(alloc, sources, moments.as_slice())?;
-    put(writer, text.as_bytes())?;
-    if moments.is_empty() {
-        Ok(Verdict::Safe)
-    } else {
-        Ok(Verdict::Unsafe)
-    }
+    let said = unsafe_moments(alloc, log)?;
+    let text = log_check_text(alloc, sources, said.as_slice())?;
+    put_verdict(writer, text.as_str(), verdict_on(said.as_slice()))
 }

@@ -3,31 +3,13 @@
 ghost use Rattle.std.specs.Prelude.{◌≡◌, ◌≤◌, ◌++◌, ◌∷◌, [], length, Ok, IfOk, string_bytes};
 ghost use Rattle.serde_json.specs.View.{view};
 ghost use Rattle.serde_json.specs.Written.{compact_text};
-ghost use Rattle.fbl_texts.specs.LogLines.{LogReadsBack, log_data, log_line, log_object, record_data};
+ghost use Rattle.fbl_texts.specs.LogLines.{LogReadsBack, log_data, log_line};
 ghost use Rattle.fbl_texts.specs.Logs.{log_of_data};
 
-use crate::writing::{EventForm, Form, list_value, set_value};
-use fbl_base::{Determinant, Member};
+use crate::writing::{EventForm, Form, common_members, list_value, named_value, pair_numbers};
 use fbl_moments::{Entry, RunLog};
-use serde_json::{Value, json};
+use serde_json::{Value, put};
 use std::alloc::{AllocError, Global};
-
-/// What is held or stored as a list that begins with this name.
-fn record_value(
-    alloc: Global,
-    name: &str,
-    member: Member,
-    determinant: Determinant,
-) -> Result<Value, AllocError>
-    ensures { IfOk result (λ v. view v ≡ record_data name.now member determinant) }
-{
-    let member = member.number();
-    let from = determinant.from.number();
-    let ssn = determinant.ssn;
-    let to = determinant.to.number();
-    let rsn = determinant.rsn;
-    json!(in alloc; [name, member, from, ssn, to, rsn])
-}
 
 /// An event of a log as a list.
 struct EntryForm;
@@ -46,36 +28,26 @@ impl Form<Entry> for EntryForm {
             Entry::Hold {
                 holder,
                 determinant,
-            } => record_value(alloc, "hold", holder, determinant),
+            } => named_value(alloc, "hold", &pair_numbers(holder, determinant)),
             Entry::Store {
                 member,
                 determinant,
-            } => record_value(alloc, "store", member, determinant),
+            } => named_value(alloc, "store", &pair_numbers(member, determinant)),
         }
     }
 }
 
-/// An object with the keys of a log.
-fn log_object_value(
-    alloc: Global,
-    members: u8,
-    f: u8,
-    events: Value,
-    strike: Value,
-) -> Result<Value, AllocError>
-    ensures { IfOk result (λ v. view v ≡ log_object members f (view events) (view strike)) }
-{
-    json!(in alloc; {"version": 2, "members": members, "f": f, "events": events, "strike": strike})
-}
-
 /// A log as an object.
+#[tactic(auto, unfolding(crate::specs::LogLines::log_data))]
 fn log_value(alloc: Global, log: &RunLog) -> Result<Value, AllocError>
     ensures value { IfOk result (λ v. view v ≡ log_data log.now) }
     ensures reads_back { IfOk result (λ v. log_of_data (log_data log.now) ≡ Ok log.now) }
 {
+    let mut object = common_members(alloc, log.members(), log.f(), log.strike())?;
     let events = list_value::<Entry, EntryForm>(alloc, log.entries())?;
-    let strike = set_value(alloc, log.strike())?;
-    log_object_value(alloc, log.members(), log.f(), events, strike)
+    put(&mut object, alloc, "events", events)?;
+    put(&mut object, alloc, "version", Value::from(2u8))?;
+    Ok(Value::Object(object))
 }
 
 /// The log as JSON with no space. A newline may stand behind it where it is read.

@@ -4,6 +4,7 @@ ghost use Rattle.std.specs.Prelude.{◌≡◌, [], ◌∷◌, map, Ok, IfOk, IfE
 ghost use Rattle.serde_json.specs.Data.{Data};
 ghost use Rattle.serde_json.specs.View.{view};
 ghost use Rattle.fbl_base.specs.Audit.{IsDump, parts_of};
+ghost use Rattle.fbl_input.specs.Faults.{IsUnread};
 ghost use Rattle.fbl_input.specs.Items.{event_from, pair_from, receipt_from, send_from};
 ghost use Rattle.fbl_input.specs.Misfits.{Gives, IsMisfit, IsOfShape};
 ghost use Rattle.fbl_input.specs.declared.misfit.InputKind.TheVariants as kinds;
@@ -144,17 +145,29 @@ pub struct DumpInput {
     pub bytes: Vec<u8>,
 }
 
+/// What the reader has, or why it cannot be had, as the fault of an input of this kind.
+pub(crate) fn input_of<R: Read>(
+    alloc: Global,
+    kind: InputKind,
+    reader: &mut R,
+) -> Result<Vec<u8>, InputFault>
+    ensures whole { IfOk result (λ v. IfSome (R.remaining reader.old) (λ input. v.items ≡ input)) }
+    ensures unread { IfErr result (λ fault. (fault.kind ≡ kind) × IsUnread (R.remaining reader.old) fault.misfit) }
+{
+    read_input(alloc, reader).map_err(|misfit| InputFault {
+        kind,
+        misfit,
+        input: Vec::new(alloc),
+    })
+}
+
 /// What the reader has, as one JSON object in the form of a dump, or the first fault of that form.
 pub fn read_raw_dump<R: Read>(alloc: Global, reader: &mut R) -> Result<DumpInput, InputFault>
     ensures parts { IfOk result (λ found. IfSome (R.remaining reader.old) (λ input. IsRawDumpOf input found)) }
     ensures fault { IfErr result (λ fault. IfSome (R.remaining reader.old) (λ input. IsNoRawDump input fault)) }
 {
     let kind = InputKind::Dump;
-    let bytes = read_input(alloc, reader).map_err(|misfit| InputFault {
-        kind,
-        misfit,
-        input: Vec::new(alloc),
-    })?;
+    let bytes = input_of(alloc, kind, reader)?;
     match raw_dump_in(alloc, bytes.as_slice()) {
         Ok(raw) => Ok(DumpInput { raw, bytes }),
         Err(misfit) => Err(InputFault {

@@ -10,11 +10,11 @@ ghost use Rattle.fbl_texts.specs.RawDumps.{RefusesNone};
 ghost use Rattle.fbl_texts.specs.Logs.{IsCheckedOf, IsNotChecked, IsNotRecorded, IsMisfitOf, IsRecordedOf, ObeysRules, recorded_kind, recorded_of_data, recorded_of_input, recorded_parts, log_version};
 
 use crate::log_reading::{LogVersionShape, raw_log_of};
-use crate::reading::{DumpInput, dump_of_input, raw_dump_of};
+use crate::reading::{DumpInput, dump_of_input, input_of, raw_dump_of};
 use fbl_base::RawDump;
 use fbl_base::audit::Dump;
 use fbl_input::shapes::{JsonShape, value_in};
-use fbl_input::{InputFault, InputKind, Key, Misfit, read_input};
+use fbl_input::{InputFault, InputKind, Key, Misfit};
 use fbl_moments::{RawLog, RunLog, checked_log};
 use serde_json::Value;
 use std::alloc::Global;
@@ -96,11 +96,7 @@ pub fn read_recorded<R: Read>(alloc: Global, reader: &mut R) -> Result<RecordedI
     ensures parts { IfOk result (λ found. IfSome (R.remaining reader.old) (λ input. IsRecordedOf input found)) }
     ensures fault { IfErr result (λ fault. IfSome (R.remaining reader.old) (λ input. IsNotRecorded input fault)) }
 {
-    let bytes = read_input(alloc, reader).map_err(|misfit| InputFault {
-        kind: InputKind::Dump,
-        misfit,
-        input: Vec::new(alloc),
-    })?;
+    let bytes = input_of(alloc, InputKind::Dump, reader)?;
     match recorded_in(alloc, bytes.as_slice()) {
         Ok(recorded) => Ok(RecordedInput { recorded, bytes }),
         Err((kind, misfit)) => Err(InputFault {

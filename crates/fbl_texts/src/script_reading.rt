@@ -13,13 +13,14 @@ ghost use Rattle.fbl_input.specs.declared.misfit.InputKind.TheVariants as kinds;
 ghost use Rattle.fbl_texts.specs.Scripts.{IsNoScript, IsScriptMisfit, IsScriptOf, commands_at, outline, outline_of, request_outline, version_shape};
 
 use crate::commands::commands_in;
+use crate::reading::input_of;
 use crate::script::{BehaviourName, Command, Script, Version};
 use fbl_base::{Config, Note, Start};
 use fbl_input::shapes::{
     ByteShape, JsonShape, count_in, is_named, list_field, list_in, member_in, no_other_key,
     object_in, value_field, value_in, values_field,
 };
-use fbl_input::{InputFault, InputKind, Key, Misfit, read_input};
+use fbl_input::{InputFault, InputKind, Key, Misfit};
 use serde_json::Value;
 use std::alloc::Global;
 use std::io::Read;
@@ -193,11 +194,7 @@ pub fn read_script<R: Read>(alloc: Global, reader: &mut R) -> Result<Script, Inp
     ensures fault { IfErr result (λ fault. IfSome (R.remaining reader.old) (λ input. IsNoScript input fault)) }
 {
     let kind = InputKind::Script;
-    let input = read_input(alloc, reader).map_err(|misfit| InputFault {
-        kind,
-        misfit,
-        input: Vec::new(alloc),
-    })?;
+    let input = input_of(alloc, kind, reader)?;
     match script_in(alloc, input.as_slice()) {
         Ok(script) => Ok(script),
         Err(misfit) => Err(InputFault {

@@ -2,16 +2,17 @@
 
 ghost use Rattle.std.specs.Prelude.{◌≡◌, ◌≤◌, ◌++◌, ◌∷◌, [], ℕ, length, map, Some, Ok, IfOk, string_bytes};
 ghost use Rattle.std.specs.List.{All};
-ghost use Rattle.serde_json.specs.View.{view};
+ghost use Rattle.serde_json.specs.Data.{string};
+ghost use Rattle.serde_json.specs.View.{members_view, view};
 ghost use Rattle.serde_json.specs.Written.{compact_text};
 ghost use Rattle.fbl_input.specs.Shapes.{longest, member_shape};
 ghost use Rattle.fbl_texts.specs.Dumps.{event_shape, pair_shape, parts_of_data, parts_of_input};
 ghost use Rattle.fbl_base.specs.MemberSets.{member_list};
-ghost use Rattle.fbl_texts.specs.DumpLines.{dump_data, dump_object, dump_line, ReadsBack, event_data, list_data, number_data, pair_data};
+ghost use Rattle.fbl_texts.specs.DumpLines.{common_data, dump_data, dump_line, ReadsBack, event_data, list_data, number_data, pair_data};
 
 use fbl_base::audit::Dump;
 use fbl_base::{Determinant, Mark, Member, MemberSet};
-use serde_json::{Value, json};
+use serde_json::{Map, Value, put};
 use std::alloc::{AllocError, Global};
 
 /// How a value of a type is written as JSON, from which it is read back.
@@ -44,17 +45,24 @@ impl Form<Mark> for EventForm {
     fn value_of(alloc: Global, event: Mark) -> Result<Value, AllocError> {
         match event {
             Mark::Send { from, ssn, to } => {
-                let from = from.number();
-                let to = to.number();
-                json!(in alloc; ["send", from, ssn, to])
+                let numbers = [u32::from(from.number()), ssn, u32::from(to.number())];
+                named_value(alloc, "send", &numbers)
             }
             Mark::Receipt { to, rsn, from, ssn } => {
-                let to = to.number();
-                let from = from.number();
-                json!(in alloc; ["receipt", to, rsn, from, ssn])
+                let numbers = [u32::from(to.number()), rsn, u32::from(from.number()), ssn];
+                named_value(alloc, "receipt", &numbers)
             }
         }
     }
+}
+
+/// The numbers of a holder and of the determinant.
+pub(crate) fn pair_numbers(holder: Member, determinant: Determinant) -> [u32; 5]
+    ensures { result ≡ holder ∷ determinant.from ∷ determinant.ssn ∷ determinant.to ∷ determinant.rsn ∷ [] }
+{
+    let from = u32::from(determinant.from.number());
+    let to = u32::from(determinant.to.number());
+    [u32::from(holder.number()), from, determinant.ssn, to, determinant.rsn]
 }
 
 /// A held pair as a list.
@@ -69,13 +77,24 @@ impl Form<(Member, Determinant)> for PairForm {
     ghost shape = { pair_shape };
 
     fn value_of(alloc: Global, pair: (Member, Determinant)) -> Result<Value, AllocError> {
-        let (holder, determinant) = pair;
-        let holder = holder.number();
-        let from = determinant.from.number();
-        let ssn = determinant.ssn;
-        let to = determinant.to.number();
-        let rsn = determinant.rsn;
-        json!(in alloc; [holder, from, ssn, to, rsn])
+        let numbers = pair_numbers(pair.0, pair.1);
+        list_value::<u32, NumberForm>(alloc, &numbers)
+    }
+}
+
+/// A number as it is.
+struct NumberForm;
+
+impl Form<u32> for NumberForm {
+    ghost use Rattle.fbl_input.specs.Shapes.{count_shape};
+    ghost use Rattle.fbl_texts.specs.DumpLines.{number_data};
+
+    ghost form = { number_data };
+
+    ghost shape = { count_shape };
+
+    fn value_of(_alloc: Global, number: u32) -> Result<Value, AllocError> {
+        Ok(Value::from(number))
     }
 }
 
@@ -90,10 +109,25 @@ impl Form<Member> for MemberForm {
 
     ghost shape = { member_shape };
 
-    fn value_of(alloc: Global, member: Member) -> Result<Value, AllocError> {
-        let number = member.number();
-        json!(in alloc; number)
+    fn value_of(_alloc: Global, member: Member) -> Result<Value, AllocError> {
+        Ok(Value::from(member.number()))
     }
+}
+
+/// The items as a list, behind these values.
+fn list_behind<T: Copy, F: Form<T>>(
+    alloc: Global,
+    front: Vec<Value>,
+    items: &[T],
+) -> Result<Value, AllocError>
+    ensures value { IfOk result (λ v. view v ≡ list_data (map view front.items ++ map F.form items.now)) }
+    ensures reads_back { IfOk result (λ v. All (λ x. F.shape (F.form x) ≡ Some x) items.now) }
+{
+    let mut values = front;
+    for item in items {
+        values.push(F::value_of(alloc, *item)?)?;
+    }
+    Ok(Value::Array(values))
 }
 
 /// The items as a list.
@@ -104,11 +138,16 @@ pub(crate) fn list_value<T: Copy, F: Form<T>>(
     ensures value { IfOk result (λ v. view v ≡ list_data (map F.form items.now)) }
     ensures reads_back { IfOk result (λ v. All (λ x. F.shape (F.form x) ≡ Some x) items.now) }
 {
-    let mut values = Vec::new(alloc);
-    for item in items {
-        values.push(F::value_of(alloc, *item)?)?;
-    }
-    Ok(Value::Array(values))
+    list_behind::<T, F>(alloc, Vec::new(alloc), items)
+}
+
+/// The numbers as a list that begins with this name.
+pub(crate) fn named_value(alloc: Global, name: &str, numbers: &[u32]) -> Result<Value, AllocError>
+    ensures { IfOk result (λ v. view v ≡ list_data (string name.now ∷ map number_data numbers.now)) }
+{
+    let mut front = Vec::new(alloc);
+    front.push(Value::String(String::from_str(alloc, name)?))?;
+    list_behind::<u32, NumberForm>(alloc, front, numbers)
 }
 
 /// A set as the list of its members, rising.
@@ -120,29 +159,35 @@ pub(crate) fn set_value(alloc: Global, set: MemberSet) -> Result<Value, AllocErr
     list_value::<Member, MemberForm>(alloc, members.as_slice())
 }
 
-/// An object with the keys of a dump.
-fn object_value(
+/// The members of an object that a dump has in either version, but for its events.
+pub(crate) fn common_members(
     alloc: Global,
     members: u8,
     f: u8,
-    events: Value,
-    held: Value,
-    strike: Value,
-) -> Result<Value, AllocError>
-    ensures { IfOk result (λ v. view v ≡ dump_object members f (view events) (view held) (view strike)) }
+    strike: MemberSet,
+) -> Result<Map<String, Value>, AllocError>
+    ensures value { IfOk result (λ m. members_view m.entries ≡ common_data members f strike) }
+    ensures reads_back { IfOk result (λ m. All (λ m. member_shape (number_data m) ≡ Some m) (member_list strike)) }
 {
-    json!(in alloc; {"members": members, "f": f, "events": events, "held": held, "strike": strike})
+    let mut object = Map::new(alloc);
+    put(&mut object, alloc, "members", Value::from(members))?;
+    put(&mut object, alloc, "f", Value::from(f))?;
+    put(&mut object, alloc, "strike", set_value(alloc, strike)?)?;
+    Ok(object)
 }
 
 /// A dump as an object.
+#[tactic(auto, unfolding(crate::specs::DumpLines::dump_data))]
 fn dump_value(alloc: Global, dump: &Dump) -> Result<Value, AllocError>
     ensures value { IfOk result (λ v. view v ≡ dump_data dump.now) }
     ensures reads_back { IfOk result (λ v. parts_of_data (dump_data dump.now) ≡ Ok dump.now) }
 {
+    let mut object = common_members(alloc, dump.members(), dump.f(), dump.strike())?;
     let events = list_value::<Mark, EventForm>(alloc, dump.events())?;
+    put(&mut object, alloc, "events", events)?;
     let held = list_value::<(Member, Determinant), PairForm>(alloc, dump.held())?;
-    let strike = set_value(alloc, dump.strike())?;
-    object_value(alloc, dump.members(), dump.f(), events, held, strike)
+    put(&mut object, alloc, "held", held)?;
+    Ok(Value::Object(object))
 }
 
 /// The dump as JSON with no space. A newline may stand behind it where it is read.

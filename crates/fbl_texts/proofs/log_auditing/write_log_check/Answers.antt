@@ -1,16 +1,16 @@
-use Rattle.fbl_texts.proofs.Common.{puts_front}
+use Rattle.fbl_texts.proofs.Common.{◌∙◌, ap}
+use Rattle.fbl_moments.specs.Entries.{receipts_in}
 use Rattle.fbl_moments.specs.Logs.{run_of}
 use Rattle.fbl_moments.specs.Runs.{AlwaysSafe}
-use Rattle.fbl_texts.specs.LogAuditing.{IsLogCheckText, IsLogChecked}
-use Rattle.fbl_texts.proofs.Verdicts.{verdict_is, verdict_of}
+use Rattle.fbl_moments.specs.Unsafe.{SaysUnsafe}
+use Rattle.fbl_texts.specs.Auditing.{verdict_of}
+use Rattle.fbl_texts.specs.LogAuditing.{IsLogCheckText}
+use Rattle.fbl_texts.proofs.Verdicts.{puts_verdict}
 use Rattle.fbl_texts.proofs.log_auditing.write_log_check.Goals as goal
 
-pub returns-in_err-put : goal.returns-in_err-put
-returns-in_err-put g c =
+pub returns : goal.returns
+returns g c =
     let log = c.args.log.now in
-    let sources = c.args.sources.now in
-    let said = c.in_ok-moments.moments.items in
-    let text : IsLogCheckText sources said c.as_bytes.result.now = rw c.as_bytes.ensures.value (rw c.as_slice.ensures.value at c.in_ok-text.ensures) in
-    let right : IsLogChecked log sources (verdict_of said) c.as_bytes.result.now =
-    (verdict_is (AlwaysSafe (run_of log)) said c.in_ok-moments.ensures.safe, (said, c.in_ok-moments.ensures.said, text)) in
-    puts_front (IsLogChecked log sources) (verdict_of said) _ right _ _ _ _ c.from_residual-in_err-put.ensures.1 c.in_err-put.ensures.front c.in_err-put.ensures.fault
+    puts_verdict (AlwaysSafe (run_of log)) (IsLogCheckText c.args.sources.now) (SaysUnsafe log (receipts_in log.entries)) c.in_ok-said.said.items _ c.in_ok-said.ensures.said c.in_ok-said.ensures.safe
+    (rw c.as_str.ensures.value (rw c.as_slice.ensures.value at c.in_ok-text.ensures)) _ _ _ c.put_verdict.result
+    (c.verdict_on.ensures ∙ ap verdict_of c.as_slice-2.ensures.value) c.put_verdict.ensures

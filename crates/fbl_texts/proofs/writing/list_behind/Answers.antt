@@ -1,6 +1,6 @@
-use Rattle.fbl_texts.proofs.Common.{◌≡◌, ap, ◌∙◌, Some, map, take_all, array, view, items_of, view-Array}
+use Rattle.fbl_texts.proofs.Common.{◌≡◌, ◌++◌, ap, ◌∙◌, Some, map, take_all, array, view, items_of, view-Array}
 use Rattle.fbl_texts.proofs.Values.{next_value, next_read}
-use Rattle.fbl_texts.proofs.writing.list_value.Goals as goal
+use Rattle.fbl_texts.proofs.writing.list_behind.Goals as goal
 
 pub loop-item-preserved : goal.loop-item-preserved
 loop-item-preserved g c =
@@ -9,11 +9,11 @@ loop-item-preserved g c =
     let x = c.item-item.result in
     record {
       value = ap (map view) c.in_ok-push.ensures.items
-          ∙ next_value form _ _ xs _ x c.loop-item-test.true c.loop-item.invariant.value (c.in_ok-value_of.ensures.value ∙ ap form c.item-item.is);
+          ∙ next_value form _ _ _ xs _ x c.loop-item-test.true c.loop-item.invariant.value (c.in_ok-value_of.ensures.value ∙ ap form c.item-item.is);
       reads_back = next_read (λ y. g.F.Form.shape (form y) ≡ Some y) xs _ x c.loop-item-test.true c.loop-item.invariant.reads_back (rw (← c.item-item.is) c.in_ok-value_of.ensures.reads_back);
     }
 
 pub returns-clause-value : goal.returns-clause-value
 returns-clause-value g c =
     let n = c.loop-item.item-index in
-    view-Array c.loop-item.values ∙ ap (λ ds. array (items_of ds)) (c.loop-item.invariant.value ∙ ap (map g.F.Form.form) (take_all n c.args.items.now c.loop-item-test.false))
+    view-Array c.loop-item.values ∙ ap (λ ds. array (items_of ds)) (c.loop-item.invariant.value ∙ ap (λ ys. map view c.args.front.items ++ map g.F.Form.form ys) (take_all n c.args.items.now c.loop-item-test.false))
