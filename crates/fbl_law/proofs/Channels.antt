@@ -82,9 +82,7 @@ module _ {S N : Type 0} {n f : ℕ} {r : Knowledge S N} (sound : IsSoundKnowledg
   -- the receipt of the front of a channel may come next, where the trace has room
   pub front_may_follow : (v : Message N) → slice_get (r.channel v.from v.to) 0 ≡ Some v → length r.trace < 8192
       → MayFollow n r.trace (Receipt v.to (receipts_of r.trace v.to + 1) v.from v.ssn)
-  front_may_follow v front room =
-      let ends = flight_ends v (Contains-at (r.channel v.from v.to) 0 v front) in
-      (ends.0, ends.1, ends.2, refl, room, (channel-at v.from v.to 0 v front).0.0)
+  front_may_follow v front room = grind (arith, nat_tests, flight_ends v (Contains-at (r.channel v.from v.to) 0 v front), channel-at)
 
 module _ {N : Type 0} where
   -- the messages made between two members, by their marks

@@ -50,16 +50,14 @@ module _ {S N : Type 0} (next : Next S N) (old : GroupRecord S N) (sound : IsSou
             grind (arith, nat_tests, rw (get_or_from_slice_get (marks old) i (receipt_of c) (receipt_of c) at_c) at none)
 
         held : UpTo (marks old) (receipt_of c) e → is_held table c ≡ true
-        held (inl same) = before has.0 has.0 (omega arith) (rw same has.1) has.1
-        held (inr earlier) = before earlier.0 earlier.1 (omega (arith, earlier.2)) earlier.3 earlier.4
+        held up_to = search (arith, before)
 
   -- the event at the place is a lost receipt
   first-lost : (m : ℕ) (e : Mark) → At (marks old) (first m) e → (d : Determinant) × (e ≡ receipt_of d) × (d.to ≡ m) × (is_held table d ≡ false)
   first-lost m e here =
       lost_one e (rw (get_or_from_slice_get (marks old) (first m) e e here) at (passes_at_first (is_lost table m) (marks old) e (slice_get_within (marks old) (first m) e here))) where
         lost_one : (e : Mark) → is_lost table m e ≡ true → (d : Determinant) × (e ≡ receipt_of d) × (d.to ≡ m) × (is_held table d ≡ false)
-        lost_one (Send q k p) is = absurd cc
-        lost_one (Receipt p r q k) is = (record { from = q; ssn = k; to = p; rsn = r }, refl, grind (arith, nat_tests), grind arith)
+        lost_one e is = search arith
 
   stays-keep : (e : Mark) → Has (marks old) e → Stays (knowledge old) e → keep e ≡ true
   stays-keep e has stays = elim (down_or_up old.down (member_of e)) [
@@ -69,10 +67,7 @@ module _ {S N : Type 0} (next : Next S N) (old : GroupRecord S N) (sound : IsSou
         let there = some-at (marks old) (first (member_of e)) (omega (arith, slice_get_within (marks old) has.0 e has.1)) in
         let lost = first-lost (member_of e) there.0 there.1 in
         let here : At (marks old) (first (member_of e)) (receipt_of lost.0) = there.1 ∙ ap Some lost.1 in
-        let up_to : UpTo (marks old) (receipt_of lost.0) e = elim (cases_eq (first (member_of e)) has.0) [
-          | inl same ↦ inl (let h = has.1 in cc)
-          | inr other ↦ inr (first (member_of e), has.0, omega arith, here, has.1)
-        ] in
+        let up_to : UpTo (marks old) (receipt_of lost.0) e = search (arith, cases_eq) in
         let is = held-Names table lost.0 (recorded_gathered sound.causes lost.0 (stays down lost.0 lost.2 up_to)) in
         false≢true (sym lost.3 ∙ is) in
         keep-at has.0 e has.1 down ∙ grind (arith, nat_tests, none)
@@ -90,10 +85,7 @@ module _ {S N : Type 0} (next : Next S N) (old : GroupRecord S N) (sound : IsSou
   unfolding recovered_trace-cut
   recovered_lawful = Lawful-kept next old.config.members old.config.starts keep old.trace sound.lawful (cut-causes sound recovered_trace-cut) stop tells ends where
     tells : (i : ℕ) (e : Event N) → slice_get old.trace i ≡ Some e → keep (mark_of e) ≡ nat_lt i (stop (member_of (mark_of e)))
-    tells i e here = elim (down_or_up old.down (member_of (mark_of e))) [
-      | inl down ↦ rw down (keep-at i (mark_of e) (mark-at old.trace i e here) down)
-      | inr up ↦ rw up (keep-up (mark_of e) up ∙ grind (arith, nat_tests, slice_get_within old.trace i e here))
-    ]
+    tells i e here = search (arith, down_or_up, keep-at, mark-at, keep-up, slice_get_within)
 
     receipt_is : (e : Event N) (d : Determinant) → mark_of e ≡ receipt_of d → e ≡ event.Receipt d.to d.rsn d.from d.ssn
     receipt_is e d is = grind arith
@@ -199,14 +191,8 @@ module _ {S N : Type 0} {next : Next S N} {old : GroupRecord S N} (sound : IsSou
     is-receiver p e is = grind (arith, nat_tests)
 
     agrees : (e : Mark) → stays_by old.down work e ≡ stays_in old e
-    agrees (Send q k to) = elim (down_or_up old.down q) [
-      | inr up ↦ rw up refl
-      | inl down ↦ rw (log-sent q (sound.down q down) down, left-before q (is_send_of q) down (is-sender q)) refl
-    ]
-    agrees (Receipt p r q k) = elim (down_or_up old.down p) [
-      | inr up ↦ rw up refl
-      | inl down ↦ rw (all p (sound.down p down) down, length-receipts_at (map mark_of (recovered_trace old)) p, left-before p (is_receipt_of p) down (is-receiver p)) refl
-    ]
+    agrees (Send q k to) = search (arith, down_or_up, log-sent, left-before, is-sender)
+    agrees (Receipt p r q k) = search (arith, down_or_up, length-receipts_at, left-before, is-receiver)
 
 module _ {S N : Type 0} (next : Next S N) (old new : GroupRecord S N) (step : IsRecovery next old new) (sound : IsSound next old) where
   pub group_recovery_keeps : IsSound next new

@@ -134,9 +134,7 @@ module _ {S N : Type 0} (next : Next S N) (old new : GroupRecord S N) (struck : 
     }
 
     same : (k : Store N) → IsThere (knowledge new) k → IsSameStore (knowledge old) (knowledge new) k
-    same (in_table m) now = (up m now, table_still m now, λ b there owes. (rw s.trace at there, owes))
-    same (in_message v) flies = grind arith
-    same (in_checkpoint m) there = (tt, rw (s.checkpoints, s.outside) refl, λ b there owes. (rw s.trace at there, rw (s.checkpoints, s.outside) at owes))
+    same k there = search (arith, up, table_still)
 
     pub strike_keeps : IsSoundKnowledge old.config.members old.config.f (knowledge new)
     strike_keeps =

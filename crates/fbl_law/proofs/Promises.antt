@@ -75,18 +75,14 @@ module _ (S N : Type 0) where
       ]
     where
       holder : (m : ℕ) → IsHolder (knowledge r) d m → IsHeldBy r d m
-      holder m (inl holds) = held-Names (member r m).table d holds.1
-      holder m (inr down) = never_both r.down m down.0 (up_if_none nobody m)
+      holder m either = search (arith, held-Names, never_both, up_if_none)
 
 module _ {S N : Type 0} where
   -- of more than f holders one is outside a set of at most f members, and up
   pub any_survivors_hold : (n f : ℕ) (r : Knowledge S N) (s : Members) → IsSoundKnowledge n f r → ((q : ℕ) → IsDown r q → Includes s q) → set.len s ≤ f → SurvivorsHold r s
   any_survivors_hold n f r s sound covers few m d out depends =
       let up : IsUp r m = elim (down_or_up r.down m) [ inl down ↦ never_both s m (covers m down) out | inr up ↦ up ] in
-      elim (sound.closed.events (in_table m) depends.0 up depends.2 d depends.1) [
-        | inl named ↦ (m, out, named)
-        | inr stable ↦ grind (arith, nat_tests, some_outside, never_both)
-      ]
+      grind (arith, nat_tests, sound.closed.events (in_table m) depends.0 up depends.2 d depends.1, some_outside, never_both)
 
   pub sound_records_causes : OfSound S N (λ r. RecordsCauses (knowledge r))
   sound_records_causes next r sound = IsRecorded-before r.config.f (knowledge r) sound.causes.closed

@@ -28,10 +28,7 @@ receipts_at-number : (n : ℕ) (t : List Mark) (p j : ℕ) (d : Determinant) →
 receipts_at-number n t p j d obeys = WellFormed-keeps n (λ u. (j : ℕ) → slice_get (receipts_at u p) j ≡ Some d → d.rsn ≡ j + 1) (λ j here. absurd cc) more t obeys j where
   more : (u : List Mark) (e : Mark) → WellFormed n u → MayFollow n u e → ((j : ℕ) → slice_get (receipts_at u p) j ≡ Some d → d.rsn ≡ j + 1)
       → (j : ℕ) → slice_get (receipts_at (u ++ e ∷ []) p) j ≡ Some d → d.rsn ≡ j + 1
-  more u (Send q k to) obeys_u may before j here = before j (rw (filter_map-append determinant_of, append-nil) at here)
-  more u (Receipt to r q k) obeys_u may before j here =
-      let now : slice_get (receipts_at u p ++ receipts_at (Receipt to r q k ∷ []) p) j ≡ Some d = rw (filter_map-append determinant_of, filter-append) at here in
-      grind (arith, nat_tests, now, append-nil, before j, At-push (receipts_at u p) (record { from = q; ssn = k; to = to; rsn = r }) j d, may.3, length-receipts_at u p)
+  more u e obeys_u may before j here = search (arith, filter_map-append, append-nil, filter-append, At-push, length-receipts_at)
 
 -- they are in the trace, and the member's
 pub receipts_at-Has : (n : ℕ) (t : List Mark) (p j : ℕ) (d : Determinant) → WellFormed n t → slice_get (receipts_at t p) j ≡ Some d

@@ -89,10 +89,7 @@ module _ {S N : Type 0} {next : Next S N} {old : GroupRecord S N} (sound : IsSou
       left_if (receipt_of d) (Has-recorded (knowledge old) sound.causes.truth d recorded) (λ c. IsRecorded-before old.config.f (knowledge old) sound.causes.closed c d recorded)
 
 pub stays_is_recorded : {S N : Type 0} → StaysIsRecorded S N
-stays_is_recorded next r sound e there = (
-  λ stays c before. recorded_before r.config.members r.config.f (knowledge r) sound.causes.rules sound.causes.closed c stays before,
-  Stays-recorded (knowledge r) e there,
-)
+stays_is_recorded next r sound e there = search (arith, recorded_before, Stays-recorded)
 
 module _ {S N : Type 0} (next : Next S N) (old new : GroupRecord S N) (recovery : IsRecovery next old new) (sound : IsSound next old) where
   abbrev cut : IsEventCut (Stays (knowledge old)) old.trace new.trace

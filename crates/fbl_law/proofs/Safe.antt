@@ -198,10 +198,7 @@ IsAlwaysHeld-closed f r empty closed d there = elim (cases_Bool (is_recorded_amo
   | inr lost ↦ inr (λ m up depends. absurd (false≢true (sym lost ∙ (Decides-recorded f r empty d).1 (IsRecorded-depended f r closed d m up depends))))
   | inl is ↦ elim (cases_lt f (set.len (all r d))) [
     | inl many ↦ inl (all r d, many, all_holder r d ((Decides-recorded f r empty d).0 is))
-    | inr few ↦ inr (λ m up depends. elim (closed.events (in_table m) depends.0 up depends.2 d depends.1) [
-      | inl named ↦ (up, named)
-      | inr stable ↦ grind (arith, nat_tests, len-within, Includes-all)
-    ])
+    | inr few ↦ inr (λ m up depends. grind (arith, nat_tests, closed.events (in_table m) depends.0 up depends.2 d depends.1, len-within, Includes-all))
   ]
 ]
 
@@ -221,10 +218,7 @@ dets_added (x ∷ table) e held = (let rest = dets_added table e in grind (arith
 
 once_gathered : (table other : List Entry) → IsOnce table → IsOnce (gathered table other)
 once_gathered table [] once = once
-once_gathered table (e ∷ other) once = once_gathered (added table e) other (elim (cases_Bool (is_held table e.det)) [
-  | inl held ↦ rw (dets_added table e held) once
-  | inr new ↦ rw (added_new table e new) (once_push table e once new)
-])
+once_gathered table (e ∷ other) once = once_gathered (added table e) other (grind (arith, nat_tests, cases_Bool (is_held table e.det), dets_added, added_new, once_push))
 
 -- what a member has learned and its own new determinant
 pub once_noted : (p : ℕ) (table carried : List Entry) (own : Determinant) → IsOnce table → is_held table own ≡ false → is_held carried own ≡ false
@@ -246,8 +240,7 @@ held-gathered_all xs (t ∷ ts) d = rw (held-gathered_all (gathered xs t) ts d, 
 module _ {S N : Type 0} where
   -- what recovery gathers has no determinant twice
   pub once_recovery_table : (r : Knowledge S N) → IsOnce (recovery_table r)
-  once_recovery_table r =
-      rw map-map (once_gathered_all [] (map (λ (m : MemberRecord S N). m.table) r.members ++ saved_tables r.outside r.down r.checkpoints (length r.checkpoints)) IsOnce-none)
+  once_recovery_table r = search (arith, map-map, once_gathered_all, IsOnce-none)
 
   -- the tables of checkpoints are those of the members of the set
   Contains-saved : (outside : S) (s : Members) (checkpoints : List (MemberRecord S N)) (n m : ℕ) → m < n → Includes s m → Contains (saved_tables outside s checkpoints n) (get_or checkpoints m (blank outside)).table
@@ -328,9 +321,5 @@ module _ {S N : Type 0} {n f : ℕ} {r : Knowledge S N} (sound : IsSoundKnowledg
   recorded_gathered d (inr saved) =
       elim (down_or_up r.down saved.0) [
         | inr up ↦ table_gathered saved.0 d (sound.checkpoints saved.0 d up saved.1)
-        | inl down ↦
-            source_gathered (checkpoint r saved.0).table d
-            (Contains-append_right (map (λ (m : MemberRecord S N). m.table) r.members) _ (checkpoint r saved.0).table
-            (Contains-saved r.outside r.down r.checkpoints (length r.checkpoints) saved.0 (named_record r.outside r.checkpoints saved.0 d saved.1) down))
-            saved.1
+        | inl down ↦ search (arith, source_gathered, Contains-append_right, Contains-saved, named_record)
       ]

@@ -16,11 +16,4 @@ module _ {S N : Type 0} where
   run_is_sound next config r well allowed (recovers {old = old} run s) = group_recovery_keeps next old r s (run_is_sound next config old well allowed run)
 
 pub returns : goal.returns
-returns g c = record {
-  start = group_start_is_sound;
-  delivery = group_delivery_keeps;
-  strike = group_strike_keeps;
-  checkpoint = group_checkpoint_keeps _ _;
-  recovery = group_recovery_keeps;
-  run = run_is_sound;
-}
+returns g c = search (group_start_is_sound, group_delivery_keeps, group_strike_keeps, group_checkpoint_keeps, group_recovery_keeps, run_is_sound)
