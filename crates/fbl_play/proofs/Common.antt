@@ -1,23 +1,14 @@
 -- The names that proofs of this crate take from outside: of the standard library, of the crates below, and of the definitions here.
-pub use Rattle.std.proofs.Common.{Err, IfErr, List, None, Ok, Option, Result, Some, [], ap, append-nil, arith, get_or, inl, inr, length, refl, string_bytes, subst}
-pub use Rattle.std.proofs.Common.{sym, take, drop, ℕ, ◌++◌, ◌+◌, ◌<◌, ◌∙◌, ◌∷◌, ◌≡◌, ◌≤◌, Bool, true, false, not, cond, suc, map, length-drop}
+pub use Rattle.std.proofs.Common.{Err, List, None, Ok, Option, Result, Some, [], ap, arith, get_or, inl, inr, length, refl, subst}
+pub use Rattle.std.proofs.Common.{sym, take, ℕ, ◌++◌, ◌+◌, ◌<◌, ◌∙◌, ◌∷◌, ◌≡◌, ◌≤◌}
 pub use Rattle.std.proofs.Math.Logic.{∥∥₁_map}
-pub use Rattle.std.proofs.lemmas.Bool.{false≢true, true_from_ne_false}
-pub use Rattle.std.proofs.lemmas.List.{drop_more, get_or_default, map_push, take_all, take_more}
-pub use Rattle.std.proofs.lemmas.List.Elements.{filter-append, filter_passes}
-pub use Rattle.std.proofs.lemmas.Result.{IfOk-weaker, err_from_is_err_and}
-pub use Rattle.std.specs.List.{filter}
+pub use Rattle.std.proofs.lemmas.List.{map_push, take_all, take_more}
+pub use Rattle.std.proofs.lemmas.Result.{err_from_is_err_and}
 pub use Rattle.std.specs.Result.{IsErrAnd}
 pub use Rattle.fbl_base.specs.Configs.{Settings}
 pub use Rattle.fbl_base.specs.Fold.{Next}
 pub use Rattle.fbl_base.specs.MemberSets.{Members}
-pub use Rattle.fbl_base.specs.Events.{mark_of, receipt_of, receipts, same_determinant}
-pub use Rattle.fbl_base.proofs.AuditLaws.{Decides-same_determinant}
-pub use Rattle.fbl_base.specs.Precedence.{Has, itself}
 pub use Rattle.fbl_base.specs.declared.strike.Strike.{Strike}
-pub use Rattle.fbl_base.specs.declared.trace.Determinant.{Determinant}
-pub use Rattle.fbl_base.specs.declared.trace.Event.{Event}
-pub use Rattle.fbl_group.specs.Strikes.{lost_receipts}
 pub use Rattle.fbl_base.specs.Steps.{SendsWell}
 pub use Rattle.fbl_history.proofs.Deliveries.{follows_delivery}
 pub use Rattle.fbl_history.proofs.Recoveries.{follows_recovery}
@@ -28,12 +19,8 @@ pub use Rattle.fbl_history.specs.Turns.{IsLedTo}
 pub use Rattle.fbl_history.specs.declared.column.Column.{Column}
 pub use Rattle.fbl_input.proofs.Inputs.{over_input}
 pub use Rattle.fbl_input.specs.declared.output.OutputFault.{OutputFault}
-pub use Rattle.fbl_law.proofs.Keeping.{recorded_test, was_up}
-pub use Rattle.fbl_law.proofs.Safe.{no_orphan, up_if_none}
-pub use Rattle.fbl_law.specs.GroupSteps.{IsGroupStart, IsStrike}
-pub use Rattle.fbl_law.specs.Groups.{GroupRecord, is_recorded, knowledge, marks, IsSound}
-pub use Rattle.fbl_law.specs.Knowledge.{IsRecorded, IsUp, Names}
-pub use Rattle.fbl_member.specs.Members.{MemberRecord}
+pub use Rattle.fbl_law.specs.GroupSteps.{IsGroupStart}
+pub use Rattle.fbl_law.specs.Groups.{GroupRecord, IsSound}
 pub use Rattle.fbl_texts.specs.Scripts.{IsScriptFault, IsScriptOf, outline}
 pub use Rattle.fbl_texts.specs.declared.script.Command.{Command}
 pub use Rattle.fbl_threads.proofs.Leading.{turns_lead}
@@ -41,8 +28,6 @@ pub use Rattle.fbl_threads.specs.Drains.{RecordedDrains}
 pub use Rattle.fbl_threads.specs.declared.draining.DrainRefusal.{DrainRefusal}
 pub use Rattle.fbl_threads.specs.declared.draining.Recorded.{Recorded}
 pub use Rattle.fbl_play.specs.Plays.{Along, IsPlay, IsRun, IsRunOne, IsStopped, Moment, Observes, PlaysUnobserved, Ran, Runs, next_of}
-pub use Rattle.fbl_play.specs.Reasons.{IsPlanRefused}
-pub use Rattle.fbl_play.specs.Texts.{of_members, member_line, state_word}
-pub use Rattle.fbl_play.specs.Steps.{RunStep, Step}
+pub use Rattle.fbl_commands.specs.Steps.{Step}
 pub use Rattle.fbl_play.specs.Transcripts.{IsAdded, IsBegun, IsLedOn, IsOfGroup, Transcript}
-pub use Rattle.fbl_play.specs.declared.answer.Answer.{Answer}
+pub use Rattle.fbl_commands.specs.declared.answer.Answer.{Answer}

@@ -1,4 +1,3 @@
 pub mod Common
-pub mod Losses
 pub mod Moments
 pub mod Histories

@@ -1,5 +1,2 @@
-pub mod Texts
-pub mod Reasons
-pub mod Steps
 pub mod Transcripts
 pub mod Plays

@@ -7,10 +7,10 @@ ghost use Rattle.fbl_play.specs.Plays.{IsHistoryPlay, IsPlay, PlaysScript, Reads
 ghost use Rattle.fbl_play.specs.Transcripts.{text};
 ghost use Rattle.fbl_texts.specs.Scripts.{outline};
 
-use crate::commands::run_command;
 use crate::observer::{NoObserver, Observer};
 use crate::transcript::{HistorySoFar, Transcriber};
 use fbl_base::{Behaviour, Config, Mix, Note, Relay};
+use fbl_commands::run_command;
 use fbl_group::Group;
 use fbl_history::History;
 use fbl_input::{OutputFault, RunFault};

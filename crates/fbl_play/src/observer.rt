@@ -1,8 +1,8 @@
 //! Who observes the commands of a run.
 
-use crate::answer::Answer;
 use crate::transcript::Transcribed;
 use fbl_base::{Behaviour, Note};
+use fbl_commands::Answer;
 use fbl_group::Group;
 use fbl_texts::Command;
 
@@ -16,7 +16,7 @@ pub trait Observer {
     ghost use Rattle.fbl_base.specs.declared.trace.Note.{Note};
     ghost use Rattle.fbl_law.specs.Groups.{GroupRecord};
     ghost use Rattle.fbl_play.specs.Transcripts.{Transcript};
-    ghost use Rattle.fbl_play.specs.declared.answer.Answer.{Answer};
+    ghost use Rattle.fbl_commands.specs.declared.answer.Answer.{Answer};
     ghost use Rattle.fbl_texts.specs.declared.script.Command.{Command};
 
     ghost observes_before: { GroupRecord ℕ Note → Transcript → Self → Command → Self → Type 0 };

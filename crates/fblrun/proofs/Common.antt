@@ -23,8 +23,8 @@ pub use Rattle.clap.specs.declared.parser.matches.ArgMatches.TheViews.{out-ArgMa
 pub use Rattle.clap.specs.declared.parser.matches.SubCommand.{SubCommand}
 pub use Rattle.fbl_base.proofs.AuditLaws.{or_false}
 pub use Rattle.fbl_base.specs.Configs.{WorkersAllowed}
-pub use Rattle.fbl_play.specs.Steps.{is_refusal}
-pub use Rattle.fbl_play.specs.declared.answer.Answer.{Answer}
+pub use Rattle.fbl_commands.specs.Steps.{is_refusal}
+pub use Rattle.fbl_commands.specs.declared.answer.Answer.{Answer}
 pub use Rattle.fbl_pictures.specs.HistoryPictures.{history_picture}
 pub use Rattle.fblrun.specs.CommandLines.{AreNames, IsRefusedFor, IsRequestOf, Names, all_given_in, given_in, is_merge, merge_line, texts_in, IsCommandLine, IsOrderAt, flag_text, is_play, is_show, order_for}
 pub use Rattle.fblrun.specs.CommandLines.{program, with_explain, with_strict, IsRequestAt, audit_line, check_line, draw_line, is_audit, is_check, is_draw}

@@ -27,7 +27,7 @@ use Rattle.fbl_input.specs.declared.fault.RunFault.{RunFault}
 use Rattle.fbl_input.specs.declared.input_fault.InputFault.{InputFault}
 use Rattle.fbl_input.specs.declared.output.OutputFault.{OutputFault}
 use Rattle.fbl_play.specs.Plays.{PlaysUnobserved}
-use Rattle.fbl_play.specs.Steps.{is_refusal}
+use Rattle.fbl_commands.specs.Steps.{is_refusal}
 use Rattle.fbl_play.specs.Transcripts.{history, text}
 use Rattle.fbl_texts.specs.Scripts.{Outline, IsScriptFault, IsScriptOf, behaviour_word}
 use Rattle.fbl_pictures.specs.HistoryPictures.{history_picture}

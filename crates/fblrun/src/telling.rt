@@ -10,10 +10,11 @@ use crate::streams::Failure;
 use crate::{DumpTask, INPUT_FAULT, fail, status_of};
 use fbl_base::audit::Dump;
 use fbl_base::{Behaviour, Note};
+use fbl_commands::{Account, Answer};
 use fbl_group::Group;
 use fbl_input::{InputFault, RunFault};
 use fbl_moments::RunLog;
-use fbl_play::{Account, Answer, Observer, Transcribed};
+use fbl_play::{Observer, Transcribed};
 use fbl_texts::{
     Checked, Command, Sources, why_lost, why_lost_in_log, why_unsafe, why_unsafe_in_log,
 };
@@ -74,7 +75,7 @@ impl<'a, R> Teller<'a, R> {
 
 impl<R: Eprint> Observer for Teller<'_, R> {
     ghost use Rattle.std.specs.Prelude.{◌≡◌, ◌||◌};
-    ghost use Rattle.fbl_play.specs.Steps.{is_refusal};
+    ghost use Rattle.fbl_commands.specs.Steps.{is_refusal};
 
     // what is told on standard error no contract sees
     ghost observes_before = { λ _ _ old _ new. new.has_refused ≡ old.has_refused };
