@@ -12,7 +12,7 @@ use Rattle.std.specs.FinSet as sets
 use Rattle.fbl_base.specs.declared.trace.Event.TheVariants as event
 use Rattle.std.proofs.Common.{append-nil}
 use Rattle.fbl_law.proofs.Lists.{Contains-at, Contains-from_filter, At-behind, Contains-none, Contains-there}
-use Rattle.fbl_law.proofs.Safe.{never_both, up_if_none, nobody_down_empty, Includes-insert_cases, Includes-only, Names-table, learned-keeps, All-from, once_noted}
+use Rattle.fbl_law.proofs.Safe.{never_both, up_if_none, nobody_down_empty, Includes-insert_cases, Names-table, learned-keeps, All-from, once_noted}
 use Rattle.fbl_law.proofs.Channels.{front_may_follow, flight_sent, channel-delivered}
 use Rattle.fbl_law.proofs.ReplayedRecords.{sent-noted, replayed-kept, replayed-step, fold-replayed, fold-received, replayed-fold, log-short}
 use Rattle.fbl_law.proofs.Promises.{up_state, received_counted, log_counted, receipt_is_new, new_not_held, new_not_carried}
@@ -171,8 +171,13 @@ module _ {S N : Type 0} (next : Next S N) (old new : GroupRecord S N) (v : Messa
       (All-from (λ e. IsGood (held_by v.to e)) v.carried (λ e h. let fact = sound.causes.truth (in_message v) e flies h in let now = still e v.from fact.1 fact.0 in (
         (now.0, λ m k. elim (Includes-insert_cases e.known v.to m k) [ inl self ↦ rw self (inl (up v.to, gained e.det (e, h, refl))) | inr was_known ↦ now.1 m was_known ]),
         contains-insert_same e.known v.to,
-      ))))
-      (((let r = At-behind (marks old) added_marks 0 (receipt_of own) refl in rw trace_now (r.0, r.2)), λ m h. rw (Includes-only v.to m h) (inl (up v.to, own_named))), contains-insert_same sets.empty v.to))
+      )))) (
+        (
+          (let r = At-behind (marks old) added_marks 0 (receipt_of own) refl in rw trace_now (r.0, r.2)),
+          λ m h. elim (Includes-insert_cases sets.empty v.to m h) [ inl self ↦ rw self (inl (up v.to, own_named)) | inr none ↦ never_both sets.empty m none (up_if_none refl m) ],
+        ),
+        contains-insert_same sets.empty v.to,
+      ))
 
   -- each is the receiver's and receives nothing but the message, and the one receipt is the one delivered
   abbrev IsOurs : Mark → Type 0
