@@ -12,7 +12,7 @@ pub use Rattle.std.proofs.lemmas.List.Elements.{All-append, All-cons, All-contai
 pub use Rattle.std.proofs.lemmas.List.Elements.{All-weaker, Contains-append_cases, Contains-append_left, Contains-append_right, Contains-get_or, filter-append, filter_map-append}
 pub use Rattle.std.proofs.lemmas.List.Elements.{filter_passes}
 pub use Rattle.std.proofs.lemmas.List.Filters.{length-filter_both}
-pub use Rattle.std.proofs.lemmas.List.Folds.{Any-from_list_any, find_at, fold-map, list_any-append, list_any-from_Any, list_any_at}
+pub use Rattle.std.proofs.lemmas.List.Folds.{Any-from_list_any, find_at, fold-map, fold_along, list_any-append, list_any-from_Any, list_any_at}
 pub use Rattle.std.proofs.lemmas.List.Sums.{count_by-le-length, fails_before_first, fold-append, passes_at_first, sum_by-append, sum_by-cons, sum_by-drop_more, sum_by_push}
 pub use Rattle.std.proofs.lemmas.List.Quantifiers.{all_pairs_push}
 pub use Rattle.std.proofs.lemmas.Map.Made.{AllPairs-from_IsDistinct, IsDistinct-from_AllPairs, is_member-Decides, length-le_from_is_member}

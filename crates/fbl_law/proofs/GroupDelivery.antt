@@ -12,7 +12,7 @@ use Rattle.std.specs.FinSet as sets
 use Rattle.fbl_base.specs.declared.trace.Event.TheVariants as event
 use Rattle.std.proofs.Common.{append-nil}
 use Rattle.fbl_law.proofs.Lists.{Contains-at, Contains-from_filter, At-behind, Contains-none, Contains-there}
-use Rattle.fbl_law.proofs.Safe.{never_both, up_if_none, nobody_down_empty, Includes-insert_cases, Includes-only, Names-table, learned-keeps, All-from, once_noted}
+use Rattle.fbl_law.proofs.Safe.{never_both, up_if_none, nobody_down_empty, Includes-insert_cases, Names-table, learned-keeps, All-from, once_noted}
 use Rattle.fbl_law.proofs.Channels.{front_may_follow, flight_sent, channel-delivered}
 use Rattle.fbl_law.proofs.ReplayedRecords.{sent-noted, replayed-kept, replayed-step, fold-replayed, fold-received, replayed-fold, log-short}
 use Rattle.fbl_law.proofs.Promises.{up_state, received_counted, log_counted, receipt_is_new, new_not_held, new_not_carried}
@@ -149,9 +149,6 @@ module _ {S N : Type 0} (next : Next S N) (old new : GroupRecord S N) (v : Messa
     paths = λ there path. Precedes-within (marks old) added_marks apart there (rw trace_now at path);
   }
 
-  gained : (d : Determinant) → Names v.carried d → Names (member new v.to).table d
-  gained d named = (receiver_names d).1 (inr (inl named))
-
   own_named : Names (member new v.to).table own
   own_named = (receiver_names own).1 (inr (inr refl))
 
@@ -169,10 +166,10 @@ module _ {S N : Type 0} (next : Next S N) (old new : GroupRecord S N) (v : Messa
       v.to was.table v.carried
       (All-from IsGood was.table (λ x h. let fact = sound.causes.truth (in_table v.to) x (was_up v.to) h in (still x v.to fact.1 fact.0, fact.1)))
       (All-from (λ e. IsGood (held_by v.to e)) v.carried (λ e h. let fact = sound.causes.truth (in_message v) e flies h in let now = still e v.from fact.1 fact.0 in (
-        (now.0, λ m k. elim (Includes-insert_cases e.known v.to m k) [ inl self ↦ rw self (inl (up v.to, gained e.det (e, h, refl))) | inr was_known ↦ now.1 m was_known ]),
+        (now.0, λ m k. elim (Includes-insert_cases e.known v.to m k) [ inl self ↦ rw self (inl (up v.to, (receiver_names e.det).1 (inr (inl (e, h, refl))))) | inr was_known ↦ now.1 m was_known ]),
         contains-insert_same e.known v.to,
       ))))
-      (((let r = At-behind (marks old) added_marks 0 (receipt_of own) refl in rw trace_now (r.0, r.2)), λ m h. rw (Includes-only v.to m h) (inl (up v.to, own_named))), contains-insert_same sets.empty v.to))
+      ((rw trace_now (length (marks old), At-seam (marks old) (receipt_of own) _), λ m h. elim (Includes-insert_cases sets.empty v.to m h) [ inl self ↦ rw self (inl (up v.to, own_named)) | inr none ↦ never_both sets.empty m none (up_if_none refl m) ]), contains-insert_same sets.empty v.to))
 
   -- each is the receiver's and receives nothing but the message, and the one receipt is the one delivered
   abbrev IsOurs : Mark → Type 0
@@ -189,7 +186,7 @@ module _ {S N : Type 0} (next : Next S N) (old new : GroupRecord S N) (v : Messa
   caught : (b : Mark) → Has (marks old) b → NamesCauses f (knowledge old) was.table b ⊎ NamesCauses f (knowledge old) v.carried b → NamesCauses f (knowledge new) (member new v.to).table b
   caught b there (inl had) d before =
       elim (NamesCauses-kept keeps sound.causes was.table b there had d before) [ inl named ↦ inl (Names-delivered d v.to named) | inr stable ↦ inr stable ]
-  caught b there (inr came) d before = elim (NamesCauses-kept keeps sound.causes v.carried b there came d before) [ inl named ↦ inl (gained d named) | inr stable ↦ inr stable ]
+  caught b there (inr came) d before = elim (NamesCauses-kept keeps sound.causes v.carried b there came d before) [ inl named ↦ inl ((receiver_names d).1 (inr (inl named))) | inr stable ↦ inr stable ]
 
   -- an event that leads to one of those added is of the receiver, or it is the send of the message
   abbrev IsEntry : Mark → Type 0
@@ -269,9 +266,6 @@ module _ {S N : Type 0} (next : Next S N) (old new : GroupRecord S N) (v : Messa
   receipts_now : receipts (marks new) ≡ receipts (marks old) ++ own ∷ []
   receipts_now = rw (marks_split, filter_map-append determinant_of (marks old) (map mark_of added), no_receipts v.to (length was.log) sends) refl
 
-  receipts_at_now : (m : ℕ) → receipts_at (marks new) m ≡ receipts_at (marks old) m ++ cond (v.to == m) (own ∷ []) []
-  receipts_at_now m = rw (receipts_now, filter-append) refl
-
   -- who has replayed its first receipts of the trace before has replayed them of the new one
   grown : (m : ℕ) (x : MemberRecord S N) → IsReplayed next n old.config.starts old.trace m x → IsReplayed next n old.config.starts new.trace m x
   grown m x =
@@ -280,17 +274,13 @@ module _ {S N : Type 0} (next : Next S N) (old new : GroupRecord S N) (v : Messa
       (λ d there to within. rw marks_split (there.0, At-front (marks old) (map mark_of added) there.0 (receipt_of d) there.1))
 
   other_fold : (m : ℕ) → m < n → m ≢ v.to → IsFold next new m
-  other_fold m below other =
-      let fold = sound.folds m below (was_up m) in
-      let same : receipts_at (marks new) m ≡ receipts_at (marks old) m = receipts_at_now m ∙ grind (arith, nat_tests, append-nil, other) in
-      replayed-fold (rw s.config is_lawful.well_formed) (rw (other_now m other, s.config) (grown m (member old m) (fold-replayed sound.lawful.well_formed fold)))
-      (rw (other_now m other) (fold-received sound.lawful.well_formed fold ∙ ap length (sym same)))
+  other_fold m below other = search (arith, was_up, receipts_now, filter-append, append-nil, replayed-fold, is_lawful, other_now, grown, fold-replayed, fold-received)
 
   own_fold : IsFold next new v.to
   own_fold =
       let fold_was = sound.folds v.to s.to_member (was_up v.to) in
       let count = fold-received sound.lawful.well_formed fold_was in
-      let more : receipts_at (marks new) v.to ≡ receipts_at (marks old) v.to ++ own ∷ [] = receipts_at_now v.to ∙ rw (eqb-self v.to) refl in
+      let more : receipts_at (marks new) v.to ≡ receipts_at (marks old) v.to ++ own ∷ [] = rw (receipts_now, filter-append, eqb-self v.to) refl in
       let here : slice_get (receipts_at (marks new) v.to) was.received ≡ Some own = ap (slice_get (receipts_at (marks new) v.to)) count ∙ rw more (At-seam (receipts_at (marks old) v.to) own []) in
       let noted_now : note_of new.trace v.from v.ssn ≡ Some v.note = rw s.trace (note_of-front old.trace added v.from v.ssn v.note noted) in
       let replayed = replayed-step is_lawful.well_formed (grown v.to was (fold-replayed sound.lawful.well_formed fold_was)) here noted_now in

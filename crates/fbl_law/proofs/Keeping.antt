@@ -5,7 +5,7 @@ use Rattle.fbl_law.proofs.Common.{Names, Holds, IsRecorded, IsHolder, IsStable, 
 use Rattle.fbl_law.proofs.Common.{◌≤◌, ap, ◌∙◌, AllBelow, Members, Next, MemberRecord, blank, GroupRecord, knowledge, IsFold, IsSound, IsStrike, RecordedTest, contains-union}
 use Rattle.fbl_law.proofs.Common.{IsOnce-none, false, ◌≢◌, ◌<◌, sym, slice_set, cases_eq, length-set, get_or-set_same, get_or-set_other, itself, member, member_checkpoint}
 use Rattle.fbl_law.proofs.Common.{IsReplayed, IsCheckpoint, CheckpointIsRecorded, GroupCheckpointKeeps, nat_tests}
-use Rattle.fbl_law.proofs.Safe.{down_or_up, up_at_ends, IsRecorded-before, recorded_holder, Contains-piggybacked, passed_or_known, never_both, Decides-recorded, up_if_none}
+use Rattle.fbl_law.proofs.Safe.{down_or_up, up_at_ends, IsRecorded-before, Contains-piggybacked, passed_or_known, never_both, Decides-recorded, up_if_none}
 use Rattle.fbl_law.proofs.Safe.{IsRecorded-reached}
 use Rattle.std.specs.FinSet as sets
 use Rattle.fbl_law.proofs.ReplayedRecords.{fold-replayed}
@@ -76,7 +76,7 @@ module _ {S N : Type 0} {n f : ℕ} {old new : Knowledge S N} (keeps : KeepsKnow
 
   pub IsTrueEntry-kept : (e : Entry) (m : ℕ) → IsHolder old e.det m → IsRecorded new e.det → IsTrueEntry old e → IsTrueEntry new e
   IsTrueEntry-kept e m holder now fact = (
-    keeps.left (receipt_of e.det) fact.0 (λ c. IsRecorded-before f old sound.closed c e.det (recorded_holder old e.det m holder)),
+    keeps.left (receipt_of e.det) fact.0 (λ c. IsRecorded-before f old sound.closed c e.det (search arith)),
     λ q h. IsHolder-kept e.det q now (fact.1 q h),
   )
 

@@ -8,7 +8,7 @@ use Rattle.fbl_law.proofs.Common.{Contains, zero-add, Contains-append_left, Cont
 use Rattle.fbl_law.proofs.Common.{Decides-same_determinant, Entry, MemberRecord, blank, receipts, ◌*◌, IsOnce, decided, add-zero, All-append, All-contains, All-map, All-nil, All}
 use Rattle.fbl_law.proofs.Common.{length-le_from_is_member, is_member-Decides, Send, Receipt, HeldAt, pairs_of, pairs_from, held_pairs, dump_of}
 use Rattle.fbl_law.proofs.Lists.{Contains-at, Contains-map, Contains-changed, Contains-none}
-use Rattle.fbl_law.proofs.Safe.{Has-named, up_if_named, not-held, held-Names, down_or_up, never_both, up_if_none, IsRecorded-before, Has-recorded, IsAlwaysHeld-closed, All-from}
+use Rattle.fbl_law.proofs.Safe.{Has-named, up_if_named, Names-held, held-Names, down_or_up, never_both, up_if_none, IsRecorded-before, Has-recorded, IsAlwaysHeld-closed, All-from}
 use Rattle.fbl_law.proofs.Channels.{channel-at, flight_ends, in_flight-later}
 use Rattle.fbl_law.proofs.ReplayedRecords.{log-length, fold-received, number-front}
 use Rattle.fbl_law.proofs.Receipts.{length-receipts_at}
@@ -42,21 +42,18 @@ module _ {S N : Type 0} (next : Next S N) (r : GroupRecord S N) (sound : IsSound
   receipt_is_new m from ssn below up has =
       omega (arith, received_counted m below up, receipt-number r.config.members (marks r) m _ from ssn sound.lawful.well_formed has)
 
-  -- tables and messages in flight name only receipts of the trace
+  -- tables name only receipts of the trace
   pub named_received : (m : ℕ) (d : Determinant) → Names (member r m).table d → Has (marks r) (receipt_of d)
   named_received m d named =
       let up = up_if_named r.config.f (knowledge r) sound.causes.down m d named in
       Has-named (knowledge r) (member r m).table (λ e h. (sound.causes.truth (in_table m) e up h).0) d named
 
-  pub carried_received : (v : Message N) (d : Determinant) → IsInFlight (knowledge r) v → Names v.carried d → Has (marks r) (receipt_of d)
-  carried_received v d flies named = Has-named (knowledge r) v.carried (λ e h. (sound.causes.truth (in_message v) e flies h).0) d named
-
   -- so no table has a determinant that is new, and no message in flight carries one
   pub new_not_held : (m : ℕ) (d : Determinant) → ¬ (Has (marks r) (receipt_of d)) → is_held (member r m).table d ≡ false
-  new_not_held m d new = not-held (member r m).table d (λ named. new (named_received m d named))
+  new_not_held m d new = grind (arith, nat_tests, Names-held (member r m).table d, named_received m d)
 
   pub new_not_carried : (v : Message N) (d : Determinant) → IsInFlight (knowledge r) v → ¬ (Has (marks r) (receipt_of d)) → is_held v.carried d ≡ false
-  new_not_carried v d flies new = not-held v.carried d (λ named. new (carried_received v d flies named))
+  new_not_carried v d flies new = grind (arith, nat_tests, Names-held v.carried d, Has-named (knowledge r) v.carried (λ e h. (sound.causes.truth (in_message v) e flies h).0) d)
 
   -- the number of a channel's front is beyond the last one that its receiver received from its sender
   pub front_is_later : (v : Message N) → slice_get (channel r v.from v.to) 0 ≡ Some v → last_from (member r v.to) v.from < v.ssn
@@ -144,7 +141,7 @@ module _ {S N : Type 0} (next : Next S N) (r : GroupRecord S N) (sound : IsSound
 
   pub carried_fits : (v : Message N) → IsInFlight (knowledge r) v → IsOnce v.carried → length v.carried ≤ length r.trace
   carried_fits v flies distinct =
-      omega (arith, entries_fit v.carried distinct (λ d. carried_received next r sound v d flies), length-filter_map determinant_of (marks r), length-map r.trace mark_of)
+      omega (arith, entries_fit v.carried distinct (Has-named (knowledge r) v.carried (λ e h. (sound.causes.truth (in_message v) e flies h).0)), length-filter_map determinant_of (marks r), length-map r.trace mark_of)
 
   held_at : (strike : Members) (i : ℕ) → HeldAt (dump_of r strike) i
   held_at strike i h at =

@@ -8,7 +8,7 @@ use Rattle.fbl_law.proofs.Common.{list_any-from_Any, All-cons, All-contains_itse
 use Rattle.fbl_law.proofs.Common.{Decides-or, ◌≤◌, and_parts, cases_lt, members_where, contains-members_where, contains-union, list_any, list_any_at, get_or_default}
 use Rattle.fbl_law.proofs.Common.{is_recorded_among, false≢true, nat_tests, len-within, IsAlwaysHeld, ◌≢◌, ◌++◌, map-append, map-map, all_pairs_push, IsOnce}
 use Rattle.fbl_law.proofs.Common.{AllPairs-from_IsDistinct, IsDistinct-from_AllPairs, gathered_all, recovery_table, saved_tables, added_new, not_held_learned, IsOnce-none, zero}
-use Rattle.fbl_law.proofs.Common.{suc, Contains-append_left, Contains-append_right, All-append, All-contains, All-from_get_or, All-nil, Contains-get_or, IsSoundKnowledge}
+use Rattle.fbl_law.proofs.Common.{suc, fold_along, Contains-append_left, Contains-append_right, All-append, All-contains, All-from_get_or, All-nil, Contains-get_or, IsSoundKnowledge}
 use Rattle.std.specs.FinSet as set
 use Rattle.fbl_law.proofs.Lists.{Contains-none, Contains-filter, Contains-from_filter, Contains-changed, Contains-map, Contains-here}
 use Rattle.fbl_table.specs.Tables.{added}
@@ -37,13 +37,9 @@ module _ {S N : Type 0} where
   pub up_if_named : (f : ℕ) (r : Knowledge S N) → IsDownEmpty f r → (m : ℕ) (d : Determinant) → Names (table r m) d → IsUp r m
   up_if_named f r empty m d named = elim (down_or_up r.down m) [ inl down ↦ absurd (Contains-none named.0 (rw (empty.tables m down) at named.1)) | inr up ↦ up ]
 
-  -- what has a holder is recorded
-  pub recorded_holder : (r : Knowledge S N) (d : Determinant) (m : ℕ) → IsHolder r d m → IsRecorded r d
-  recorded_holder r d m holder = elim holder [ inl holds ↦ inl (m, holds) | inr down ↦ down.1 ]
-
   -- what is named or stable is recorded, where what is named is
   recorded_or : (f : ℕ) (r : Knowledge S N) (d : Determinant) {N : Type 0} → (N → IsRecorded r d) → N ⊎ IsStable f r d → IsRecorded r d
-  recorded_or f r d recorded cause = search (arith, some_member, recorded_holder)
+  recorded_or f r d recorded cause = search (arith, some_member)
 
   -- what true entries name is in the trace
   pub Has-named : (r : Knowledge S N) (entries : List Entry) → ((e : Entry) → Contains entries e → IsTrueEntry r e) → (d : Determinant) → Names entries d → Has r.trace (receipt_of d)
@@ -77,17 +73,10 @@ module _ {S N : Type 0} where
 
   -- where nobody is down, nothing is asked of those down
   pub nobody_down_empty : (f : ℕ) (r : Knowledge S N) → r.down ≡ set.empty → IsDownEmpty f r
-  nobody_down_empty f r none = record {
-    few = rw (none, set.len-empty nat_cmp) (omega arith);
-    tables = λ m down. never_both r.down m down (up_if_none none m);
-    channels = λ q p down. elim down [ inl d ↦ never_both r.down q d (up_if_none none q) | inr d ↦ never_both r.down p d (up_if_none none p) ];
-  }
+  nobody_down_empty f r none = search (arith, never_both, up_if_none, set.len-empty nat_cmp)
 
 pub Includes-insert_cases : (s : Members) (p m : ℕ) → Includes (set.insert s p) m → (m ≡ p) ⊎ Includes s m
 Includes-insert_cases s p m h = elim (cases_eq m p) [ inl same ↦ inl same | inr other ↦ inr (sym (contains-insert_other s p m other) ∙ h) ]
-
-pub Includes-only : (p m : ℕ) → Includes (set.insert set.empty p) m → m ≡ p
-Includes-only p m h = elim (Includes-insert_cases set.empty p m h) [ inl same ↦ same | inr in_none ↦ never_both set.empty m in_none (set.contains-empty nat_cmp m) ]
 
 -- two entries of one determinant as one
 abbrev pub joined : Entry → Entry → Entry
@@ -111,9 +100,6 @@ pub held-Names : (entries : List Entry) (d : Determinant) → Names entries d �
 held-Names entries d named =
     list_any-from_Any (λ (e : Entry). same_determinant d e.det) entries
     (named.1.0, named.0, named.1.1, named.1.2, (Decides-same_determinant d named.0.det).1 (sym named.2))
-
-pub not-held : (entries : List Entry) (d : Determinant) → ¬ (Names entries d) → is_held entries d ≡ false
-not-held entries d none = false_from_ne_true (is_held entries d) (λ is. none (Names-held entries d is))
 
 -- what holds of each entry of the tables, and of two that are joined, holds of each that is gathered
 module _ (Q : Entry → Type 0) (join : (x e : Entry) → Q x → Q e → x.det ≡ e.det → Q (joined x e)) where
@@ -189,15 +175,12 @@ module _ {S N : Type 0} (r : Knowledge S N) (d : Determinant) where
         ],
       )
 
-  all_holder : IsRecorded r d → (m : ℕ) → Includes all m → IsHolder r d m
-  all_holder recorded m h = search (arith, down_or_up, Includes-all)
-
 -- each receipt of a closed record is stable, or held by each up member that depends on it
 pub IsAlwaysHeld-closed : {S N : Type 0} → (f : ℕ) (r : Knowledge S N) → IsDownEmpty f r → IsClosed f r → IsAlwaysHeld f r
 IsAlwaysHeld-closed f r empty closed d there = elim (cases_Bool (is_recorded_among r.members r.checkpoints d)) [
   | inr lost ↦ inr (λ m up depends. absurd (false≢true (sym lost ∙ (Decides-recorded f r empty d).1 (IsRecorded-depended f r closed d m up depends))))
   | inl is ↦ elim (cases_lt f (set.len (all r d))) [
-    | inl many ↦ inl (all r d, many, all_holder r d ((Decides-recorded f r empty d).0 is))
+    | inl many ↦ let recorded = (Decides-recorded f r empty d).0 is in inl (all r d, many, λ m h. search (arith, down_or_up, Includes-all r d m))
     | inr few ↦ inr (λ m up depends. grind (arith, nat_tests, closed.events (in_table m) depends.0 up depends.2 d depends.1, len-within, Includes-all))
   ]
 ]
@@ -217,8 +200,8 @@ dets_added [] e held = absurd cc
 dets_added (x ∷ table) e held = (let rest = dets_added table e in grind (arith, rest))
 
 once_gathered : (table other : List Entry) → IsOnce table → IsOnce (gathered table other)
-once_gathered table [] once = once
-once_gathered table (e ∷ other) once = once_gathered (added table e) other (grind (arith, nat_tests, cases_Bool (is_held table e.det), dets_added, added_new, once_push))
+once_gathered table other once =
+    fold_along added (λ (u : ℕ) e. u) (λ xs u. IsOnce xs) (λ xs u e once. grind (arith, nat_tests, cases_Bool (is_held xs e.det), dets_added, added_new, once_push)) table 0 other once
 
 -- what a member has learned and its own new determinant
 pub once_noted : (p : ℕ) (table carried : List Entry) (own : Determinant) → IsOnce table → is_held table own ≡ false → is_held carried own ≡ false
@@ -226,8 +209,7 @@ pub once_noted : (p : ℕ) (table carried : List Entry) (own : Determinant) → 
 once_noted p table carried own once new others = search (arith, once_push, once_gathered, not_held_learned)
 
 once_gathered_all : (table : List Entry) (ts : List (List Entry)) → IsOnce table → IsOnce (gathered_all table ts)
-once_gathered_all table [] once = once
-once_gathered_all table (t ∷ ts) once = once_gathered_all (gathered table t) ts (once_gathered table t once)
+once_gathered_all table ts once = fold_along gathered (λ (u : ℕ) t. u) (λ xs u. IsOnce xs) (λ xs u t. once_gathered xs t) table 0 ts once
 
 abbrev mark : Members → Entry → Entry
 mark s e = record { det = e.det; known = set.union e.known s }
@@ -255,8 +237,7 @@ module _ {S N : Type 0} where
       → All P (saved_tables outside s checkpoints n)
   saved-keeps outside P s checkpoints zero each = All-nil P
   saved-keeps outside P s checkpoints (suc n) each =
-      All-append P (saved_tables outside s checkpoints n) _ (saved-keeps outside P s checkpoints n each)
-      (elim (down_or_up s n) [ inl is ↦ rw is (All-cons P _ [] (each n) (All-nil P)) | inr is ↦ rw is (All-nil P) ])
+      All-append P (saved_tables outside s checkpoints n) _ (saved-keeps outside P s checkpoints n each) (search (arith, All-cons, All-nil, down_or_up))
 
   -- the entry unites what stores know of a recorded determinant, and names those that are down
   abbrev pub IsGathered : Knowledge S N → Entry → Type 0
@@ -271,22 +252,17 @@ module _ {S N : Type 0} {n f : ℕ} {r : Knowledge S N} (sound : IsSoundKnowledg
   abbrev IsKnown : Entry → Type 0
   IsKnown e = IsRecorded r e.det × ((m : ℕ) → Includes e.known m → IsHolder r e.det m)
 
-  join_known : (x e : Entry) → IsKnown x → IsKnown e → x.det ≡ e.det → IsKnown (joined x e)
-  join_known x e a b same = (a.0, λ m h. elim ((contains-union x.known e.known m).0 h) [ inl left ↦ a.1 m left | inr right ↦ rw same (b.1 m right) ])
-
   table_known : (m : ℕ) (e : Entry) → Contains (table r m) e → IsKnown e
   table_known m e here =
       let up = up_if_named f r sound.down m e.det (e, here, refl) in
       (inl (m, (up, (e, here, refl))), (sound.truth (in_table m) e up here).0.1)
 
-  saved_known : (m : ℕ) (e : Entry) → Contains (checkpoint r m).table e → IsKnown e
-  saved_known m e here = (inr (m, (e, here, refl)), (sound.truth (in_checkpoint m) e tt here).0.1)
-
   all_known : All IsKnown (gathered_all [] sources)
-  all_known = gathered_all-keeps IsKnown join_known [] sources (All-nil IsKnown) (All-append AllKnown _ _
+  all_known = gathered_all-keeps IsKnown
+      (λ x e a b same. (a.0, λ m h. elim ((contains-union x.known e.known m).0 h) [ inl left ↦ a.1 m left | inr right ↦ rw same (b.1 m right) ])) [] sources (All-nil IsKnown) (All-append AllKnown _ _
       (All-map AllKnown (λ (m : MemberRecord S N). m.table) r.members
       (All-from_get_or (λ (x : MemberRecord S N). AllKnown x.table) r.members (blank r.outside) (λ m below. All-from IsKnown (table r m) (table_known m))))
-      (saved-keeps r.outside AllKnown r.down r.checkpoints (length r.checkpoints) (λ m. All-from IsKnown (checkpoint r m).table (saved_known m))))
+      (saved-keeps r.outside AllKnown r.down r.checkpoints (length r.checkpoints) (λ m. All-from IsKnown (checkpoint r m).table (λ e here. (inr (m, (e, here, refl)), (sound.truth (in_checkpoint m) e tt here).0.1)))))
     where
       AllKnown : List Entry → Type 0
       AllKnown t = All IsKnown t
