@@ -7,7 +7,8 @@ pub use Rattle.std.proofs.lemmas.Iterator.Adapters.{YieldsList-from_skip, Yields
 pub use Rattle.std.proofs.lemmas.Iterator.Consumers.{YieldsList-at}
 pub use Rattle.std.proofs.lemmas.List.{map-append, at_drop_more, drop_all, take_more, get_or-set_other, get_or-set_same, get_or_default, length-map, length-set, take-take}
 pub use Rattle.std.proofs.lemmas.List.Elements.{filter-append, filter_map-append}
-pub use Rattle.std.proofs.lemmas.List.Folds.{list_any_none}
+pub use Rattle.std.proofs.lemmas.Map.Keys.{any_passes_from_place}
+pub use Rattle.std.proofs.lemmas.Map.Views.{any-filter_same}
 pub use Rattle.std.proofs.lemmas.List.Sums.{count_by-le-length, sum_by-append, sum_by-cons, sum_by-take-le}
 pub use Rattle.std.proofs.lemmas.Option.{get_or_from_slice_get, slice_get-get_or, slice_get-map}
 pub use Rattle.std.proofs.lemmas.Result.{IfOk-weaker}

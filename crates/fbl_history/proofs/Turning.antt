@@ -9,6 +9,7 @@ use Rattle.fbl_history.specs.Laws.{FollowsTurns, IsAsByCommands, IsAsCrashed, Is
 use Rattle.fbl_history.proofs.Deliveries as delivery
 use Rattle.fbl_history.proofs.Recoveries as recovery
 use Rattle.fbl_history.proofs.Following.{listed_at}
+use Rattle.fbl_history.proofs.Parts.{map-agree}
 use Rattle.fbl_history.proofs.Sends.{follow_on, follow_push, untruncated}
 use Rattle.fbl_history.proofs.Steps.{follows_strike}
 use Rattle.fbl_history.specs.contracts.column.Column as column
@@ -73,7 +74,7 @@ pub record HaveSame (r now : GroupRecord ℕ Note) : Type 0 where
 -- the replays are the same where the counts and the checkpoints are
 pub same-replays : (r now : GroupRecord ℕ Note) (received : ℕ → ℕ) (members : Members) → HaveSame r now → AllBelow members now.config.members
     → ((m : ℕ) → m < now.config.members → received m ≡ (member now m).received) → replays_of r received members ≡ replays_of now (λ m. (member now m).received) members
-same-replays r now received members have below counts = recovery.map-agree _ _ (member_list members) (λ i m here.
+same-replays r now received members have below counts = map-agree _ _ (member_list members) (λ i m here.
     (let within = below m (listed_at members i m here) in
     let saved : member_checkpoint r m ≡ member_checkpoint now m =
     λ j. slice_index_or (have.checkpoints j) m (blank (have.outside j)) in
