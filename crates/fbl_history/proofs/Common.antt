@@ -1,13 +1,14 @@
 -- The names that proofs of this crate take from outside: of the standard library, of the crates below, and of the definitions here.
 pub use Rattle.std.proofs.Common.{Bool, List, None, Ok, Option, Some, inl, inr, zero, [], ap, append-nil, arith, cond, drop, false, get_or, length, length-append, map, not, refl, rules, slice_get, subst, suc, sym, take, take_all, true, ℕ, ◌++◌}
-pub use Rattle.std.proofs.Common.{◌+◌, ◌-◌, ◌<◌, ◌==◌, ◌∙◌, ◌∷◌, ◌≡◌, ◌≤◌, ◌⊎◌, ◌||◌}
+pub use Rattle.std.proofs.Common.{◌&&◌, ◌+◌, ◌-◌, ◌<◌, ◌==◌, ◌∙◌, ◌∷◌, ◌≡◌, ◌≤◌, ◌⊎◌, ◌||◌}
 pub use Rattle.std.proofs.lemmas.Bool.{cases_eq, false_from_ne_true, or_parts}
 pub use Rattle.std.proofs.lemmas.Bool.Decides.{Decides-eqb, nat_tests}
 pub use Rattle.std.proofs.lemmas.Iterator.Adapters.{YieldsList-from_skip, YieldsList-from_vec, items_from_extend}
 pub use Rattle.std.proofs.lemmas.Iterator.Consumers.{YieldsList-at}
 pub use Rattle.std.proofs.lemmas.List.{map-append, at_drop_more, drop_all, take_more, get_or-set_other, get_or-set_same, get_or_default, length-map, length-set, take-take}
 pub use Rattle.std.proofs.lemmas.List.Elements.{filter-append, filter_map-append}
-pub use Rattle.std.proofs.lemmas.List.Folds.{list_any_none}
+pub use Rattle.std.proofs.lemmas.Map.Keys.{any_passes_from_place}
+pub use Rattle.std.proofs.lemmas.Map.Views.{any-filter_same}
 pub use Rattle.std.proofs.lemmas.List.Sums.{count_by-le-length, sum_by-append, sum_by-cons, sum_by-take-le}
 pub use Rattle.std.proofs.lemmas.Option.{get_or_from_slice_get, slice_get-get_or, slice_get-map}
 pub use Rattle.std.proofs.lemmas.Result.{IfOk-weaker}
@@ -16,7 +17,7 @@ pub use Rattle.std.specs.List.{filter, filter_map, fold, list_any, range_with_le
 pub use Rattle.std.specs.Prelude.{count_by, slice_index, slice_index_or, slice_set}
 pub use Rattle.std.specs.declared.alloc.AllocError.{AllocError}
 pub use Rattle.fbl_base.proofs.LawfulLaws.{after_notes-state, note_of-front, receipts-noted}
-pub use Rattle.fbl_base.proofs.Gets.{At-front, At-push, map-At, take-more}
+pub use Rattle.fbl_base.proofs.Gets.{At-below, At-front, At-push, map-At, take-more}
 pub use Rattle.fbl_base.proofs.PrecedenceLaws.{one_place}
 pub use Rattle.fbl_base.proofs.RulesLaws.{eqb-self, receipt-number, receipts-step, sent-before, sent-number}
 pub use Rattle.fbl_base.specs.Configs.{Settings}

@@ -6,54 +6,32 @@ use Rattle.fbl_history.proofs.Common.{◌≡◌, ◌==◌, ◌+◌, ℕ, filter_
 use Rattle.fbl_history.proofs.Common.{Event, mark_of, receipts, Next, GroupRecord, marks, IsSound, Column, Send, Receipt, event_column, trace_columns}
 use Rattle.fbl_history.proofs.Common.{CountsAsBefore, IsHistoryOf, is_receipt, is_standing, is_undone_receipt, receipts_made, receipts_undone, standing, undo}
 
--- whether the column is of a receipt that stands
-abbrev pub is_standing_receipt : Column → Bool
-is_standing_receipt (Receipt to rsn from ssn state undone) = not undone
-is_standing_receipt _ = false
-
 pub count-cons : (p : Column → Bool) (column : Column) (columns : List Column) → count_by p (column ∷ columns) ≡ cond (p column) 1 0 + count_by p columns
 count-cons p column columns = sum_by-cons (λ c. cond (p c) 1 0) column columns
 
--- a receipt that stands is a standing event
-no-receipt : (column : Column) → is_standing column ≡ false → is_standing_receipt column ≡ false
-no-receipt (Receipt p r q k s undone) lies = lies
-no-receipt _ lies = refl
-
-count-standing : (columns : List Column) → count_by is_standing_receipt (standing columns) ≡ count_by is_standing_receipt columns
-count-standing [] = refl
-count-standing (column ∷ columns) =
-    grind (arith, count-standing columns, count-cons is_standing_receipt column columns, count-cons is_standing_receipt column (standing columns), no-receipt column)
-
--- the receipts of a trace all stand
-count-trace : (next : Next ℕ Note) (n : ℕ) (trace events : List (Event Note))
-    → count_by is_standing_receipt (map (event_column next n trace) events) ≡ length (receipts (map mark_of events))
+-- the receipts of a trace
+count-trace : (next : Next ℕ Note) (n : ℕ) (trace events : List (Event Note)) → receipts_made (map (event_column next n trace) events) ≡ length (receipts (map mark_of events))
 count-trace next n trace [] = refl
 count-trace next n trace (event.Send q k p note ∷ events) =
-    let later = count-trace next n trace events in
-    let one = count-cons is_standing_receipt (Send q k p false) (map (event_column next n trace) events) in
-    omega (arith, later, one)
+    omega (arith, count-trace next n trace events, count-cons is_receipt (Send q k p false) (map (event_column next n trace) events))
 count-trace next n trace (event.Receipt p r q k ∷ events) =
-    let later = count-trace next n trace events in
-    let one = count-cons is_standing_receipt (event_column next n trace (event.Receipt p r q k)) (map (event_column next n trace) events) in
-    omega (arith, later, one)
+    omega (arith, count-trace next n trace events, count-cons is_receipt (event_column next n trace (event.Receipt p r q k)) (map (event_column next n trace) events))
 
 -- each receipt stands or is undone
-count-kind : (c : Column) → cond (is_receipt c) 1 0 ≡ cond (is_standing_receipt c) 1 0 + cond (is_undone_receipt c) 1 0
-count-kind (Receipt p r q k s true) = refl
-count-kind (Receipt p r q k s false) = refl
-count-kind _ = refl
-
-pub count-kinds : (columns : List Column) → receipts_made columns ≡ count_by is_standing_receipt columns + receipts_undone columns
+pub count-kinds : (columns : List Column) → receipts_made columns ≡ receipts_made (standing columns) + receipts_undone columns
 count-kinds [] = refl
 count-kinds (c ∷ columns) =
-    omega (arith, count-kinds columns, count-kind c, count-cons is_receipt c columns, count-cons is_standing_receipt c columns, count-cons is_undone_receipt c columns)
+    grind (arith, kind c, count-kinds columns, count-cons is_receipt c columns, count-cons is_receipt c (standing columns), count-cons is_undone_receipt c columns) where
+  kind : (c : Column) → cond (is_receipt c) 1 0 ≡ cond (is_standing c) (cond (is_receipt c) 1 0) 0 + cond (is_undone_receipt c) 1 0
+  kind (Receipt p r q k s undone) = grind arith
+  kind (Send q k p undone) = grind arith
+  kind _ = refl
 
 -- columns whose standing events are the trace of a sound group count its receipts that were undone where they count those that it made
 pub counted_from : (next : Next ℕ Note) (r : GroupRecord ℕ Note) (columns : List Column) → IsSound next r → standing columns ≡ trace_columns next r
     → receipts_made columns ≡ r.receipts_ever → IsHistoryOf next r columns
 counted_from next r columns sound stand made =
-    let left : count_by is_standing_receipt columns ≡ length (receipts (marks r)) =
-    sym (count-standing columns) ∙ ap (count_by is_standing_receipt) stand ∙ count-trace next r.config.members r.trace r.trace in
+    let left = ap receipts_made stand ∙ count-trace next r.config.members r.trace r.trace in
     record { standing = stand; counted = (made, omega (arith, made, left, count-kinds columns, sound.counted)) }
 
 pub made-append : (columns more : List Column) → receipts_made (columns ++ more) ≡ receipts_made columns + receipts_made more

@@ -13,11 +13,7 @@ use Rattle.fbl_history.proofs.Standing.{standing_is_trace}
 -- what goes on to its standing events and more stays, with more behind it
 pub go_on_more : (columns more : List Column) → go_on columns (standing columns ++ more) ≡ columns ++ more
 go_on_more [] more = refl
-go_on_more (column ∷ columns) more = at (is_standing column) refl (go_on_more columns more) where
-  at : (s : Bool) → is_standing column ≡ s → go_on columns (standing columns ++ more) ≡ columns ++ more
-      → go_on (column ∷ columns) (standing (column ∷ columns) ++ more) ≡ column ∷ columns ++ more
-  at true stands later = rw (stands, same-self column stands) (ap (λ xs. column ∷ xs) later)
-  at false lies later = rw (lies, lies-past column (standing columns ++ more) lies) (ap (λ xs. column ∷ xs) later)
+go_on_more (column ∷ columns) more = grind (arith, go_on_more columns more, same-self column, lies-past column (standing columns ++ more))
 
 -- the columns of a step's sends
 pub sends-columns : (next : Next ℕ Note) (n : ℕ) (trace : List (Event Note)) (p before : ℕ) (sends : List (ℕ × Note))

@@ -5,6 +5,11 @@ use Rattle.fbl_history.proofs.Common.{◌≡◌, ℕ, zero, suc, ◌≤◌, List
 use Rattle.fbl_history.proofs.Common.{Has, Has-receipts_at, Next, WellFormed, event_column, length-receipts_at, mark-at, note-at, note_of, receipt-at, receipt-number, receipts-noted, receipts_at, receipts_at-Has}
 use Rattle.fbl_history.proofs.Common.{received_notes, some-at, take-more}
 
+-- functions that agree at each place make the same
+pub map-agree : {X Y : Type 0} (f g : X → Y) (xs : List X) → ((i : ℕ) (x : X) → slice_get xs i ≡ Some x → f x ≡ g x) → map f xs ≡ map g xs
+map-agree f g [] same = refl
+map-agree f g (x ∷ xs) same = rw (same 0 x refl, map-agree f g xs (λ i y here. same (suc i) y here)) refl
+
 -- the events of the first trace are of the second one, too, with their notes, and both obey the rules
 pub record IsPart (n : ℕ) (part whole : List (Event Note)) : Type 0 where
   pub obeys : WellFormed n (map mark_of part)
@@ -46,8 +51,4 @@ module _ {n : ℕ} {part whole : List (Event Note)} (is : IsPart n part whole) w
       rw notes refl
 
   pub same_columns : (next : Next ℕ Note) → map (event_column next n part) part ≡ map (event_column next n whole) part
-  same_columns next = each part (λ i e here. same-column next i e here) where
-    each : (events : List (Event Note)) → ((i : ℕ) (e : Event Note) → slice_get events i ≡ Some e → event_column next n part e ≡ event_column next n whole e)
-        → map (event_column next n part) events ≡ map (event_column next n whole) events
-    each [] same = refl
-    each (e ∷ events) same = rw (same 0 e refl, each events (λ i x here. same (suc i) x here)) refl
+  same_columns next = map-agree _ _ part (same-column next)

@@ -2,13 +2,13 @@
 use Rattle.fbl_base.specs.declared.trace.Event.TheVariants as event
 use Rattle.fbl_base.specs.declared.trace.Note.{Note}
 use Rattle.fbl_base.specs.declared.trace.Mark.TheVariants as mark
-use Rattle.fbl_history.proofs.Common.{◌≡◌, ℕ, zero, ◌<◌, ◌||◌, suc, Bool, WellFormed, Settings, filter-At, filter-passes, false_from_ne_true, get_or, list_any_none, slice_get-get_or, true, false, cond, not, inl, inr, List, [], ◌∷◌, length, map, Some, slice_get, refl, sym, subst, ap, ◌∙◌, arith, nat_tests}
+use Rattle.fbl_history.proofs.Common.{◌≡◌, ℕ, zero, ◌<◌, ◌||◌, suc, Bool, WellFormed, Settings, filter-At, filter-passes, false_from_ne_true, get_or, slice_get-get_or, true, false, cond, not, inl, inr, List, [], ◌∷◌, length, map, Some, slice_get, refl, sym, subst, ap, ◌∙◌, arith, nat_tests}
 use Rattle.fbl_history.proofs.Common.{Column, Event, GroupRecord, HasEachOnce, IsAfterRecovery, IsHistoryOf, IsRecovery, IsRecoveryColumn, IsSound, MemberRecord, Members, Next, Receipt, Recovery, Send}
 use Rattle.fbl_history.proofs.Common.{cut-one, cut-was, cut-obeys, cut-causes, down_or_up, event_column, filter, filter-agree, fold-received, fold-replayed, go_on, go_on_to, group_recovery_keeps, is_beyond, is_receipt, is_standing}
 use Rattle.fbl_history.proofs.Common.{list_any, log_counted, mark-at, mark_of, marks, member, note-was, receipt-number, received_counted, receipts_at, receipts_made, same_standing, sent-number, standing, stays_by, stays_by-cut}
 use Rattle.fbl_history.proofs.Common.{trace_columns, undo, undone_beyond, undone_without}
 use Rattle.fbl_history.proofs.Counting.{counted_from, made-changed, undo-receipt}
-use Rattle.fbl_history.proofs.Cutting.{others_undone, same-self}
+use Rattle.fbl_history.proofs.Cutting.{cut}
 use Rattle.fbl_history.proofs.Parts.{IsPart, same_columns}
 use Rattle.fbl_history.proofs.Standing.{standing_is_trace, trace_once}
 use Rattle.fbl_history.proofs.Steps.{pushed}
@@ -17,37 +17,6 @@ use Rattle.fbl_history.proofs.Undoing.{same-is}
 filter-map : {X Y : Type 0} (f : X → Y) (p : Y → Bool) (xs : List X) → map f (filter (λ x. p (f x)) xs) ≡ filter p (map f xs)
 filter-map f p [] = refl
 filter-map f p (x ∷ xs) = grind (arith, filter-map f p xs)
-
-pub map-agree : {X Y : Type 0} (f g : X → Y) (xs : List X) → ((i : ℕ) (x : X) → slice_get xs i ≡ Some x → f x ≡ g x) → map f xs ≡ map g xs
-map-agree f g [] same = refl
-map-agree f g (x ∷ xs) same = rw (same 0 x refl, map-agree f g xs (λ i y here. same (suc i) y here)) refl
-
-undo-lies : (c : Column) → is_standing c ≡ false → undo c ≡ c
-undo-lies (Send q k p true) lies = refl
-undo-lies (Receipt p r q k s true) lies = refl
-undo-lies (Send q k p false) lies = absurd cc
-undo-lies (Receipt p r q k s false) lies = absurd cc
-undo-lies _ lies = refl
-
-any-at : (p : Column → Bool) (xs : List Column) (i : ℕ) (c : Column) → slice_get xs i ≡ Some c → p c ≡ true → list_any p xs ≡ true
-any-at p [] i c here passes = absurd cc
-any-at p (x ∷ xs) zero c here passes = (let same : x ≡ c = cc in rw (same, passes) refl)
-any-at p (x ∷ xs) (suc i) c here passes = rw (any-at p xs i c here passes) (elim (p x) as (λ b. (b || true) ≡ true) [ true ↦ refl | false ↦ refl ])
-
--- a standing event is among those that stay exactly where it stays
-any-stays : (stays : Column → Bool) (columns : List Column) (i : ℕ) (c : Column) → slice_get columns i ≡ Some c → is_standing c ≡ true
-    → list_any (same_standing c) (filter stays (standing columns)) ≡ stays c
-any-stays stays columns i c here stands = at (stays c) refl where
-  at : (b : Bool) → stays c ≡ b → list_any (same_standing c) (filter stays (standing columns)) ≡ b
-  at true stay =
-      let standing-at = filter-At is_standing columns i c here stands in
-      let left-at = filter-At stays (standing columns) standing-at.0 c standing-at.1 stay in
-      any-at (same_standing c) (filter stays (standing columns)) left-at.0 c left-at.1 (same-self c stands)
-  at false goes = list_any_none (same_standing c) (filter stays (standing columns)) (λ k d below. false_from_ne_true (same_standing c (get_or (filter stays (standing columns)) k d)) (λ same.
-      (let is = (same-is c (get_or (filter stays (standing columns)) k d) same).0 in
-      let passes = filter-passes stays (standing columns) k (get_or (filter stays (standing columns)) k d) (slice_get-get_or (filter stays (standing columns)) k d below) in
-      let stay : stays c ≡ true = ap stays is ∙ passes in
-      cc)))
 
 module _ (next : Next ℕ Note) (old new : GroupRecord ℕ Note) (step : IsRecovery next old new) (sound : IsSound next old) (received sent : ℕ → ℕ)
     (is_received : (m : ℕ) → m < old.config.members → received m ≡ (member new m).received) (is_sent : (m : ℕ) → m < old.config.members → sent m ≡ length (member new m).log) where
@@ -104,24 +73,10 @@ module _ (next : Next ℕ Note) (old new : GroupRecord ℕ Note) (step : IsRecov
       ∙ ap (map column) (left ∙ filter-agree _ (λ e. stays (column e)) old.trace stays-within)
       ∙ filter-map column stays old.trace
 
-  undone-beyond : (columns : List Column) (i : ℕ) (c : Column) → slice_get columns i ≡ Some c
-      → undone_without (filter (λ x. not (is_beyond received sent x)) (standing columns)) c ≡ undone_beyond received sent c
-  undone-beyond columns i c here = at (is_standing c) refl where
-    stays : Column → Bool
-    stays x = not (is_beyond received sent x)
-
-    at : (s : Bool) → is_standing c ≡ s → undone_without (filter stays (standing columns)) c ≡ undone_beyond received sent c
-    at false lies = rw lies (elim (is_beyond received sent c) as (λ b. c ≡ cond b (undo c) c) [ true ↦ sym (undo-lies c lies) | false ↦ refl ])
-    at true stands =
-        let any = any-stays stays columns i c here stands in
-        rw (stands, any) (elim (is_beyond received sent c) as (λ b. cond (not (not b)) (undo c) c ≡ cond b (undo c) c) [ true ↦ refl | false ↦ refl ])
-
   pub gone_back : (columns : List Column) → IsHistoryOf next old columns → go_on_to next columns new ≡ map (undone_beyond received sent) columns
   gone_back columns history =
       let stays : Column → Bool = λ c. not (is_beyond received sent c) in
-      ap (go_on columns) (trace_less ∙ ap (filter stays) (sym history.standing))
-      ∙ others_undone columns stays (subst HasEachOnce (sym history.standing) (trace_once next old sound))
-      ∙ map-agree _ _ columns (undone-beyond columns)
+      ap (go_on columns) (trace_less ∙ ap (filter stays) (sym history.standing)) ∙ cut columns stays (undone_beyond received sent) (λ i c here. grind arith)
 
   same-kind : (c : Column) → is_receipt (undone_beyond received sent c) ≡ is_receipt c
   same-kind c = elim (is_beyond received sent c) as (λ b. is_receipt (cond b (undo c) c) ≡ is_receipt c) [ true ↦ undo-receipt c | false ↦ refl ]

@@ -3,12 +3,13 @@ use Rattle.fbl_base.specs.declared.trace.Note.{Note}
 use Rattle.std.specs.FinSet as set
 use Rattle.fbl_history.proofs.Common.{◌≡◌, ℕ, zero, suc, slice_get, ◌+◌, ◌-◌, ◌<◌, false, List, [], ◌∷◌, ◌++◌, length, Option, None, Some, refl, sym, ap, ◌∙◌, arith, nat_tests, filter_map, length-append}
 use Rattle.fbl_history.proofs.Common.{AllBelow, Column, CrashLeads, CrashRecord, GroupRecord, IsAfterCrash, IsAfterRecoveryRecord, IsAfterTurn, IsAfterTurns, IsDelivery, IsHistoryOf, IsLedTo, IsRecoveryColumn, IsSound, IsStrike, MemberRecord, ReceiptsFollowSends}
-use Rattle.fbl_history.proofs.Common.{Members, Message, Next, Outcome, Receipt, Recovery, RecoveryRecord, SendsWell, Strike, StrikeLeads, TurnLeads, TurnRecord, TurnsLead, channel-at, go_on_to, group_strike_keeps, length-numbered}
+use Rattle.fbl_history.proofs.Common.{Members, Message, Next, Outcome, Receipt, Recovery, RecoveryRecord, SendsWell, Settings, Strike, StrikeLeads, TurnLeads, TurnRecord, TurnsLead, channel-at, go_on_to, group_strike_keeps, length-numbered}
 use Rattle.fbl_history.proofs.Common.{member, member_checkpoint, member_list, numbered, replays_of, send_column, slice_index, slice_index_or, blank, group_recovery_keeps, subst, step_events, step_of, strike_refusal, turn_columns, within-below}
 use Rattle.fbl_history.specs.Laws.{FollowsTurns, IsAsByCommands, IsAsCrashed, IsAsStruck}
 use Rattle.fbl_history.proofs.Deliveries as delivery
 use Rattle.fbl_history.proofs.Recoveries as recovery
 use Rattle.fbl_history.proofs.Following.{listed_at}
+use Rattle.fbl_history.proofs.Parts.{map-agree}
 use Rattle.fbl_history.proofs.Sends.{follow_on, follow_push, untruncated}
 use Rattle.fbl_history.proofs.Steps.{follows_strike}
 use Rattle.fbl_history.specs.contracts.column.Column as column
@@ -64,19 +65,21 @@ record IsTurned (next : Next ℕ Note) (columns : List Column) (new : GroupRecor
   pub sound : IsSound next new
   pub sends : ReceiptsFollowSends columns → ReceiptsFollowSends after
 
--- the groups have the same members and the same checkpoints
-pub record HaveSame (r now : GroupRecord ℕ Note) : Type 0 where
-  pub config : r.config ≡ now.config
-  pub checkpoints : r.checkpoints ≡ now.checkpoints
-  pub outside : r.outside ≡ now.outside
+-- the members of a group, and their checkpoints
+abbrev kept : GroupRecord ℕ Note → Settings Note × List (MemberRecord ℕ Note) × ℕ
+kept r = (r.config, r.checkpoints, r.outside)
+
+-- which are the same in both groups
+abbrev pub HaveSame : GroupRecord ℕ Note → GroupRecord ℕ Note → Type 0
+HaveSame r now = kept r ≡ kept now
 
 -- the replays are the same where the counts and the checkpoints are
 pub same-replays : (r now : GroupRecord ℕ Note) (received : ℕ → ℕ) (members : Members) → HaveSame r now → AllBelow members now.config.members
     → ((m : ℕ) → m < now.config.members → received m ≡ (member now m).received) → replays_of r received members ≡ replays_of now (λ m. (member now m).received) members
-same-replays r now received members have below counts = recovery.map-agree _ _ (member_list members) (λ i m here.
+same-replays r now received members have below counts = map-agree _ _ (member_list members) (λ i m here.
     (let within = below m (listed_at members i m here) in
     let saved : member_checkpoint r m ≡ member_checkpoint now m =
-    λ j. slice_index_or (have.checkpoints j) m (blank (have.outside j)) in
+    λ j. slice_index_or (have j).1 m (blank (have j).2) in
     rw (counts m within, saved) refl))
 
 same-recovery : (r now : GroupRecord ℕ Note) (received : ℕ → ℕ) (members : Members) (c : Column) → HaveSame r now → AllBelow members now.config.members
@@ -88,11 +91,8 @@ within-allowed : (r : GroupRecord ℕ Note) (members : Members) → strike_refus
 within-allowed r members allowed = within-below members r.config.members (grind (arith, nat_tests))
 
 module _ (next : Next ℕ Note) (r old new : GroupRecord ℕ Note) (members : Members) (sound : IsSound next old) (nobody_down : old.down ≡ set.empty) (have : HaveSame r new) where
-  within : strike_refusal old members ≡ None → AllBelow members old.config.members
-  within allowed = within-allowed old members allowed
-
   struck-sound : (down : GroupRecord ℕ Note) → strike_refusal old members ≡ None → IsStrike next old down members → IsSound next down
-  struck-sound down allowed strike = group_strike_keeps next old down members strike (within allowed) (rw strike.down (grind (arith, nat_tests))) sound
+  struck-sound down allowed strike = group_strike_keeps next old down members strike (within-allowed old members allowed) (rw strike.down (grind (arith, nat_tests))) sound
 
   -- a strike, and a recovery where there was one
   struck : (given : Option RecoveryRecord) (columns after : List Column) → StrikeLeads next old members given new → IsHistoryOf next old columns
@@ -113,7 +113,7 @@ module _ (next : Next ℕ Note) (r old new : GroupRecord ℕ Note) (members : Me
       let history-down = follows_strike next old down members columns strike history in
       let gone = recovery.gone_back next down new step sound-down (slice_index back.received.items) (slice_index back.sent.items) (λ m below. told.received.each m (rw step.rest.config below))
       (λ m below. told.sent.each m (rw step.rest.config below)) (columns ++ Strike members ∷ []) history-down in
-      let column = same-recovery r new (slice_index back.received.items) members is.0 have (rw (step.rest.config, strike.config) (within crash.0)) told.received.each is.1 in
+      let column = same-recovery r new (slice_index back.received.items) members is.0 have (rw (step.rest.config, strike.config) (within-allowed old members crash.0)) told.received.each is.1 in
       let same-as : IsAsStruck next new members (Some back) columns after = (is.0, column, is.2 ∙ ap (λ xs. xs ++ is.0 ∷ []) (sym gone)) in
       let sound-new = group_recovery_keeps next down new step sound-down in (
         same-as,
@@ -135,33 +135,24 @@ crashed next r old new (Some crash) columns after sound nobody have led history 
 -- ---- turns
 
 -- a turn leaves the members and the checkpoints
+strike-keeps : (next : Next ℕ Note) (old new : GroupRecord ℕ Note) (members : Members) (given : Option RecoveryRecord) → StrikeLeads next old members given new → HaveSame new old
+strike-keeps next old new members None led = (let strike = led.1.1.0 in λ i. (strike.config i, strike.checkpoints i, strike.outside i))
+strike-keeps next old new members (Some back) led =
+    let strike = led.0.1.1.1.0 in
+    let rest = led.0.1.1.2.recovery.rest in
+    λ i. ((rest.config ∙ strike.config) i, (rest.checkpoints ∙ strike.checkpoints) i, (rest.outside ∙ strike.outside) i)
+
 crash-keeps : (next : Next ℕ Note) (old new : GroupRecord ℕ Note) (given : Option CrashRecord) → CrashLeads next old given new → HaveSame new old
-crash-keeps next old new None led = rw led (record { config = refl; checkpoints = refl; outside = refl })
-crash-keeps next old new (Some crash) led = strike-keeps crash.recovery led where
-  strike-keeps : (given : Option RecoveryRecord) → StrikeLeads next old crash.set given new → HaveSame new old
-  strike-keeps None led = (let strike = led.1.1.0 in record { config = strike.config; checkpoints = strike.checkpoints; outside = strike.outside })
-  strike-keeps (Some back) led =
-      let strike = led.0.1.1.1.0 in
-      let rest = led.0.1.1.2.recovery.rest in
-      record { config = rest.config ∙ strike.config; checkpoints = rest.checkpoints ∙ strike.checkpoints; outside = rest.outside ∙ strike.outside }
+crash-keeps next old new None led = ap kept led
+crash-keeps next old new (Some crash) led = strike-keeps next old new crash.set crash.recovery led
 
 turn-keeps : (next : Next ℕ Note) (old mid : GroupRecord ℕ Note) (t : TurnRecord ℕ Note) → TurnLeads next old t mid → HaveSame mid old
 turn-keeps next old mid t turn =
-    let step = turn.commit.1.1.2.delivery in
-    let rest = crash-keeps next turn.between mid t.crash turn.crash in
-    record { config = rest.config ∙ step.config; checkpoints = rest.checkpoints ∙ step.checkpoints; outside = rest.outside ∙ step.outside }
+    (let step = turn.commit.1.1.2.delivery in crash-keeps next turn.between mid t.crash turn.crash ∙ λ i. (step.config i, step.checkpoints i, step.outside i))
 
 turns-keep : (next : Next ℕ Note) (old new : GroupRecord ℕ Note) (turns : List (TurnRecord ℕ Note)) → TurnsLead next old turns new → HaveSame new old
-turns-keep next old new [] lead = rw lead (record { config = refl; checkpoints = refl; outside = refl })
-turns-keep next old new (t ∷ turns) (mid, turn, more) =
-    let first = turn-keeps next old mid t turn in
-    let later = turns-keep next mid new turns more in
-    record { config = later.config ∙ first.config; checkpoints = later.checkpoints ∙ first.checkpoints; outside = later.outside ∙ first.outside }
-
--- so a group that has the same as the one before a turn has the same as the one after it
-still-same : (r old mid : GroupRecord ℕ Note) → HaveSame r old → HaveSame mid old → HaveSame r mid
-still-same r old mid have kept =
-    record { config = have.config ∙ sym kept.config; checkpoints = have.checkpoints ∙ sym kept.checkpoints; outside = have.outside ∙ sym kept.outside }
+turns-keep next old new [] lead = ap kept lead
+turns-keep next old new (t ∷ turns) (mid, turn, more) = turns-keep next mid new turns more ∙ turn-keeps next old mid t turn
 
 turned : (next : Next ℕ Note) (r old mid : GroupRecord ℕ Note) (t : TurnRecord ℕ Note) (columns after : List Column) → SendsWell next → IsSound next old → (turn : TurnLeads next old t mid) → HaveSame r mid
     → IsHistoryOf next old columns → IsAfterTurn next r t columns after → IsAsCrashed next mid t.crash (go_on_to next columns turn.between) after × IsTurned next columns mid after
@@ -179,7 +170,7 @@ all-turned : (next : Next ℕ Note) (r old new : GroupRecord ℕ Note) (turns : 
     → IsAsByCommands next old turns new lead columns after × IsTurned next columns new after
 all-turned next r old new [] columns after well sound have lead history is = (is, record { history = rw (is, lead) history; sound = rw lead sound; sends = λ follow. rw is follow })
 all-turned next r old new (t ∷ turns) columns after well sound have (mid, turn, more) history (middle, first, rest) =
-    let now = still-same r old mid have (turn-keeps next old mid t turn) in
+    let now = have ∙ sym (turn-keeps next old mid t turn) in
     let one = turned next r old mid t columns middle well sound turn now history first in
     let later = all-turned next r mid new turns middle after well one.1.sound now more one.1.history rest in
     ((middle, one.0, later.0), record { history = later.1.history; sound = later.1.sound; sends = λ follow. later.1.sends (one.1.sends follow) })
@@ -195,19 +186,18 @@ pub after_more : (next : Next ℕ Note) (r : GroupRecord ℕ Note) (turns : List
 after_more next r [] t first mid last is one = (last, subst (λ xs. IsAfterTurn next r t xs last) is one, refl)
 after_more next r (u ∷ turns) t first mid last (between, head, more) one = (between, head, after_more next r turns t between mid last more one)
 
--- a crash names members of the group
-crash-within : (next : Next ℕ Note) (old new : GroupRecord ℕ Note) (crash : CrashRecord) → CrashLeads next old (Some crash) new → AllBelow crash.set new.config.members
-crash-within next old new crash led = rw (crash-keeps next old new (Some crash) led).config (allowed crash.recovery led) where
-  allowed : (given : Option RecoveryRecord) → StrikeLeads next old crash.set given new → AllBelow crash.set old.config.members
-  allowed None led = within-allowed old crash.set led.0
-  allowed (Some back) led = within-allowed old crash.set led.0.0
+-- a strike names members of the group
+strike-within : (next : Next ℕ Note) (old new : GroupRecord ℕ Note) (members : Members) (given : Option RecoveryRecord) → StrikeLeads next old members given new → AllBelow members old.config.members
+strike-within next old new members None led = within-allowed old members led.0
+strike-within next old new members (Some back) led = within-allowed old members led.0.0
 
 crashes-within : (next : Next ℕ Note) (old new : GroupRecord ℕ Note) (turns : List (TurnRecord ℕ Note)) → TurnsLead next old turns new
     → (i : ℕ) (t : TurnRecord ℕ Note) (crash : CrashRecord) → slice_get turns i ≡ Some t → t.crash ≡ Some crash → AllBelow crash.set new.config.members
 crashes-within next old new [] lead i t crash here is = absurd cc
 crashes-within next old new (u ∷ turns) (mid, turn, more) zero t crash here is =
     let same : u.crash ≡ Some crash = ap (λ (v : TurnRecord ℕ Note). v.crash) (let heads : u ≡ t = cc in heads) ∙ is in
-    rw (turns-keep next mid new turns more).config (crash-within next turn.between mid crash (rw same at turn.crash))
+    let same-config = turns-keep next mid new turns more ∙ crash-keeps next turn.between mid u.crash turn.crash in
+    subst (λ k. AllBelow crash.set k.0.members) (sym same-config) (strike-within next turn.between mid crash.set crash.recovery (rw same at turn.crash))
 crashes-within next old new (u ∷ turns) (mid, turn, more) (suc i) t crash here is = crashes-within next mid new turns more i t crash here is
 
 -- ---- where turns led from some group to this one

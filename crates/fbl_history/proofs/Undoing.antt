@@ -24,16 +24,8 @@ next-is column (event ∷ trace) h =
 -- the standing events of what goes on to a trace are that trace
 pub standing_trace : (columns trace : List Column) → standing trace ≡ trace → standing (go_on columns trace) ≡ trace
 standing_trace [] trace stand = stand
-standing_trace (column ∷ columns) trace stand = at (is_next column trace) (is_standing column) refl refl (standing_trace columns) where
-  at : (n s : Bool) → is_next column trace ≡ n → is_standing column ≡ s → ((rest : List Column) → standing rest ≡ rest → standing (go_on columns rest) ≡ rest)
-      → standing (column_then column trace ∷ go_on columns (trace_then column trace)) ≡ trace
-  at true s is stands later =
-      let next = next-is column trace is in
-      let whole : standing (column ∷ drop 1 trace) ≡ column ∷ drop 1 trace = ap standing (sym next.0) ∙ stand ∙ next.0 in
-      let rest : standing (drop 1 trace) ≡ drop 1 trace = ap (drop 1) (rw next.1 at whole) in
-      rw (is, next.1, next.1) (ap (λ xs. column ∷ xs) (later (drop 1 trace) rest) ∙ sym next.0)
-  at false true is stands later = rw (is, stands, undone-lies column) (later trace stand)
-  at false false is stands later = rw (is, stands, stands) (later trace stand)
+standing_trace (column ∷ columns) trace stand =
+    grind (arith, standing_trace columns (trace_then column trace), next-is column trace, undone-lies column, ap (drop 1) stand)
 
 -- nothing but what stands is undone, and nothing that is undone comes back
 pub stays_or_undone : (column : Column) (trace : List Column)
