@@ -1,9 +1,9 @@
 -- What the clocks of a history say.
 use Rattle.fbl_moments.proofs.Common.{ℕ, suc, Bool, true, false, cond, ◌≡◌, ◌==◌, ◌<◌, ◌≤◌, ◌+◌, ◌⊎◌, ◌↔◌, inl, inr, List, [], ◌∷◌, ◌++◌, length, length-append, Some, slice_get, max, refl, sym, ap, subst, ◌∙◌, arith}
-use Rattle.fbl_moments.proofs.Common.{At-push, nat_tests, cases_eq, cases_lt, eqb-true, slice_get_within, Entry, entry_member, Logs, log_of, Position, Precedes, at, Cut, HasCome}
+use Rattle.fbl_moments.proofs.Common.{At-push, nat_tests, cases_eq, cases_lt, eqb-true, slice_get_within, Entry, entry_member, Logs, Position, Precedes, at, Cut, HasCome}
 use Rattle.std.proofs.Common.{nat_lt}
 use Rattle.fbl_moments.specs.declared.clocks.Advance.{Advance}
-use Rattle.fbl_moments.specs.Clocks.{AreAdvances, IsAdvance, IsClock, PrecedesSome, StandsAt, cut_of, seen}
+use Rattle.fbl_moments.specs.Clocks.{AreAdvances, IsAdvance, IsClock, PrecedesSome, StandsAt, seen}
 use Rattle.fbl_moments.specs.Histories.{IsFirstAfter, IsLeastMomentOfReceipt}
 use Rattle.fbl_moments.specs.Indexes.{EndsStep}
 use Rattle.fbl_moments.proofs.ClockLaws.{IsClock-none, first_there, last_there}
@@ -103,18 +103,13 @@ AreAdvances-push entries p advances advance are is = record {
   ];
 }
 
--- what a pass knows of an entry at its position
-pub advance_at : (entries : List Entry) (p : ℕ) (i : Position) (advance : Advance) → IsAdvance entries p advance → StandsAt entries p i → (advance.member ≡ i.member) × (advance.number ≡ i.number)
+-- what a pass knows of an entry is its position
+pub advance_at : (entries : List Entry) (p : ℕ) (i : Position) (advance : Advance) → IsAdvance entries p advance → StandsAt entries p i → at advance.member advance.number ≡ i
 advance_at entries p i advance is stands =
     let member : advance.member ≡ i.member = sym (is.member stands.0 stands.1) ∙ stands.2 in
-    (member, is.number ∙ ap (seen entries p) member ∙ stands.3)
+    let number : advance.number ≡ i.number = is.number ∙ ap (seen entries p) member ∙ stands.3 in
+    λ x. record { member = member x; number = number x }
 
-pub advance_clock : (entries : List Entry) (p : ℕ) (i : Position) (advance : Advance) → IsAdvance entries p advance → StandsAt entries p i → IsClock (log_of entries) i.member (i.number + 1) (cut_of advance.with)
-advance_clock entries p i advance is stands =
-    let same = advance_at entries p i advance is stands in
-    subst (λ (k : ℕ). IsClock (log_of entries) i.member (k + 1) (cut_of advance.with)) same.1
-    (subst (λ (m : ℕ). IsClock (log_of entries) m (advance.number + 1) (cut_of advance.with)) same.0 is.with)
-
--- and the position by what it knows
+-- and so it is known
 pub advance_stands : (entries : List Entry) (p : ℕ) (e : Entry) (advance : Advance) → IsAdvance entries p advance → slice_get entries p ≡ Some e → StandsAt entries p (at (entry_member e) advance.number)
 advance_stands entries p e advance is here = (e, here, refl, sym (is.number ∙ ap (seen entries p) (sym (is.member e here))))

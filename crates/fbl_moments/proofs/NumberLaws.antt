@@ -1,5 +1,5 @@
 -- What the numbers of first entries keep.
-use Rattle.fbl_moments.proofs.Common.{ℕ, zero, suc, Bool, true, false, cond, ◌≡◌, ◌≢◌, ◌==◌, ◌<◌, ◌↔◌, inl, inr, List, [], ◌∷◌, ◌++◌, length, Option, Some, None, slice_get, refl, sym, ap, subst, ◌∙◌, arith}
+use Rattle.fbl_moments.proofs.Common.{ℕ, zero, suc, Bool, true, false, cond, ◌≡◌, ◌≢◌, ◌==◌, inl, inr, List, [], ◌∷◌, ◌++◌, length, Option, Some, None, slice_get, refl, sym, ap, subst, ◌∙◌}
 use Rattle.fbl_moments.proofs.Common.{cases_eq, false≢true, get_or, slice_get_read, slice_get_within, At-front, At-seam, eqb-true, eqb-self, Determinant}
 use Rattle.std.proofs.Common.{set}
 use Rattle.std.proofs.lemmas.Bool.{and_parts}

@@ -1,8 +1,9 @@
 -- Paths among the sends and receipts as paths among all entries.
-use Rattle.fbl_moments.proofs.Common.{ℕ, zero, suc, ◌≡◌, ◌<◌, inl, inr, List, [], ◌∷◌, length, take, Option, Some, None, slice_get, refl, sym, ap, subst, ◌∙◌, arith}
-use Rattle.fbl_moments.proofs.Common.{cases_order, filter_map-At, get_or, slice_get_read, slice_get_within, Determinant, Mark, member_of, receipt_of}
+use Rattle.fbl_moments.proofs.Common.{ℕ, zero, suc, ◌≡◌, ◌<◌, inl, inr, List, [], ◌∷◌, length, take, Some, slice_get, refl, sym, ap, subst, ◌∙◌, arith}
+use Rattle.fbl_moments.proofs.Common.{cases_order, filter_map-At, slice_get_within, Determinant, Mark, WellFormed, member_of, receipt_of}
 use Rattle.fbl_moments.proofs.Common.{Entry, Event, Hold, Store, entry_member, log_of, mark_in, marks, IsAt, Position, Precedes, at, IsReceiptAt}
-use Rattle.std.proofs.Common.{Global, IfNone, IfSome, Vec, map, unwrap_or}
+use Rattle.std.proofs.Common.{map, slice_index}
+use Rattle.std.proofs.lemmas.Option.{slice_get-get_or}
 use Rattle.fbl_base.proofs.PrecedenceLaws.{events-from_places, places-from_events}
 use Rattle.fbl_base.specs.Events.{At}
 use Rattle.fbl_base.specs.Precedence as base
@@ -10,19 +11,12 @@ use Rattle.fbl_audit.specs.Paths as audit
 use Rattle.fbl_moments.specs.declared.check.UnsafeMoment.{UnsafeMoment}
 use Rattle.fbl_moments.specs.Clocks.{StandsAt, seen}
 use Rattle.fbl_moments.specs.Lawful.{IsEventPlace}
-use Rattle.fbl_moments.specs.Logs.{IsLog, LogParts}
+use Rattle.fbl_moments.specs.Logs.{LogParts}
 use Rattle.fbl_moments.specs.Reasons.{IsEventPath, IsPath, IsPathFrom, PlaceLeads, path_end, path_step}
 use Rattle.fbl_moments.specs.Unsafe.{IsSaidOf}
 use Rattle.fbl_moments.proofs.LastChecks.{from_marks, marks_precede}
 use Rattle.fbl_moments.proofs.Listing.{locate_all, placed, seen-later, stands_at}
 use Rattle.fbl_moments.proofs.SafeAlways.{first_is_receipt}
-
--- what is read of the entries at a place is the entry there
-pub entry_read : (entries listed : List Entry) (p : ℕ) (e read : Entry) → listed ≡ entries → slice_get entries p ≡ Some e → read ≡ get_or listed p read → read ≡ e
-entry_read entries listed p e read same here is =
-    let there : slice_get listed p ≡ Some e = subst (λ (es : List Entry). slice_get es p ≡ Some e) (sym same) here in
-    let got = slice_get_read listed (length listed) p read refl (slice_get_within listed p e there) is in
-    (let some : Some read ≡ Some e = sym got ∙ there in cc)
 
 -- ---- the places of the sends and receipts
 
@@ -55,7 +49,7 @@ event_at entries k p m is here =
     let same : is.0 ≡ m = (let some : Some is.0 ≡ Some m = sym there ∙ ap (λ k. slice_get (marks entries) k) is.2 ∙ here in cc) in
     is.1 ∙ ap (λ m. Some (Event m)) same
 
-pub event_within : (entries : List Entry) (k p : ℕ) → IsEventPlace entries k p → k < length (marks entries)
+event_within : (entries : List Entry) (k p : ℕ) → IsEventPlace entries k p → k < length (marks entries)
 event_within entries k p is = (let w = slice_get_within (marks entries) (events_before entries p) is.0 (event_number entries p is.0 is.1) in let n = is.2 in omega (arith, w, n))
 
 -- of two events the later one has more before it
@@ -113,26 +107,36 @@ leads entries k l p q is_p is_q step =
       ),
     )
 
-module _ (entries : List Entry) (place : ℕ → ℕ) (are : (k : ℕ) → k < length (marks entries) → IsEventPlace entries k (place k)) where
-  among : {i j : ℕ} {path : List ℕ} → audit.IsPath (marks entries) i j path → IsPath entries (place i) (place j) (map place path)
-  among audit.path_end = path_end
-  among (audit.path_step {i} {k} step rest) =
-      path_step (leads entries i k (place i) (place k) (are i (slice_get_within (marks entries) i step.0 step.3)) (are k (slice_get_within (marks entries) k step.1 step.4)) step) (among rest)
-
-  pub path_from : (d : Determinant) (q : ℕ) (path : List ℕ) → IsEventPath entries d q path → IsPathFrom entries d q (map place path)
-  path_from d q path is =
-      let i = is.0 in
-      let j = is.1 in
-      let first = are i (slice_get_within (marks entries) i (receipt_of d) is.2) in
-      let last = are j (event_within entries j q is.3) in
-      (place i, event_at entries i (place i) (receipt_of d) first is.2, subst (λ (q : ℕ). IsPath entries (place i) q (map place path)) (one_place entries j (place j) q last is.3) (among is.4))
-
 -- the places of a path are those of events
-pub path_within : (t : List Mark) {i j : ℕ} {path : List ℕ} → audit.IsPath t i j path → j < length t → (k x : ℕ) → slice_get path k ≡ Some x → x < length t
+path_within : (t : List Mark) {i j : ℕ} {path : List ℕ} → audit.IsPath t i j path → j < length t → (k x : ℕ) → slice_get path k ≡ Some x → x < length t
 path_within t (audit.path_end {j}) below zero x here = (let same : j ≡ x = cc in omega (arith, below, same))
 path_within t (audit.path_end {j}) below (suc k) x here = cc
 path_within t (audit.path_step {i} step rest) below zero x here = (let same : i ≡ x = cc in let w = slice_get_within t i step.0 step.3 in omega (arith, same, w))
 path_within t (audit.path_step {i} step rest) below (suc k) x here = path_within t rest below k x here
+
+-- the places of all sends and receipts are these
+module _ (entries : List Entry) (places : List ℕ) (count : length places ≡ length (marks entries)) (are : (k place : ℕ) → slice_get places k ≡ Some place → IsEventPlace entries k place) where
+  is_place : (k : ℕ) → k < length (marks entries) → IsEventPlace entries k (slice_index places k)
+  is_place k below = are k (slice_index places k) (slice_get-get_or places k 0 (omega (arith, below, count)))
+
+  among : {i j : ℕ} {path : List ℕ} → audit.IsPath (marks entries) i j path → IsPath entries (slice_index places i) (slice_index places j) (map (slice_index places) path)
+  among audit.path_end = path_end
+  among (audit.path_step {i} {k} step rest) =
+      let at_i = is_place i (slice_get_within (marks entries) i step.0 step.3) in
+      let at_k = is_place k (slice_get_within (marks entries) k step.1 step.4) in
+      path_step (leads entries i k (slice_index places i) (slice_index places k) at_i at_k step) (among rest)
+
+  pub path_from : (d : Determinant) (q : ℕ) (path : List ℕ) → IsEventPath entries d q path → IsPathFrom entries d q (map (slice_index places) path)
+  path_from d q path is =
+      let i = is.0 in
+      let j = is.1 in
+      let first = is_place i (slice_get_within (marks entries) i (receipt_of d) is.2) in
+      let last = is_place j (event_within entries j q is.3) in
+      let own = one_place entries j (slice_index places j) q last is.3 in
+      (slice_index places i, event_at entries i (slice_index places i) (receipt_of d) first is.2, subst (λ (q : ℕ). IsPath entries (slice_index places i) q (map (slice_index places) path)) own (among is.4))
+
+  pub path_listed : (d : Determinant) (q : ℕ) (path : List ℕ) → IsEventPath entries d q path → (k event : ℕ) → slice_get path k ≡ Some event → event < length places
+  path_listed d q path is k event here = (let w = path_within (marks entries) is.4 (event_within entries is.1 q is.3) k event here in omega (arith, w, count))
 
 -- ---- the end of a path
 
@@ -143,7 +147,7 @@ has_receipt log said says =
     let w = locate_all log.entries depends.0.member depends.0.number (Event (receipt_of said.determinant)) depends.1 in
     filter_map-At mark_in log.entries w.0 (Event (receipt_of said.determinant)) (receipt_of said.determinant) w.2 refl
 
-module _ (log : LogParts) (is : IsLog log) (said : UnsafeMoment) (says : IsSaidOf log said.determinant said) where
+module _ (log : LogParts) (n : ℕ) (lawful : WellFormed n (marks log.entries)) (said : UnsafeMoment) (says : IsSaidOf log said.determinant said) where
   abbrev es : List Entry
   es = log.entries
 
@@ -167,10 +171,10 @@ module _ (log : LogParts) (is : IsLog log) (said : UnsafeMoment) (says : IsSaidO
   precedes i at_i =
       let r = said_receipt in
       let depends = says.dependent.depends in
-      places-from_events log.members (marks es) is.lawful.events i (receipt_of d) at_i (events_before es said.place) (receipt_of r.0) (event_number es said.place (receipt_of r.0) r.1)
-      (marks_precede log.members es is.lawful.events (receipt_of d) (receipt_of r.0) depends.1 r.3 depends.2)
+      places-from_events n (marks es) lawful i (receipt_of d) at_i (events_before es said.place) (receipt_of r.0) (event_number es said.place (receipt_of r.0) r.1)
+      (marks_precede n es lawful (receipt_of d) (receipt_of r.0) depends.1 r.3 depends.2)
 
-  depends_place : (i : ℕ) → At (marks es) i (receipt_of d) → base.DependsOnPlace (marks es) j.member i
+  pub depends_place : (i : ℕ) → At (marks es) i (receipt_of d) → base.DependsOnPlace (marks es) j.member i
   depends_place i at_i = (let r = said_receipt in (events_before es said.place, receipt_of r.0, precedes i at_i, event_number es said.place (receipt_of r.0) r.1, r.2))
 
   -- so the first event of its member that depends on the receipt is this one
@@ -194,16 +198,13 @@ module _ (log : LogParts) (is : IsLog log) (said : UnsafeMoment) (says : IsSaidO
           let p = some_place es l b first.own.1 in
           let at_b = event_position es l p.0 b p.1 first.own.1 in
           let rise = places_rise es l (events_before es said.place) p.0 said.place p.1 (receipt_of r.0, r.1, refl) below in
-          let path = from_marks log.members es is.lawful.events depends.0 _ depends.1 at_b.1 (events-from_places (marks es) i l (receipt_of d) b at_i first.own.1 first.depends) in
+          let path = from_marks n es lawful depends.0 _ depends.1 at_b.1 (events-from_places (marks es) i l (receipt_of d) b at_i first.own.1 first.depends) in
           let later = seen-later es p.0 said.place (member_of b) (Event b) (event_at es l p.0 b p.1 first.own.1) refl rise in
           let stands = says.shows.stands in
           let P : ℕ → Type 0 = λ m. Precedes (log_of es) depends.0 (at m (seen es p.0 m)) × (seen es p.0 m < seen es said.place m) in
           let own = subst P first.own.2 (path, later) in
           says.dependent.first (seen es p.0 j.member) (let lt = own.1 in let n = stands.3 in omega (arith, lt, n)) (depends.0, depends.1, own.0)
 
-  -- the path that is found to the member is one to what is said, and there is one
-  pub found_path : (i : ℕ) → At (marks es) i (receipt_of d) → (member : ℕ) → member ≡ j.member → (found : Option (Vec ℕ Global))
-      → IfSome found (λ path. audit.IsPathTo (record { events = marks es; place = i }) member path.items) → IfNone found (¬ (base.DependsOnPlace (marks es) member i))
-      → (other : Vec ℕ Global) → IsEventPath es d said.place (unwrap_or found other).items
-  found_path i at_i member own None some none other = absurd (none (subst (λ (m : ℕ). base.DependsOnPlace (marks es) m i) (sym own) (depends_place i at_i)))
-  found_path i at_i member own (Some path) some none other = (i, some.0, at_i, end_is i some.0 at_i (subst (λ (m : ℕ). audit.IsFirstDependent (marks es) i m some.0) own some.1), some.2)
+  -- a path to the member is one to what is said
+  pub found_path : (i : ℕ) → At (marks es) i (receipt_of d) → (path : List ℕ) → audit.IsPathTo (record { events = marks es; place = i }) j.member path → IsEventPath es d said.place path
+  found_path i at_i path found = (i, found.0, at_i, end_is i found.0 at_i found.1, found.2)

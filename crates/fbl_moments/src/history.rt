@@ -2,9 +2,9 @@
 
 ghost use Rattle.std.specs.Prelude.{◌≡◌, ◌<◌, ◌+◌, ◌≤◌, ◌↔◌, ℕ, true, IfOk, MatchOption, Some, length, slice_get};
 ghost use Rattle.std.specs.FinSet as set;
-ghost use Rattle.fbl_moments.specs.Clocks.{IsClock, PrecedesSome, StandsAt, cut_of};
+ghost use Rattle.fbl_moments.specs.Clocks.{IsAdvance, IsClock, PrecedesSome, StandsAt, cut_of};
 ghost use Rattle.fbl_moments.specs.Entries.{entry_member, log_of};
-ghost use Rattle.fbl_moments.specs.HappenedBefore.{Precedes, at};
+ghost use Rattle.fbl_moments.specs.HappenedBefore.{Position, Precedes, at};
 ghost use Rattle.fbl_moments.specs.Histories.{IsFirstAfter, IsLeastMomentOfReceipt};
 
 use crate::clock::Clock;
@@ -70,12 +70,28 @@ impl<'a> History<'a> {
         self.log
     }
 
+    /// What a pass over the entries knows of the entry at the place.
+    fn advance(&self, place: usize) -> &Advance
+        requires { place < length self.now.entries }
+        ensures { IsAdvance self.now.entries place result.now }
+    {
+        &self.advances[place]
+    }
+
+    /// The member in whose log the entry at the place stands.
+    pub(crate) fn member(&self, place: usize) -> Member
+        requires { place < length self.now.entries }
+        ensures { (e : _) → slice_get self.now.entries place ≡ Some e → result ≡ entry_member e }
+    {
+        self.advance(place).member
+    }
+
     /// The number of the entry at the place in its member's log.
     pub(crate) fn number(&self, place: usize) -> usize
         requires { place < length self.now.entries }
         ensures { (e : _) → slice_get self.now.entries place ≡ Some e → StandsAt self.now.entries place (at (entry_member e) result) }
     {
-        self.advances[place].number
+        self.advance(place).number
     }
 
     /// The entries' index.
@@ -93,7 +109,7 @@ impl<'a> History<'a> {
         if count == 0 {
             return &self.none;
         }
-        &self.advances[self.index.place(member, count - 1)].with
+        &self.advance(self.index.place(member, count - 1)).with
     }
 
     /// Whether the source's entry with the number precedes one of the member's first entries, this many.
@@ -144,6 +160,15 @@ impl<'a> History<'a> {
         let end = self.index.step_end(member, number);
         let clock = self.clock(member, number + 1);
         clock.reaching(member, end)
+    }
+
+    /// The least moment at which the entry at the place, a receipt, has come.
+    pub(crate) fn moment_at(&self, place: usize) -> Clock
+        requires { (i : Position) × StandsAt self.now.entries place i }
+        ensures { (i : Position) → StandsAt self.now.entries place i → IsLeastMomentOfReceipt (log_of self.now.entries) i (cut_of result) }
+    {
+        let advance = self.advance(place);
+        self.moment(advance.member, advance.number)
     }
 
     /// The members that have an entry at the clock's cut that the source's entry with the number precedes.

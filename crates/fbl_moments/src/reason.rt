@@ -6,7 +6,6 @@ ghost use Rattle.fbl_base.specs.Precedence.{Has};
 ghost use Rattle.fbl_moments.specs.Clocks.{cut_of};
 ghost use Rattle.fbl_moments.specs.Entries.{marks, recorded_in};
 ghost use Rattle.fbl_moments.specs.Lawful.{IsEventPlace};
-ghost use Rattle.fbl_moments.specs.Logs.{IsLog};
 ghost use Rattle.fbl_moments.specs.Reasons.{AreMomentReasons, IsEventPath, IsMomentReason, IsNextPlace, IsPathFrom};
 ghost use Rattle.fbl_moments.specs.Unsafe.{IsSaidOf};
 
@@ -84,22 +83,18 @@ fn receipt_place(events: &[Mark], determinant: &Determinant) -> Option<usize>
 /// The places among the sends and receipts of a path from the receipt to the first that depends on it of the member that is an orphan.
 fn event_path(
     alloc: Global,
-    log: &RunLog,
+    history: &History<'_>,
     audit: &Audit<'_>,
     said: &UnsafeMoment,
 ) -> Result<Vec<usize>, AllocError>
-    requires events { audit.now.events ≡ marks log.now.entries }
-    requires said { IsSaidOf log.now said.now.determinant said.now }
-    ensures { IfOk result (λ path. IsEventPath log.now.entries said.now.determinant said.now.place path.items) }
+    requires events { audit.now.events ≡ marks history.now.entries }
+    requires said { IsSaidOf history.now said.now.determinant said.now }
+    ensures { IfOk result (λ path. IsEventPath history.now.entries said.now.determinant said.now.place path.items) }
 {
-    let path = match receipt_place(audit.dump().events(), &said.determinant) {
-        Some(place) => {
-            let member = log.entries()[said.place].member();
-            Paths::of(audit, place).to(alloc, member)?
-        }
-        None => None,
-    };
-    Ok(path.unwrap_or(Vec::new(alloc)))
+    let member = history.member(said.place);
+    let place = receipt_place(audit.dump().events(), &said.determinant).unwrap();
+    let path = Paths::of(audit, place).to(alloc, member)?;
+    Ok(path.unwrap())
 }
 
 /// The path whose places among the sends and receipts are these, where those stand at these places.
@@ -114,33 +109,57 @@ fn among_entries(alloc: Global, places: &[usize], path: &[usize]) -> Result<Vec<
     Ok(among)
 }
 
-/// The reason of what is said, with an audit of the sends and receipts, which stand at these places.
+/// The places of a path from the receipt to the first entry that depends on it of the member that is an orphan.
+fn path_to(
+    alloc: Global,
+    history: &History<'_>,
+    audit: &Audit<'_>,
+    said: &UnsafeMoment,
+) -> Result<Vec<usize>, AllocError>
+    requires events { audit.now.events ≡ marks history.now.entries }
+    requires said { IsSaidOf history.now said.now.determinant said.now }
+    ensures { IfOk result (λ path. IsPathFrom history.now.entries said.now.determinant said.now.place path.items) }
+{
+    let path = event_path(alloc, history, audit, said)?;
+    let places = event_places(alloc, history.log().entries())?;
+    among_entries(alloc, places.as_slice(), path.as_slice())
+}
+
+/// The reason of what is said, with an audit of the sends and receipts.
 fn reason_of(
     alloc: Global,
     history: &History<'_>,
     audit: &Audit<'_>,
-    places: &[usize],
     said: &UnsafeMoment,
 ) -> Result<MomentReason, AllocError>
-    requires log { IsLog history.now }
     requires events { audit.now.events ≡ marks history.now.entries }
-    requires count { length places.now ≡ length (marks history.now.entries) }
-    requires places { (k place : ℕ) → slice_get places.now k ≡ Some place → IsEventPlace history.now.entries k place }
     requires said { IsSaidOf history.now said.now.determinant said.now }
     ensures said { IfOk result (λ reason. reason.said ≡ said.now) }
     ensures reason { IfOk result (IsMomentReason history.now) }
 {
-    let log = history.log();
-    let member = log.entries()[said.place].member();
-    let moment = history.moment(member, history.number(said.place));
-    let path = event_path(alloc, log, audit, said)?;
+    let moment = history.moment_at(said.place);
     Ok(MomentReason {
         said: *said,
         cut: moment.counts(),
         holders: history.index().records(&said.determinant).holders(&moment),
         next: next_place(history, &said.determinant, &moment),
-        path: among_entries(alloc, places, path.as_slice())?,
+        path: path_to(alloc, history, audit, said)?,
     })
+}
+
+/// The reason of what is said, with the history of the log.
+fn reason_in(
+    alloc: Global,
+    history: &History<'_>,
+    said: &UnsafeMoment,
+) -> Result<MomentReason, AllocError>
+    requires { IsSaidOf history.now said.now.determinant said.now }
+    ensures said { IfOk result (λ reason. reason.said ≡ said.now) }
+    ensures reason { IfOk result (IsMomentReason history.now) }
+{
+    let dump = last_dump(alloc, history.log())?;
+    let audit = Audit::of(alloc, &dump)?;
+    reason_of(alloc, history, &audit, said)
 }
 
 /// The reason of what `unsafe_moments` says of one of the log's receipts. The time taken is linear in the entries. `Err` comes only where
@@ -155,10 +174,32 @@ pub fn moment_reason(
     ensures reason { IfOk result (IsMomentReason log.now) }
 {
     let history = History::of(alloc, log)?;
-    let dump = last_dump(alloc, log)?;
+    reason_in(alloc, &history, said)
+}
+
+/// The reasons of all that `unsafe_moments` says of the log, with an audit of its sends and receipts.
+fn reasons_of(
+    alloc: Global,
+    history: &History<'_>,
+    audit: &Audit<'_>,
+) -> Result<Vec<MomentReason>, AllocError>
+    requires { audit.now.events ≡ marks history.now.entries }
+    ensures { IfOk result (λ v. AreMomentReasons history.now v.items) }
+{
+    let mut reasons = Vec::new(alloc);
+    for said in &moments_of(alloc, history)? {
+        reasons.push(reason_of(alloc, history, audit, said)?)?;
+    }
+    Ok(reasons)
+}
+
+/// The reasons of all that `unsafe_moments` says of the log, with its history.
+fn reasons_in(alloc: Global, history: &History<'_>) -> Result<Vec<MomentReason>, AllocError>
+    ensures { IfOk result (λ v. AreMomentReasons history.now v.items) }
+{
+    let dump = last_dump(alloc, history.log())?;
     let audit = Audit::of(alloc, &dump)?;
-    let places = event_places(alloc, log.entries())?;
-    reason_of(alloc, &history, &audit, places.as_slice(), said)
+    reasons_of(alloc, history, &audit)
 }
 
 /// The reasons of all that `unsafe_moments` says of the log, in its order. The time taken is that of `unsafe_moments`, and that of the
@@ -167,12 +208,5 @@ pub fn moment_reasons(alloc: Global, log: &RunLog) -> Result<Vec<MomentReason>, 
     ensures { IfOk result (λ v. AreMomentReasons log.now v.items) }
 {
     let history = History::of(alloc, log)?;
-    let dump = last_dump(alloc, log)?;
-    let audit = Audit::of(alloc, &dump)?;
-    let places = event_places(alloc, log.entries())?;
-    let mut reasons = Vec::new(alloc);
-    for said in &moments_of(alloc, &history)? {
-        reasons.push(reason_of(alloc, &history, &audit, places.as_slice(), said)?)?;
-    }
-    Ok(reasons)
+    reasons_in(alloc, &history)
 }

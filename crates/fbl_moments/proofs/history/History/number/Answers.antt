@@ -1,14 +1,5 @@
-use Rattle.fbl_moments.proofs.Common.{arith, ◌≡◌, ◌<◌, length, Some, slice_get, slice_get_read, slice_get_within, refl, subst}
-use Rattle.fbl_moments.specs.Logs.{LogParts}
 use Rattle.fbl_moments.proofs.HistoryLaws.{advance_stands}
-use Rattle.fbl_moments.specs.Clocks.{IsAdvance}
 use Rattle.fbl_moments.proofs.history.History.number.Goals as goal
 
 pub returns : goal.returns
-returns c e here =
-    let advances = c.self.inside.advances.items in
-    let known = subst (λ (log : LogParts). (length advances ≡ length log.entries)) c.self.view_is c.self.invariant.all.count in
-    let below : c.args.place < length advances = (let w = slice_get_within c.args.self.now.entries c.args.place e here in omega (arith, w, known)) in
-    let there : slice_get advances c.args.place ≡ Some c.index.result.now = slice_get_read advances (length advances) c.args.place c.index.result.now refl below c.index.ensures in
-    let is = subst (λ (log : LogParts). IsAdvance log.entries c.args.place c.index.result.now) c.self.view_is (c.self.invariant.all.each c.args.place c.index.result.now there) in
-    advance_stands c.args.self.now.entries c.args.place e c.index.result.now is here
+returns c e here = advance_stands c.args.self.now.entries c.args.place e c.advance.result.now c.advance.ensures here

@@ -1,4 +1,4 @@
-use Rattle.fbl_moments.proofs.Common.{◌≡◌, ◌∙◌, Bool, true, false, ◌↔◌, ap, not, sym, refl}
+use Rattle.fbl_moments.proofs.Common.{◌≡◌, Bool, true, false, ◌↔◌, not, refl}
 use Rattle.fbl_moments.specs.Clocks.{cut_of}
 use Rattle.fbl_moments.proofs.TableLaws.{stored_iff}
 use Rattle.fbl_moments.proofs.index.Records.is_stored.Goals as goal

@@ -1,8 +1,6 @@
-use Rattle.fbl_moments.proofs.Common.{◌≡◌, ◌∙◌, ap, cond, sym, refl, ℕ, Option, Some}
+use Rattle.fbl_moments.proofs.Common.{◌∙◌, ap, sym, refl, Some}
 use Rattle.std.specs.Vec.{with_item}
-use Rattle.std.specs.Option.{option_or}
-use Rattle.fbl_moments.specs.declared.numbers.Keeping.{Keeping}
-use Rattle.fbl_moments.specs.Numbers.{first_after, first_of, same_keeping}
+use Rattle.fbl_moments.specs.Numbers.{first_after, first_of}
 use Rattle.fbl_moments.proofs.NumberLaws.{note-first, note-numbers, place_read}
 use Rattle.fbl_moments.proofs.numbers.Numbers.note.Goals as goal
 

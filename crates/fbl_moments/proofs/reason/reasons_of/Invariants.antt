@@ -2,10 +2,10 @@ use Rattle.fbl_moments.proofs.Common.{ℕ, ◌≡◌, Some, slice_get, take}
 use Rattle.std.proofs.Common.{map}
 use Rattle.fbl_moments.specs.declared.reason.MomentReason.{MomentReason}
 use Rattle.fbl_moments.specs.Reasons.{IsMomentReason}
-use Rattle.fbl_moments.proofs.reason.moment_reasons.Given as goal
+use Rattle.fbl_moments.proofs.reason.reasons_of.Given as goal
 
 abbrev pub invariant-loop-said : goal.invariant-loop-said
 invariant-loop-said l = record {
   said : map (λ (r : MomentReason). r.said) l.reasons.items ≡ take l.said-index l.said-items;
-  each : (i : ℕ) (reason : MomentReason) → slice_get l.reasons.items i ≡ Some reason → IsMomentReason l.log reason;
+  each : (i : ℕ) (reason : MomentReason) → slice_get l.reasons.items i ≡ Some reason → IsMomentReason l.history reason;
 }
