@@ -30,7 +30,7 @@ fn heading_text(
 }
 
 /// What is drawn of a history of so many members.
-#[tactic(auto, unfolding(crate::specs::HistoryPictures::history_shapes))]
+#[tactic(auto, unfolding(fbl_shapes::specs::HistoryShapes::history_shapes))]
 fn shapes_in(alloc: Global, members: u8, columns: &[Column]) -> Result<Vec<Shape>, AllocError>
     requires { members ≤ 16 }
     ensures { IfOk result (λ shapes. shapes.items ≡ history_shapes members columns.now) }
