@@ -149,9 +149,6 @@ module _ {S N : Type 0} (next : Next S N) (old new : GroupRecord S N) (v : Messa
     paths = λ there path. Precedes-within (marks old) added_marks apart there (rw trace_now at path);
   }
 
-  own_named : Names (member new v.to).table own
-  own_named = (receiver_names own).1 (inr (inr refl))
-
   -- the new table's entries are true
   abbrev IsGood : Entry → Type 0
   IsGood e = IsTrueEntry (knowledge new) e × Includes e.known v.to
@@ -169,7 +166,7 @@ module _ {S N : Type 0} (next : Next S N) (old new : GroupRecord S N) (v : Messa
         (now.0, λ m k. elim (Includes-insert_cases e.known v.to m k) [ inl self ↦ rw self (inl (up v.to, (receiver_names e.det).1 (inr (inl (e, h, refl))))) | inr was_known ↦ now.1 m was_known ]),
         contains-insert_same e.known v.to,
       ))))
-      ((rw trace_now (length (marks old), At-seam (marks old) (receipt_of own) _), λ m h. elim (Includes-insert_cases sets.empty v.to m h) [ inl self ↦ rw self (inl (up v.to, own_named)) | inr none ↦ never_both sets.empty m none (up_if_none refl m) ]), contains-insert_same sets.empty v.to))
+      ((rw trace_now (length (marks old), At-seam (marks old) (receipt_of own) _), λ m h. elim (Includes-insert_cases sets.empty v.to m h) [ inl self ↦ rw self (inl (up v.to, (receiver_names own).1 (inr (inr refl)))) | inr none ↦ never_both sets.empty m none (up_if_none refl m) ]), contains-insert_same sets.empty v.to))
 
   -- each is the receiver's and receives nothing but the message, and the one receipt is the one delivered
   abbrev IsOurs : Mark → Type 0
@@ -184,22 +181,19 @@ module _ {S N : Type 0} (next : Next S N) (old new : GroupRecord S N) (v : Messa
 
   -- the receiver's table names the causes of what it or the message named the causes of
   caught : (b : Mark) → Has (marks old) b → NamesCauses f (knowledge old) was.table b ⊎ NamesCauses f (knowledge old) v.carried b → NamesCauses f (knowledge new) (member new v.to).table b
-  caught b there (inl had) d before =
-      elim (NamesCauses-kept keeps sound.causes was.table b there had d before) [ inl named ↦ inl (Names-delivered d v.to named) | inr stable ↦ inr stable ]
-  caught b there (inr came) d before = elim (NamesCauses-kept keeps sound.causes v.carried b there came d before) [ inl named ↦ inl ((receiver_names d).1 (inr (inl named))) | inr stable ↦ inr stable ]
+  caught b there either d before =
+      let kept = λ (es : List Entry). NamesCauses-kept keeps sound.causes es b there in
+      grind (arith, nat_tests, kept was.table, kept v.carried, Names-delivered d v.to, receiver_names d)
 
   -- an event that leads to one of those added is of the receiver, or it is the send of the message
   abbrev IsEntry : Mark → Type 0
   IsEntry c = (member_of c ≡ v.to) ⊎ (send_mark v ≡ c)
 
-  enters : (c e : Mark) → Has added_marks e → (member_of c ≡ member_of e) ⊎ (send_of e ≡ Some c) → IsEntry c
-  enters c e among leads = elim leads [ inl same ↦ inl (same ∙ (ours e among).0) | inr sends ↦ inr ((ours e among).1 c sends) ]
-
   -- and of the events added
   mine : (b : Mark) → Has added_marks b → NamesCauses f (knowledge new) (member new v.to).table b
   mine b new_one d before =
-      elim (Precedes-entered (marks old) added_marks apart IsEntry enters new_one (rw trace_now at before)) [
-        | inl late ↦ inl (subst (λ (c : Determinant). Names (member new v.to).table c) ((ours (receipt_of d) late).2 d refl) own_named)
+      elim (Precedes-entered (marks old) added_marks apart IsEntry (λ c e among leads. grind (arith, nat_tests, ours e among, leads)) new_one (rw trace_now at before)) [
+        | inl late ↦ inl (subst (λ (c : Determinant). Names (member new v.to).table c) ((ours (receipt_of d) late).2 d refl) ((receiver_names own).1 (inr (inr refl))))
         | inr entered ↦
             let whole : Precedes (marks new) (receipt_of d) entered.0 = rw trace_now (Precedes-front (marks old) added_marks entered.1) in
             elim entered.2 [
@@ -237,10 +231,8 @@ module _ {S N : Type 0} (next : Next S N) (old new : GroupRecord S N) (v : Messa
   -- a message in flight was in its channel, or is one of those made
   in_flight_cases : (x : Message N) → IsInFlight (knowledge new) x → IsInFlight (knowledge old) x ⊎ Contains (made next old v) x
   in_flight_cases x flying =
-      elim (Contains-append_cases (taken_off v x.from x.to (channel old x.from x.to)) (between x.from x.to (made next old v)) x (rw (s.channels x.from x.to) at flying)) [
-        | inl left ↦ inl (taken_off-was v x.from x.to (channel old x.from x.to) x left)
-        | inr new_one ↦ inr (Contains-from_filter (is_on x.from x.to) (made next old v) x new_one)
-      ]
+      let cases = Contains-append_cases (taken_off v x.from x.to (channel old x.from x.to)) (between x.from x.to (made next old v)) x in
+      grind (arith, nat_tests, cases, s.channels x.from x.to, taken_off-was v x.from x.to (channel old x.from x.to) x, Contains-from_filter (is_on x.from x.to) (made next old v) x)
 
   good : (k : Store N) → IsThere (knowledge new) k → IsSoundAt f (knowledge new) k
   good (in_table m) there = elim (cases_eq m v.to) [
@@ -257,8 +249,7 @@ module _ {S N : Type 0} (next : Next S N) (old new : GroupRecord S N) (v : Messa
         sound_passed f (knowledge new) x (rw is.0 good_receiver) (rw is.0 carried)
   ]
   good (in_checkpoint m) there =
-      let kept = λ (b : Mark) (has : Has (marks new) b) (owes : Owes (knowledge new) (in_checkpoint m) b). still_owes (in_checkpoint m) tt (λ same. cc) b has (rw (s.checkpoints, s.outside) at owes) in
-      sound_kept keeps sound.causes (in_checkpoint m) tt (tt, rw (s.checkpoints, s.outside) refl, kept)
+      sound_kept keeps sound.causes (in_checkpoint m) tt (tt, rw (s.checkpoints, s.outside) refl, λ b has owes. still_owes (in_checkpoint m) tt (λ same. cc) b has (rw (s.checkpoints, s.outside) at owes))
 
   knows : IsSoundKnowledge n f (knowledge new)
   knows = sound_after keeps sound.causes good (λ m. checkpoint_kept keeps sound.causes m (rw (s.checkpoints, s.outside) refl))
@@ -289,8 +280,7 @@ module _ {S N : Type 0} (next : Next S N) (old new : GroupRecord S N) (v : Messa
 
   own_distinct : IsOnce (receiver next old v).table
   own_distinct =
-      let new_own = receipt_is_new next old sound v.to v.from v.ssn s.to_member (was_up v.to) in
-      once_noted v.to was.table v.carried own (sound.distinct v.to) (new_not_held next old sound v.to own new_own) (new_not_carried next old sound v own flies new_own)
+      once_noted v.to was.table v.carried own (sound.distinct v.to) (search (arith, new_not_held, receipt_is_new, was_up)) (search (arith, new_not_carried, flies, receipt_is_new, was_up))
 
   notes_kept : (x : Message N) → IsInFlight (knowledge new) x → note_of new.trace x.from x.ssn ≡ Some x.note
   notes_kept x flying =
