@@ -15,7 +15,7 @@ pub lies-past : (column : Column) (trace : List Column) → is_standing column �
 lies-past column trace lies = false_from_ne_true (is_next column trace) (λ is. (let stands = (next-is column trace is).1 in absurd cc))
 
 -- and is not undone again
-undo-lies : (c : Column) → is_standing c ≡ false → undo c ≡ c
+pub undo-lies : (c : Column) → is_standing c ≡ false → undo c ≡ c
 undo-lies (Send q k p undone) lies = grind arith
 undo-lies (Receipt p r q k s undone) lies = grind arith
 undo-lies _ lies = refl

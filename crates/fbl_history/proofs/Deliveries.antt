@@ -72,17 +72,7 @@ module _ (next : Next ℕ Note) (old new : GroupRecord ℕ Note) (v : Message No
   gone_on columns history =
       ap (go_on columns) (trace_more ∙ ap (λ xs. xs ++ columns_added) (sym history.standing)) ∙ go_on_more columns columns_added
 
-  made-added : receipts_made columns_added ≡ 1
-  made-added =
-      let sends = filter_map send_column (step_events v.to (length (member old v.to).log) (step_of next old v).sends.items) in
-      omega (
-        arith,
-        count-cons is_receipt (Receipt v.to ((member old v.to).received + 1) v.from v.ssn (step_of next old v).state false) sends,
-        made_none (step_events v.to (length (member old v.to).log) (step_of next old v).sends.items),
-      )
-
   pub follows_delivery : (columns : List Column) → IsHistoryOf next old columns → IsHistoryOf next new (go_on_to next columns new)
   follows_delivery columns history =
-      let made =
-      ap receipts_made (gone_on columns history) ∙ made-append columns columns_added in
-      counted_from next new (go_on_to next columns new) sound-new (standing_is_trace next new columns) (omega (arith, made, made-added, history.counted.0, step.receipts_ever))
+      let made = ap receipts_made (gone_on columns history) ∙ made-append columns columns_added in
+      counted_from next new (go_on_to next columns new) sound-new (standing_is_trace next new columns) (omega (arith, made, count-cons, made_none, history.counted.0, step.receipts_ever))

@@ -35,9 +35,7 @@ module _ (next : Next ℕ Note) (old new : GroupRecord ℕ Note) (step : IsRecov
         | inl down ↦ rw (down, is_sent q below) (grind (arith, nat_tests))
         | inr up ↦
             let number = sent-number old.config.members (marks old) sound.lawful.well_formed q k p (i, at) in
-            let had = log_counted next old sound q below up in
-            let survives = ap (λ (m : MemberRecord ℕ Note). length m.log) (step.rest.survivors q up) in
-            rw (up, is_sent q below, survives, had) (grind (arith, nat_tests))
+            rw (up, is_sent q below, step.rest.survivors q up, log_counted next old sound q below up) (grind (arith, nat_tests))
       ]
   stays-within i (event.Receipt p r q k) here =
       let at = mark-at old.trace i (event.Receipt p r q k) here in
@@ -46,9 +44,7 @@ module _ (next : Next ℕ Note) (old new : GroupRecord ℕ Note) (step : IsRecov
         | inl down ↦ rw (down, is_received p below) (grind (arith, nat_tests))
         | inr up ↦
             let number = receipt-number old.config.members (marks old) p r q k sound.lawful.well_formed (i, at) in
-            let had = received_counted next old sound p below up in
-            let survives = ap (λ (m : MemberRecord ℕ Note). m.received) (step.rest.survivors p up) in
-            rw (up, is_received p below, survives, had) (grind (arith, nat_tests))
+            rw (up, is_received p below, step.rest.survivors p up, received_counted next old sound p below up) (grind (arith, nat_tests))
       ]
 
   left : new.trace ≡ filter (λ e. stays_by old.down (member new) (mark_of e)) old.trace

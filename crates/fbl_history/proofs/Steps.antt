@@ -40,11 +40,13 @@ all-sends : (next : Next ℕ Note) (n : ℕ) (trace done : List (Event Note)) (s
     → map (event_column next n trace) (start_events done starts) ≡ filter_map send_column (start_events done starts)
 all-sends next n trace done [] same = same
 all-sends next n trace done (s ∷ starts) same =
-    let send = event.Send s.from (sends_of (map mark_of done) s.from + 1) s.to s.note in
-    all-sends next n trace (done ++ send ∷ []) starts
-    (map-append (event_column next n trace) done (send ∷ [])
-    ∙ ap (λ xs. xs ++ Send s.from (sends_of (map mark_of done) s.from + 1) s.to false ∷ []) same
-    ∙ sym (filter_map-append send_column done (send ∷ [])))
+    all-sends next n trace (done ++ event.Send s.from (sends_of (map mark_of done) s.from + 1) s.to s.note ∷ []) starts (rw (map-append, filter_map-append, same) refl)
+
+-- the send of one start more
+pub start_events-push : (done : List (Event Note)) (starts : List (Start Note)) (s : Start Note)
+    → start_events done (starts ++ s ∷ []) ≡ start_events done starts ++ event.Send s.from (sends_of (map mark_of (start_events done starts)) s.from + 1) s.to s.note ∷ []
+start_events-push done [] s = refl
+start_events-push done (x ∷ starts) s = start_events-push (done ++ event.Send x.from (sends_of (map mark_of done) x.from + 1) x.to x.note ∷ []) starts s
 
 pub begins_at_start : (next : Next ℕ Note) (config : Settings Note) (r : GroupRecord ℕ Note) → IsGroupStart next config r → IsHistoryOf next r (start_columns config.starts)
 begins_at_start next config r start =

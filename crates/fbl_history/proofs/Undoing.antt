@@ -11,7 +11,6 @@ same-is _ _ h = absurd cc
 -- a undone column does not stand
 pub undone-lies : (column : Column) → is_standing (undo column) ≡ false
 undone-lies (Send q k p undone) = refl
-undone-lies (Receipt p r q k s undone) = refl
 undone-lies _ = refl
 
 -- what is next stands

@@ -21,12 +21,7 @@ loop-turn-preserved g c =
 -- at the end these are the columns after all turns
 all : (g : Over) (c : After-loop-turn g) → IsAfterTurns g.B.Behaviour.next c.args.group.now c.args.turns.now c.args.self c.loop-turn.columns.items
 all g c =
-    let turns = c.args.turns.now in
-    let next = g.B.Behaviour.next in
-    let group = c.args.group.now in
-    let columns = c.loop-turn.columns.items in
-    subst (λ ts. IsAfterTurns next group ts c.args.self columns) (take_all c.loop-turn.turn-index turns (omega (arith, c.loop-turn-test.false)))
-    (subst (λ xs. IsAfterTurns next group (take c.loop-turn.turn-index turns) xs columns) c.self.view_is c.loop-turn.invariant)
+    rw (take_all c.loop-turn.turn-index c.args.turns.now (omega (arith, c.loop-turn-test.false)), c.self.view_is) at c.loop-turn.invariant
 
 pub invariant_of-result : goal.invariant_of-result
 invariant_of-result g c =
