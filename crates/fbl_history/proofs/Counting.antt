@@ -2,8 +2,8 @@
 use Rattle.fbl_base.specs.declared.trace.Note.{Note}
 use Rattle.fbl_base.specs.declared.trace.Event.TheVariants as event
 use Rattle.fbl_base.specs.declared.trace.Mark.TheVariants as mark
-use Rattle.fbl_history.proofs.Common.{◌≡◌, ◌==◌, ◌+◌, ℕ, filter_map, is_send_of, is_sent_by, send_column, sends_of, Bool, true, false, cond, not, List, [], ◌∷◌, ◌++◌, length, map, count_by, refl, ap, sym, ◌∙◌, arith, sum_by-append, sum_by-cons}
-use Rattle.fbl_history.proofs.Common.{Event, mark_of, receipts, Next, GroupRecord, marks, IsSound, Column, Send, Receipt, event_column, trace_columns}
+use Rattle.fbl_history.proofs.Common.{◌≡◌, ◌+◌, ℕ, filter_map, is_send_of, is_sent_by, send_column, sends_of, Bool, false, cond, List, [], ◌∷◌, ◌++◌, length, map, count_by, refl, ap, ◌∙◌, arith, sum_by-append, sum_by-cons}
+use Rattle.fbl_history.proofs.Common.{Event, mark_of, receipts, Next, GroupRecord, IsSound, Column, Send, Receipt, event_column, trace_columns}
 use Rattle.fbl_history.proofs.Common.{CountsAsBefore, IsHistoryOf, is_receipt, is_standing, is_undone_receipt, receipts_made, receipts_undone, standing, undo}
 
 pub count-cons : (p : Column → Bool) (column : Column) (columns : List Column) → count_by p (column ∷ columns) ≡ cond (p column) 1 0 + count_by p columns

@@ -1,6 +1,6 @@
 -- A history that goes on to some of its standing events.
-use Rattle.fbl_history.proofs.Common.{◌≡◌, ℕ, suc, Bool, true, false, cond, List, [], ◌∷◌, map, refl, sym, ap, ◌∙◌, arith, any-filter_same, any_passes_from_place, filter, filter-passes, Column, is_standing, undo, same_standing}
-use Rattle.fbl_history.proofs.Common.{standing, is_next, go_on, false_from_ne_true, eqb-self, list_any, Send, Receipt, slice_get, Some, undone_without}
+use Rattle.fbl_history.proofs.Common.{◌≡◌, ℕ, suc, Bool, true, false, cond, List, [], ◌∷◌, map, refl, sym, ap, arith, any-filter_same, any_passes_from_place, filter, filter-passes, Column, is_standing, undo, same_standing}
+use Rattle.fbl_history.proofs.Common.{standing, is_next, go_on, false_from_ne_true, eqb-self, Send, Receipt, slice_get, Some}
 use Rattle.fbl_history.specs.Laws.{OthersAreUndone}
 use Rattle.fbl_history.proofs.Undoing.{same-is, next-is}
 

@@ -3,7 +3,7 @@ use Rattle.fbl_base.specs.declared.trace.Event.TheVariants as event
 use Rattle.fbl_base.specs.declared.trace.Note.{Note}
 use Rattle.fbl_base.specs.declared.trace.Start.{Start}
 use Rattle.fbl_history.proofs.Common.{◌≡◌, ℕ, ◌+◌, false, List, [], ◌∷◌, ◌++◌, map, refl, sym, ap, ◌∙◌, arith, append-nil, filter-append, filter_map, filter_map-append, map-append}
-use Rattle.fbl_history.proofs.Common.{Checkpoint, Column, Event, GroupRecord, IsCheckpoint, IsGroupStart, IsHistoryOf, IsStrike, Members, Next, Send, Settings, Strike, event_column, is_receipt, is_standing}
+use Rattle.fbl_history.proofs.Common.{Checkpoint, Column, Event, GroupRecord, IsCheckpoint, IsGroupStart, IsHistoryOf, IsStrike, Members, Next, Settings, Strike, event_column, is_receipt, is_standing}
 use Rattle.fbl_history.proofs.Common.{mark_of, send_column, sends_of, standing, start_columns, start_events}
 use Rattle.fbl_history.proofs.Counting.{count-kinds, counts_as_before}
 use Rattle.fbl_history.proofs.Deliveries.{made_none}
@@ -29,9 +29,7 @@ follows_strike next old new struck columns step = pushed next old new columns (S
 
 pub follows_checkpoint : (next : Next ℕ Note) (old new : GroupRecord ℕ Note) (p : ℕ) (columns : List Column) → IsCheckpoint old new p
     → IsHistoryOf next old columns → IsHistoryOf next new (columns ++ Checkpoint p ∷ [])
-follows_checkpoint next old new p columns step =
-    pushed next old new columns (Checkpoint p) refl refl (ap (λ (r : GroupRecord ℕ Note). r.trace) step.saved) (ap (λ (r : GroupRecord ℕ Note). r.config) step.saved)
-    (ap (λ (r : GroupRecord ℕ Note). r.receipts_ever) step.saved) (ap (λ (r : GroupRecord ℕ Note). r.undone_ever) step.saved)
+follows_checkpoint next old new p columns step = rw step.saved (pushed next old _ columns (Checkpoint p) refl refl refl refl refl refl)
 
 -- ---- new groups
 

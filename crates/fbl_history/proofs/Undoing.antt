@@ -1,5 +1,5 @@
 -- How a history goes on to a trace.
-use Rattle.fbl_history.proofs.Common.{◌≡◌, Bool, true, false, List, [], ◌∷◌, drop, refl, sym, ap, ◌∙◌, arith, nat_tests, Column, is_standing, undo, same_standing, standing}
+use Rattle.fbl_history.proofs.Common.{◌≡◌, true, false, List, [], ◌∷◌, drop, refl, sym, ap, ◌∙◌, arith, nat_tests, Column, is_standing, undo, same_standing, standing}
 use Rattle.fbl_history.proofs.Common.{is_next, go_on, ◌⊎◌, Send, Receipt, column_then, trace_then, GoesOnFrom}
 
 -- columns of the same standing event are equal, and stand

@@ -1,4 +1,4 @@
-use Rattle.fbl_history.proofs.Common.{ap, arith, slice_get-get_or, subst, sym, take, take_all, take_more, IsAfterTurns, Some, ◌∙◌}
+use Rattle.fbl_history.proofs.Common.{ap, arith, slice_get-get_or, sym, take, take_all, take_more, IsAfterTurns, Some, ◌∙◌}
 use Rattle.fbl_history.proofs.Turning.{after_more, crash_led, history_led, sends_led}
 use Rattle.fbl_history.proofs.history.History.run.Goals as goal
 use Rattle.fbl_history.proofs.history.History.run.Goals.{After-loop-turn}
