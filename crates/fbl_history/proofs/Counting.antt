@@ -2,8 +2,8 @@
 use Rattle.fbl_base.specs.declared.trace.Note.{Note}
 use Rattle.fbl_base.specs.declared.trace.Event.TheVariants as event
 use Rattle.fbl_base.specs.declared.trace.Mark.TheVariants as mark
-use Rattle.fbl_history.proofs.Common.{◌≡◌, ◌==◌, ◌+◌, ℕ, filter_map, is_send_of, is_sent_by, send_column, sends_of, Bool, true, false, cond, not, List, [], ◌∷◌, ◌++◌, length, map, count_by, refl, ap, sym, ◌∙◌, arith, sum_by-append, sum_by-cons}
-use Rattle.fbl_history.proofs.Common.{Event, mark_of, receipts, Next, GroupRecord, marks, IsSound, Column, Send, Receipt, event_column, trace_columns}
+use Rattle.fbl_history.proofs.Common.{◌≡◌, ◌+◌, ℕ, filter_map, is_send_of, is_sent_by, send_column, sends_of, Bool, false, cond, List, [], ◌∷◌, ◌++◌, length, map, count_by, refl, ap, ◌∙◌, arith, sum_by-append, sum_by-cons}
+use Rattle.fbl_history.proofs.Common.{Event, mark_of, receipts, Next, GroupRecord, IsSound, Column, Send, Receipt, event_column, trace_columns}
 use Rattle.fbl_history.proofs.Common.{CountsAsBefore, IsHistoryOf, is_receipt, is_standing, is_undone_receipt, receipts_made, receipts_undone, standing, undo}
 
 pub count-cons : (p : Column → Bool) (column : Column) (columns : List Column) → count_by p (column ∷ columns) ≡ cond (p column) 1 0 + count_by p columns
@@ -12,10 +12,8 @@ count-cons p column columns = sum_by-cons (λ c. cond (p c) 1 0) column columns
 -- the receipts of a trace
 count-trace : (next : Next ℕ Note) (n : ℕ) (trace events : List (Event Note)) → receipts_made (map (event_column next n trace) events) ≡ length (receipts (map mark_of events))
 count-trace next n trace [] = refl
-count-trace next n trace (event.Send q k p note ∷ events) =
-    omega (arith, count-trace next n trace events, count-cons is_receipt (Send q k p false) (map (event_column next n trace) events))
-count-trace next n trace (event.Receipt p r q k ∷ events) =
-    omega (arith, count-trace next n trace events, count-cons is_receipt (event_column next n trace (event.Receipt p r q k)) (map (event_column next n trace) events))
+count-trace next n trace (event.Send q k p note ∷ events) = omega (arith, count-trace next n trace events, count-cons)
+count-trace next n trace (event.Receipt p r q k ∷ events) = omega (arith, count-trace next n trace events, count-cons)
 
 -- each receipt stands or is undone
 pub count-kinds : (columns : List Column) → receipts_made columns ≡ receipts_made (standing columns) + receipts_undone columns
@@ -46,29 +44,20 @@ made-changed change (c ∷ columns) same =
 
 pub undo-receipt : (c : Column) → is_receipt (undo c) ≡ is_receipt c
 undo-receipt (Receipt p r q k s u) = refl
-undo-receipt (Send q k p u) = refl
 undo-receipt _ = refl
 
 -- the sends of a member, as their columns and as events
 pub count_sent : (member : ℕ) (events : List (Event Note)) → count_by (is_sent_by member) (filter_map send_column events) ≡ sends_of (map mark_of events) member
 count_sent member [] = refl
 count_sent member (event.Send q k p note ∷ events) =
-    let columns = filter_map send_column events in
-    count-cons (is_sent_by member) (Send q k p false) columns ∙ ap (λ n. cond (q == member) 1 0 + n) (count_sent member events)
-    ∙ sym (sum_by-cons (λ e. cond (is_send_of member e) 1 0) (mark.Send q k p) (map mark_of events))
+    omega (arith, count_sent member events, count-cons (is_sent_by member) (Send q k p false) (filter_map send_column events), sum_by-cons (λ e. cond (is_send_of member e) 1 0) (mark.Send q k p) (map mark_of events))
 count_sent member (event.Receipt p r q k ∷ events) =
-    let none : 0 + sends_of (map mark_of events) member ≡ sends_of (map mark_of events) member = omega arith in
-    count_sent member events ∙ sym (sum_by-cons (λ e. cond (is_send_of member e) 1 0) (mark.Receipt p r q k) (map mark_of events) ∙ none)
+    omega (arith, count_sent member events, sum_by-cons (λ e. cond (is_send_of member e) 1 0) (mark.Receipt p r q k) (map mark_of events))
 
 -- a column that is of no receipt, behind the others
 pub counts_as_before : (columns : List Column) (c : Column) → is_receipt c ≡ false → CountsAsBefore columns (columns ++ c ∷ [])
+counts_as_before columns (Receipt p r q k s u) none = absurd cc
 counts_as_before columns c none = (
-  omega (arith, made-append columns (c ∷ []), one-none is_receipt none),
-  omega (arith, sum_by-append (λ x. cond (is_undone_receipt x) 1 0) columns (c ∷ []), one-none is_undone_receipt (not-undone c none)),
-) where
-  not-undone : (c : Column) → is_receipt c ≡ false → is_undone_receipt c ≡ false
-  not-undone (Receipt p r q k s u) none = absurd cc
-  not-undone _ none = refl
-
-  one-none : (p : Column → Bool) → p c ≡ false → count_by p (c ∷ []) ≡ 0
-  one-none p none = count-cons p c [] ∙ ap (λ b. cond b 1 0 + 0) none
+  omega (arith, made-append columns (c ∷ []), count-cons is_receipt c []),
+  omega (arith, sum_by-append (λ x. cond (is_undone_receipt x) 1 0) columns (c ∷ []), count-cons is_undone_receipt c []),
+)

@@ -1,6 +1,6 @@
 -- A history that goes on to some of its standing events.
-use Rattle.fbl_history.proofs.Common.{◌≡◌, ℕ, suc, Bool, true, false, cond, List, [], ◌∷◌, map, refl, sym, ap, ◌∙◌, arith, any-filter_same, any_passes_from_place, filter, filter-passes, Column, is_standing, undo, same_standing}
-use Rattle.fbl_history.proofs.Common.{standing, is_next, go_on, false_from_ne_true, eqb-self, list_any, Send, Receipt, slice_get, Some, undone_without}
+use Rattle.fbl_history.proofs.Common.{◌≡◌, ℕ, suc, Bool, true, false, cond, List, [], ◌∷◌, map, refl, sym, ap, arith, any-filter_same, any_passes_from_place, filter, filter-passes, Column, is_standing, undo, same_standing}
+use Rattle.fbl_history.proofs.Common.{standing, is_next, go_on, false_from_ne_true, eqb-self, Send, Receipt, slice_get, Some}
 use Rattle.fbl_history.specs.Laws.{OthersAreUndone}
 use Rattle.fbl_history.proofs.Undoing.{same-is, next-is}
 
@@ -15,7 +15,7 @@ pub lies-past : (column : Column) (trace : List Column) → is_standing column �
 lies-past column trace lies = false_from_ne_true (is_next column trace) (λ is. (let stands = (next-is column trace is).1 in absurd cc))
 
 -- and is not undone again
-undo-lies : (c : Column) → is_standing c ≡ false → undo c ≡ c
+pub undo-lies : (c : Column) → is_standing c ≡ false → undo c ≡ c
 undo-lies (Send q k p undone) lies = grind arith
 undo-lies (Receipt p r q k s undone) lies = grind arith
 undo-lies _ lies = refl

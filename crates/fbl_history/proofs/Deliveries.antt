@@ -1,9 +1,9 @@
 -- A history of a group that goes on after a delivery has the columns of the delivery behind it.
 use Rattle.fbl_base.specs.declared.trace.Event.TheVariants as event
 use Rattle.fbl_base.specs.declared.trace.Note.{Note}
-use Rattle.fbl_history.proofs.Common.{◌≡◌, ℕ, ◌+◌, Bool, true, false, List, [], ◌∷◌, ◌++◌, length, map, ◌<◌, refl, sym, ap, ◌∙◌, arith, filter_map}
+use Rattle.fbl_history.proofs.Common.{◌≡◌, ℕ, ◌+◌, false, List, [], ◌∷◌, ◌++◌, length, map, ◌<◌, refl, sym, ap, ◌∙◌, arith, filter_map}
 use Rattle.fbl_history.proofs.Common.{At-front, Column, Event, GroupRecord, IsDelivery, IsHistoryOf, IsSound, Message, Next, Receipt, Send, SendsWell, delivery_events, event_column, go_on, go_on_to}
-use Rattle.fbl_history.proofs.Common.{group_delivery_keeps, is_receipt, is_standing, blank, get_or-set_same, MemberRecord, Settings, receiver, length-received_notes, length-receipts_at, map-append, mark_of, marks, member, note_of-front, received_counted}
+use Rattle.fbl_history.proofs.Common.{group_delivery_keeps, is_receipt, blank, get_or-set_same, MemberRecord, Settings, receiver, length-received_notes, length-receipts_at, map-append, mark_of, marks, member, note_of-front, received_counted}
 use Rattle.fbl_history.proofs.Common.{received_notes, receipts_made, send_column, standing, state_after, state_after_receipt, step_events, step_of, take_all, trace_columns, up_if_none, up_state}
 use Rattle.fbl_history.proofs.Counting.{count-cons, counted_from, made-append}
 use Rattle.fbl_history.proofs.Cutting.{lies-past, same-self}
@@ -72,17 +72,7 @@ module _ (next : Next ℕ Note) (old new : GroupRecord ℕ Note) (v : Message No
   gone_on columns history =
       ap (go_on columns) (trace_more ∙ ap (λ xs. xs ++ columns_added) (sym history.standing)) ∙ go_on_more columns columns_added
 
-  made-added : receipts_made columns_added ≡ 1
-  made-added =
-      let sends = filter_map send_column (step_events v.to (length (member old v.to).log) (step_of next old v).sends.items) in
-      omega (
-        arith,
-        count-cons is_receipt (Receipt v.to ((member old v.to).received + 1) v.from v.ssn (step_of next old v).state false) sends,
-        made_none (step_events v.to (length (member old v.to).log) (step_of next old v).sends.items),
-      )
-
   pub follows_delivery : (columns : List Column) → IsHistoryOf next old columns → IsHistoryOf next new (go_on_to next columns new)
   follows_delivery columns history =
-      let made =
-      ap receipts_made (gone_on columns history) ∙ made-append columns columns_added in
-      counted_from next new (go_on_to next columns new) sound-new (standing_is_trace next new columns) (omega (arith, made, made-added, history.counted.0, step.receipts_ever))
+      let made = ap receipts_made (gone_on columns history) ∙ made-append columns columns_added in
+      counted_from next new (go_on_to next columns new) sound-new (standing_is_trace next new columns) (omega (arith, made, count-cons, made_none, history.counted.0, step.receipts_ever))

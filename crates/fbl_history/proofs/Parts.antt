@@ -1,7 +1,7 @@
 -- The columns of a part of a trace are those of the same events in the whole one.
 use Rattle.fbl_base.specs.declared.trace.Event.TheVariants as event
 use Rattle.fbl_base.specs.declared.trace.Note.{Note}
-use Rattle.fbl_history.proofs.Common.{◌≡◌, ℕ, zero, suc, ◌≤◌, List, [], ◌∷◌, length, map, take, Some, slice_get, refl, ap, ◌∙◌, arith, Determinant, Event, Mark, mark_of, receipt_of}
+use Rattle.fbl_history.proofs.Common.{◌≡◌, ℕ, zero, suc, ◌≤◌, List, [], ◌∷◌, length, map, take, Some, slice_get, refl, subst, arith, Determinant, Event, Mark, mark_of, receipt_of}
 use Rattle.fbl_history.proofs.Common.{Has, Has-receipts_at, Next, WellFormed, event_column, length-receipts_at, mark-at, note-at, note_of, receipt-at, receipt-number, receipts-noted, receipts_at, receipts_at-Has}
 use Rattle.fbl_history.proofs.Common.{received_notes, some-at, take-more}
 
@@ -37,7 +37,7 @@ module _ {n : ℕ} {part whole : List (Event Note)} (is : IsPart n part whole) w
       let now = noted whole is.whole_obeys p k d.0 here in
       let note : was.0 ≡ now.0 = (let both = is.notes d.0.from d.0.ssn was.0 was.1 in cc) in
       rw (
-        take-more (received_notes part p) k now.0 (was.2 ∙ ap (λ x. Some x) note),
+        take-more (received_notes part p) k now.0 (subst (λ x. slice_get (received_notes part p) k ≡ Some x) note was.2),
         take-more (received_notes whole p) k now.0 now.2,
         same-notes p k (omega (arith, few)),
       )
@@ -47,8 +47,7 @@ module _ {n : ℕ} {part whole : List (Event Note)} (is : IsPart n part whole) w
   same-column next i (event.Send q k p note) here = refl
   same-column next i (event.Receipt p r q k) here =
       let number = receipt-number n (map mark_of part) p r q k is.obeys (i, mark-at part i (event.Receipt p r q k) here) in
-      let notes = same-notes p r (omega (arith, number, length-receipts_at (map mark_of part) p)) in
-      rw notes refl
+      rw (same-notes p r (omega (arith, number, length-receipts_at (map mark_of part) p))) refl
 
   pub same_columns : (next : Next ℕ Note) → map (event_column next n part) part ≡ map (event_column next n whole) part
   same_columns next = map-agree _ _ part (same-column next)

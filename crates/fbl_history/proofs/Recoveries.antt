@@ -2,17 +2,16 @@
 use Rattle.fbl_base.specs.declared.trace.Event.TheVariants as event
 use Rattle.fbl_base.specs.declared.trace.Note.{Note}
 use Rattle.fbl_base.specs.declared.trace.Mark.TheVariants as mark
-use Rattle.fbl_history.proofs.Common.{◌≡◌, ℕ, zero, ◌<◌, ◌||◌, suc, Bool, WellFormed, Settings, filter-At, filter-passes, false_from_ne_true, get_or, slice_get-get_or, true, false, cond, not, inl, inr, List, [], ◌∷◌, length, map, Some, slice_get, refl, sym, subst, ap, ◌∙◌, arith, nat_tests}
-use Rattle.fbl_history.proofs.Common.{Column, Event, GroupRecord, HasEachOnce, IsAfterRecovery, IsHistoryOf, IsRecovery, IsRecoveryColumn, IsSound, MemberRecord, Members, Next, Receipt, Recovery, Send}
+use Rattle.fbl_history.proofs.Common.{◌≡◌, ℕ, ◌<◌, Bool, Settings, false, not, inl, inr, List, [], ◌∷◌, length, map, Some, slice_get, refl, sym, ap, ◌∙◌, arith, nat_tests}
+use Rattle.fbl_history.proofs.Common.{Column, Event, GroupRecord, IsAfterRecovery, IsHistoryOf, IsRecovery, IsRecoveryColumn, IsSound, Members, Next, Recovery}
 use Rattle.fbl_history.proofs.Common.{cut-one, cut-was, cut-obeys, cut-causes, down_or_up, event_column, filter, filter-agree, fold-received, fold-replayed, go_on, go_on_to, group_recovery_keeps, is_beyond, is_receipt, is_standing}
-use Rattle.fbl_history.proofs.Common.{list_any, log_counted, mark-at, mark_of, marks, member, note-was, receipt-number, received_counted, receipts_at, receipts_made, same_standing, sent-number, standing, stays_by, stays_by-cut}
-use Rattle.fbl_history.proofs.Common.{trace_columns, undo, undone_beyond, undone_without}
+use Rattle.fbl_history.proofs.Common.{log_counted, mark-at, mark_of, marks, member, note-was, receipt-number, received_counted, receipts_at, receipts_made, sent-number, stays_by, stays_by-cut}
+use Rattle.fbl_history.proofs.Common.{trace_columns, undone_beyond}
 use Rattle.fbl_history.proofs.Counting.{counted_from, made-changed, undo-receipt}
 use Rattle.fbl_history.proofs.Cutting.{cut}
 use Rattle.fbl_history.proofs.Parts.{IsPart, same_columns}
-use Rattle.fbl_history.proofs.Standing.{standing_is_trace, trace_once}
+use Rattle.fbl_history.proofs.Standing.{standing_is_trace}
 use Rattle.fbl_history.proofs.Steps.{pushed}
-use Rattle.fbl_history.proofs.Undoing.{same-is}
 
 filter-map : {X Y : Type 0} (f : X → Y) (p : Y → Bool) (xs : List X) → map f (filter (λ x. p (f x)) xs) ≡ filter p (map f xs)
 filter-map f p [] = refl
@@ -23,9 +22,6 @@ module _ (next : Next ℕ Note) (old new : GroupRecord ℕ Note) (step : IsRecov
   pub sound-new : IsSound next new
   sound-new = group_recovery_keeps next old new step sound
 
-  obeys-new : WellFormed old.config.members (marks new)
-  obeys-new = cut-obeys sound step.trace
-
   -- the events that stay are those that are within the counts
   stays-within : (i : ℕ) (e : Event Note) → slice_get old.trace i ≡ Some e → stays_by old.down (member new) (mark_of e) ≡ not (is_beyond received sent (event_column next old.config.members old.trace e))
   stays-within i (event.Send q k p note) here =
@@ -35,9 +31,7 @@ module _ (next : Next ℕ Note) (old new : GroupRecord ℕ Note) (step : IsRecov
         | inl down ↦ rw (down, is_sent q below) (grind (arith, nat_tests))
         | inr up ↦
             let number = sent-number old.config.members (marks old) sound.lawful.well_formed q k p (i, at) in
-            let had = log_counted next old sound q below up in
-            let survives = ap (λ (m : MemberRecord ℕ Note). length m.log) (step.rest.survivors q up) in
-            rw (up, is_sent q below, survives, had) (grind (arith, nat_tests))
+            rw (up, is_sent q below, step.rest.survivors q up, log_counted next old sound q below up) (grind (arith, nat_tests))
       ]
   stays-within i (event.Receipt p r q k) here =
       let at = mark-at old.trace i (event.Receipt p r q k) here in
@@ -46,9 +40,7 @@ module _ (next : Next ℕ Note) (old new : GroupRecord ℕ Note) (step : IsRecov
         | inl down ↦ rw (down, is_received p below) (grind (arith, nat_tests))
         | inr up ↦
             let number = receipt-number old.config.members (marks old) p r q k sound.lawful.well_formed (i, at) in
-            let had = received_counted next old sound p below up in
-            let survives = ap (λ (m : MemberRecord ℕ Note). m.received) (step.rest.survivors p up) in
-            rw (up, is_received p below, survives, had) (grind (arith, nat_tests))
+            rw (up, is_received p below, step.rest.survivors p up, received_counted next old sound p below up) (grind (arith, nat_tests))
       ]
 
   left : new.trace ≡ filter (λ e. stays_by old.down (member new) (mark_of e)) old.trace
@@ -58,7 +50,7 @@ module _ (next : Next ℕ Note) (old new : GroupRecord ℕ Note) (step : IsRecov
 
   part : IsPart old.config.members new.trace old.trace
   part = record {
-    obeys = obeys-new;
+    obeys = cut-obeys sound step.trace;
     whole_obeys = sound.lawful.well_formed;
     has = λ e there. (cut-was sound step.trace e there).0;
     notes = λ q k x is. note-was old.config.members step.trace.0 old.trace sound.lawful.well_formed (cut-causes sound step.trace) q k x (rw step.trace.1 at is);
@@ -78,12 +70,9 @@ module _ (next : Next ℕ Note) (old new : GroupRecord ℕ Note) (step : IsRecov
       let stays : Column → Bool = λ c. not (is_beyond received sent c) in
       ap (go_on columns) (trace_less ∙ ap (filter stays) (sym history.standing)) ∙ cut columns stays (undone_beyond received sent) (λ i c here. grind arith)
 
-  same-kind : (c : Column) → is_receipt (undone_beyond received sent c) ≡ is_receipt c
-  same-kind c = elim (is_beyond received sent c) as (λ b. is_receipt (cond b (undo c) c) ≡ is_receipt c) [ true ↦ undo-receipt c | false ↦ refl ]
-
   pub follows_on : (columns : List Column) → IsHistoryOf next old columns → IsHistoryOf next new (go_on_to next columns new)
   follows_on columns history =
-      let made = ap receipts_made (gone_back columns history) ∙ made-changed (undone_beyond received sent) columns same-kind in
+      let made = ap receipts_made (gone_back columns history) ∙ made-changed (undone_beyond received sent) columns (λ c. grind (arith, undo-receipt c)) in
       counted_from next new (go_on_to next columns new) sound-new (standing_is_trace next new columns) (made ∙ history.counted.0 ∙ sym step.rest.receipts_ever)
 
 -- the column of a recovery is of no event

@@ -9,15 +9,12 @@ use Rattle.std.proofs.lemmas.List.Sums.{fails_before_first, passes_at_first}
 use Rattle.std.proofs.Math.Logic.{∥∥₁_elim}
 use Rattle.std.specs.Coded.{Coded-set, codes}
 use Rattle.std.specs.List.{position_or_len}
-use Rattle.fbl_history.proofs.Undoing.{same-is, stays_or_undone}
+use Rattle.fbl_history.proofs.Cutting.{undo-lies}
+use Rattle.fbl_history.proofs.Undoing.{same-is, undone-lies}
 
 -- what a column becomes is the same event, undone or not
 then-undo : (column : Column) (trace : List Column) → undo (column_then column trace) ≡ undo column
-then-undo column trace = elim (stays_or_undone column trace) [ inl kept ↦ ap undo kept | inr gone ↦ ap undo gone.1 ∙ twice column ] where
-  twice : (c : Column) → undo (undo c) ≡ undo c
-  twice (Send q k p u) = refl
-  twice (Receipt p r q k s u) = refl
-  twice _ = refl
+then-undo column trace = grind (arith, undo-lies (undo column), undone-lies column)
 
 -- the column was at this place, undone or not
 abbrev WasThere : List Column → ℕ → Column → Type 0
@@ -54,12 +51,10 @@ is_there (column ∷ columns) trace (suc place) c at = is_there columns (trace_t
 is-receipt : (c : Column) (to rsn from ssn state : ℕ) → undo c ≡ Receipt to rsn from ssn state true
     → (undone : Bool) × (c ≡ Receipt to rsn from ssn state undone)
 is-receipt (Receipt p r q k s u) to rsn from ssn state same = (u, cc)
-is-receipt (Send q k p u) to rsn from ssn state same = absurd cc
 is-receipt _ to rsn from ssn state same = absurd cc
 
 is-send : (c : Column) (from ssn to : ℕ) → undo c ≡ Send from ssn to true → (undone : Bool) × (c ≡ Send from ssn to undone)
 is-send (Send q k p u) from ssn to same = (u, cc)
-is-send (Receipt p r q k s u) from ssn to same = absurd cc
 is-send _ from ssn to same = absurd cc
 
 -- ---- traces

@@ -1,10 +1,10 @@
 -- The columns of a trace stand, and no two are the same.
 use Rattle.fbl_base.specs.declared.trace.Note.{Note}
-use Rattle.fbl_history.proofs.Common.{◌≡◌, ℕ, List, [], ◌∷◌, map, Some, refl, sym, ap, ◌∙◌, Event, mark_of, Next, GroupRecord, marks, IsSound, mark-at, Column, GoesOnFrom, standing, go_on_to}
+use Rattle.fbl_history.proofs.Common.{◌≡◌, ℕ, List, [], ◌∷◌, map, Some, refl, sym, ap, ◌∙◌, Event, mark_of, Next, GroupRecord, marks, IsSound, mark-at, Column, standing, go_on_to}
 use Rattle.fbl_history.proofs.Common.{HasEachOnce, event_column, trace_columns, map-At, one_place}
 use Rattle.fbl_base.specs.declared.trace.Event.TheVariants.{Send, Receipt}
 pub use Rattle.fbl_history.proofs.Undoing.{standing_trace}
-use Rattle.fbl_history.proofs.Undoing.{goes_on, same-is}
+use Rattle.fbl_history.proofs.Undoing.{same-is}
 
 pub columns_stand : (next : Next ℕ Note) (n : ℕ) (trace events : List (Event Note)) → standing (map (event_column next n trace) events) ≡ map (event_column next n trace) events
 columns_stand next n trace [] = refl
@@ -13,9 +13,6 @@ columns_stand next n trace (Receipt p r q k ∷ events) = ap (λ (xs : List Colu
 
 pub standing_is_trace : (next : Next ℕ Note) (r : GroupRecord ℕ Note) (columns : List Column) → standing (go_on_to next columns r) ≡ trace_columns next r
 standing_is_trace next r columns = standing_trace columns (trace_columns next r) (columns_stand next r.config.members r.trace r.trace)
-
-pub nothing_comes_back : (next : Next ℕ Note) (r : GroupRecord ℕ Note) (columns : List Column) → GoesOnFrom columns (go_on_to next columns r)
-nothing_comes_back next r columns = goes_on columns (trace_columns next r)
 
 -- events whose columns are equal have the same mark
 same-mark : (next : Next ℕ Note) (n : ℕ) (trace : List (Event Note)) (e e' : Event Note) → event_column next n trace e ≡ event_column next n trace e' → mark_of e ≡ mark_of e'

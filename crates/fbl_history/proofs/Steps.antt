@@ -3,7 +3,7 @@ use Rattle.fbl_base.specs.declared.trace.Event.TheVariants as event
 use Rattle.fbl_base.specs.declared.trace.Note.{Note}
 use Rattle.fbl_base.specs.declared.trace.Start.{Start}
 use Rattle.fbl_history.proofs.Common.{◌≡◌, ℕ, ◌+◌, false, List, [], ◌∷◌, ◌++◌, map, refl, sym, ap, ◌∙◌, arith, append-nil, filter-append, filter_map, filter_map-append, map-append}
-use Rattle.fbl_history.proofs.Common.{Checkpoint, Column, Event, GroupRecord, IsCheckpoint, IsGroupStart, IsHistoryOf, IsStrike, Members, Next, Send, Settings, Strike, event_column, is_receipt, is_standing}
+use Rattle.fbl_history.proofs.Common.{Checkpoint, Column, Event, GroupRecord, IsCheckpoint, IsGroupStart, IsHistoryOf, IsStrike, Members, Next, Settings, Strike, event_column, is_receipt, is_standing}
 use Rattle.fbl_history.proofs.Common.{mark_of, send_column, sends_of, standing, start_columns, start_events}
 use Rattle.fbl_history.proofs.Counting.{count-kinds, counts_as_before}
 use Rattle.fbl_history.proofs.Deliveries.{made_none}
@@ -29,9 +29,7 @@ follows_strike next old new struck columns step = pushed next old new columns (S
 
 pub follows_checkpoint : (next : Next ℕ Note) (old new : GroupRecord ℕ Note) (p : ℕ) (columns : List Column) → IsCheckpoint old new p
     → IsHistoryOf next old columns → IsHistoryOf next new (columns ++ Checkpoint p ∷ [])
-follows_checkpoint next old new p columns step =
-    pushed next old new columns (Checkpoint p) refl refl (ap (λ (r : GroupRecord ℕ Note). r.trace) step.saved) (ap (λ (r : GroupRecord ℕ Note). r.config) step.saved)
-    (ap (λ (r : GroupRecord ℕ Note). r.receipts_ever) step.saved) (ap (λ (r : GroupRecord ℕ Note). r.undone_ever) step.saved)
+follows_checkpoint next old new p columns step = rw step.saved (pushed next old _ columns (Checkpoint p) refl refl refl refl refl refl)
 
 -- ---- new groups
 
@@ -40,11 +38,13 @@ all-sends : (next : Next ℕ Note) (n : ℕ) (trace done : List (Event Note)) (s
     → map (event_column next n trace) (start_events done starts) ≡ filter_map send_column (start_events done starts)
 all-sends next n trace done [] same = same
 all-sends next n trace done (s ∷ starts) same =
-    let send = event.Send s.from (sends_of (map mark_of done) s.from + 1) s.to s.note in
-    all-sends next n trace (done ++ send ∷ []) starts
-    (map-append (event_column next n trace) done (send ∷ [])
-    ∙ ap (λ xs. xs ++ Send s.from (sends_of (map mark_of done) s.from + 1) s.to false ∷ []) same
-    ∙ sym (filter_map-append send_column done (send ∷ [])))
+    all-sends next n trace (done ++ event.Send s.from (sends_of (map mark_of done) s.from + 1) s.to s.note ∷ []) starts (rw (map-append, filter_map-append, same) refl)
+
+-- the send of one start more
+pub start_events-push : (done : List (Event Note)) (starts : List (Start Note)) (s : Start Note)
+    → start_events done (starts ++ s ∷ []) ≡ start_events done starts ++ event.Send s.from (sends_of (map mark_of (start_events done starts)) s.from + 1) s.to s.note ∷ []
+start_events-push done [] s = refl
+start_events-push done (x ∷ starts) s = start_events-push (done ++ event.Send x.from (sends_of (map mark_of done) x.from + 1) x.to x.note ∷ []) starts s
 
 pub begins_at_start : (next : Next ℕ Note) (config : Settings Note) (r : GroupRecord ℕ Note) → IsGroupStart next config r → IsHistoryOf next r (start_columns config.starts)
 begins_at_start next config r start =

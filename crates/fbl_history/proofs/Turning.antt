@@ -43,12 +43,10 @@ module _ (next : Next ℕ Note) (old mid : GroupRecord ℕ Note) (t : TurnRecord
   sent-so : t.sent - length step.sends.items ≡ length (member old message.to).log
   sent-so =
       let receiver = delivery.receiver-now next old turn.between message well sound commits in
-      let had = length (member old message.to).log in
+      let had = (member old message.to).log in
       let sends = (step_of next old message).sends.items in
-      let after : t.sent ≡ had + length sends =
-      turn.sent ∙ ap (λ m. length (member turn.between m).log) (sym ends.1) ∙ ap (λ (m : MemberRecord ℕ Note). length m.log) receiver ∙ length-append (member old message.to).log (numbered had sends)
-      ∙ ap (λ k. had + k) (length-numbered had sends) in
-      omega (arith, after, ap (λ (o : Outcome ℕ Note). length o.sends.items) steps-so)
+      let after = turn.sent ∙ ap (λ m. length (member turn.between m).log) (sym ends.1) ∙ ap (λ (m : MemberRecord ℕ Note). length m.log) receiver in
+      omega (arith, after, length-append had (numbered (length had) sends), length-numbered (length had) sends, ap (λ (o : Outcome ℕ Note). length o.sends.items) steps-so)
 
   pub turns-columns : delivery.columns_added next old turn.between message well sound commits ≡ turn_columns next t
   turns-columns =

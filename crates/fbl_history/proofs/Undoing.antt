@@ -1,5 +1,5 @@
 -- How a history goes on to a trace.
-use Rattle.fbl_history.proofs.Common.{◌≡◌, Bool, true, false, List, [], ◌∷◌, drop, refl, sym, ap, ◌∙◌, arith, nat_tests, Column, is_standing, undo, same_standing, standing}
+use Rattle.fbl_history.proofs.Common.{◌≡◌, true, false, List, [], ◌∷◌, drop, refl, sym, ap, ◌∙◌, arith, nat_tests, Column, is_standing, undo, same_standing, standing}
 use Rattle.fbl_history.proofs.Common.{is_next, go_on, ◌⊎◌, Send, Receipt, column_then, trace_then, GoesOnFrom}
 
 -- columns of the same standing event are equal, and stand
@@ -11,7 +11,6 @@ same-is _ _ h = absurd cc
 -- a undone column does not stand
 pub undone-lies : (column : Column) → is_standing (undo column) ≡ false
 undone-lies (Send q k p undone) = refl
-undone-lies (Receipt p r q k s undone) = refl
 undone-lies _ = refl
 
 -- what is next stands

@@ -44,8 +44,6 @@ fn column_at<B: Behaviour<State = u64, Note = Note>>(
     ensures column { IfOk result (λ column. column ≡ event_column B.next group.now.config.members group.now.trace event) }
     ensures after { OnOk result (HaveReplayed B.next group.now (place + 1) members.new) }
 {
-    // the group is sound
-    group.recoverable();
     match event {
         Event::Send {
             from,
