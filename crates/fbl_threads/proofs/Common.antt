@@ -5,7 +5,7 @@ pub use Rattle.std.proofs.Common.{length, length-set, map, ne_eqb, option_map, r
 pub use Rattle.std.proofs.Common.{◌==◌, ◌||◌, ◌↔◌, ◌∙◌, ◌∷◌, ◌≡◌, ◌≤◌, ◌⊎◌}
 pub use Rattle.std.proofs.Math.ListN.{replicate}
 pub use Rattle.std.proofs.Math.Logic.{∥∥₁_elim, ∥∥₁_map}
-pub use Rattle.std.proofs.lemmas.Bool.{cases_eq, cases_lt, not-true}
+pub use Rattle.std.proofs.lemmas.Bool.{cases_eq, cases_lt}
 pub use Rattle.std.proofs.lemmas.Bool.Decides.{nat_tests}
 pub use Rattle.std.proofs.lemmas.List.{ext_get_or, length-replicate, set-get_or, take_all}
 pub use Rattle.std.proofs.lemmas.List.Elements.{filter-append}
@@ -13,7 +13,6 @@ pub use Rattle.std.proofs.lemmas.List.Folds.{sum_by-replicate}
 pub use Rattle.std.proofs.lemmas.List.Sums.{sum_by-set, sum_by_push}
 pub use Rattle.std.specs.Cmp.{nat_cmp_total}
 pub use Rattle.std.specs.Coded.{Coded, Coded-set, coded_ℕ, codes}
-pub use Rattle.std.specs.List.{count_by, slice_get, sum_by}
 pub use Rattle.std.specs.Option.{is_none, is_some}
 pub use Rattle.std.specs.Ordering.{nat_cmp}
 pub use Rattle.atomic_table.proofs.Lists.{at_longer, at_set, at_snoc, set_again, set_else}
@@ -30,21 +29,17 @@ pub use Rattle.fbl_base.specs.declared.trace.Event.{Event}
 pub use Rattle.fbl_base.specs.declared.trace.Mark.{Mark}
 pub use Rattle.fbl_group.proofs.Striking.{is_allowed}
 pub use Rattle.fbl_group.specs.Records.{Commits, IsPlannedCrash, IsRecoveryRecord, StrikeLeads, TurnLeads, TurnsLead}
-pub use Rattle.fbl_group.specs.Strikes.{CrashLeaves, Crashes, Recovers, strike_refusal}
-pub use Rattle.fbl_group.specs.Deliveries.{MayCommit, RefusesCommit, Delivers}
-pub use Rattle.fbl_group.specs.declared.answers.Receipted.{Receipted}
+pub use Rattle.fbl_group.specs.Strikes.{Recovers, strike_refusal}
+pub use Rattle.fbl_group.specs.Deliveries.{RefusesCommit}
 pub use Rattle.fbl_group.specs.declared.answers.Recovered.{Recovered}
 pub use Rattle.fbl_group.specs.declared.record.CrashRecord.{CrashRecord}
 pub use Rattle.fbl_group.specs.declared.record.RecoveryRecord.{RecoveryRecord}
 pub use Rattle.fbl_group.specs.declared.record.TurnRecord.{TurnRecord}
-pub use Rattle.fbl_group.specs.declared.answers.Struck.{Struck}
 pub use Rattle.fbl_group.specs.declared.refusals.CommitRefusal.{CommitRefusal}
 pub use Rattle.fbl_group.specs.declared.refusals.CommitRefusal.TheVariants.{Down, Full, Memory, Stale}
-pub use Rattle.fbl_group.specs.declared.refusals.CrashRefusal.{CrashRefusal}
 pub use Rattle.fbl_base.specs.declared.ticket.Ticket.{Ticket}
 pub use Rattle.fbl_law.specs.GroupSteps.{IsDelivery, IsStrike, delivery_events, IsEventCut, Stays}
 pub use Rattle.fbl_law.specs.Groups.{GroupRecord, knowledge, member}
-pub use Rattle.fbl_law.specs.Promises.{KeepsHolders}
 pub use Rattle.fbl_member.specs.Members.{Message}
 pub use lib.ListN.{get_elem?}
 pub use mathlib.Core.Logic.{dite, ⊎_elim}
@@ -54,12 +49,11 @@ pub use prog.Atomic.{either}
 pub use Rattle.fbl_threads.specs.Claims.{HasOneHolder, IsClaimed, IsExclusive, IsFree, IsSaidBy, ViewHolds, WordsFollowViews}
 pub use Rattle.fbl_threads.specs.Counted.{counts_of}
 pub use Rattle.fbl_threads.specs.Crossing.{StrikesAsPlanned, planned_at, struck_in, struck_on}
-pub use Rattle.fbl_threads.specs.Drains.{IsAccepted}
 pub use Rattle.fbl_threads.specs.Pasts.{Keeps, TurnsKeep, events_of}
 pub use Rattle.fbl_threads.specs.Plans.{is_named, struck_at}
 pub use Rattle.fbl_threads.specs.Recorded.{IsReceiptRecord, IsRecordedAs, ReachedBy, RecordedTurnsLead, TellsCounts, crash_undid, made_by, undone_in, undone_of}
 pub use Rattle.fbl_threads.specs.Recorded.ReachedBy.{begins, goes_on}
-pub use Rattle.fbl_threads.specs.Recorders.{CrashesAs, HasRoom, IsAdded, ReachedAs, TurnAs, recorded, with_record}
+pub use Rattle.fbl_threads.specs.Recorders.{CountsRefusal, CrashesAs, IsAdded, ReachedAs, TurnAs, recorded, with_record}
 pub use Rattle.fbl_threads.specs.Runs.{Counts, Reached, Turn, commits_one, lacks_memory, meets_full, more_at, nothing_done, undoes}
 pub use Rattle.fbl_threads.specs.Runs.Reached.{starts, turns}
 pub use Rattle.fbl_threads.specs.Runs.Turn.{commits, crashes, is_full, is_late, strikes, wants}

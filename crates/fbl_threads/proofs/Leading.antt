@@ -1,6 +1,6 @@
 -- Turns that are recorded lead from one group to the other.
 use Rattle.fbl_threads.proofs.Common.{◌≡◌, ℕ, ◌∷◌, ◌++◌, [], Bool, List, Some, refl, subst, append-nil, Next, Strike, GroupRecord, Members, Ticket, Counts, Recovered, RecoveryRecord}
-use Rattle.fbl_threads.proofs.Common.{Turn, commits, crashes, strikes, is_full, wants, is_late, TurnRecord, IsPlannedCrash, IsRecordedAs, IsRecoveryRecord, ReachedBy, begins, goes_on, RecordedTurnsLead, StrikeLeads, TurnLeads, TurnsLead}
+use Rattle.fbl_threads.proofs.Common.{Turn, commits, crashes, strikes, TurnRecord, IsPlannedCrash, IsRecordedAs, IsRecoveryRecord, begins, goes_on, RecordedTurnsLead, StrikeLeads, TurnLeads, TurnsLead}
 
 module _ {S N : Type 0} where
   -- one turn more, behind those that led so far
@@ -9,11 +9,8 @@ module _ {S N : Type 0} where
   one_more {next} old mid new [] t led turn = (new, subst (λ r. TurnLeads next r t new) led turn, refl)
   one_more old mid new (u ∷ list) t led turn = (led.0, led.1, one_more led.0 mid new list t led.2 turn)
 
-  none_more : (next : Next S N) (old mid : GroupRecord S N) (list more : List (TurnRecord S N)) → TurnsLead next old list mid → more ≡ [] → TurnsLead next old (list ++ more) mid
-  none_more next old mid list more led none = rw (none, append-nil list) led
-
   -- a crash leads by its record
-  as_recorded : {next : Next S N} (old new : GroupRecord S N) (set : Members) (recovered : Recovered) (r : RecoveryRecord) (crash : IsPlannedCrash next old new set recovered)
+  pub as_recorded : {next : Next S N} (old new : GroupRecord S N) (set : Members) (recovered : Recovered) (r : RecoveryRecord) (crash : IsPlannedCrash next old new set recovered)
       → IsRecoveryRecord crash r → StrikeLeads next old set (Some r) new
   as_recorded old new set recovered r crash told = (
     (crash.0, (crash.1.0, (crash.1.1.0, crash.1.1.1, rw told.recovered crash.1.1.2)), crash.2),
@@ -29,9 +26,7 @@ module _ {S N : Type 0} where
       rw is (one_more start old new list t led (record { between = between; commit = rw receipt.ticket commit; sent = rw receipt.ticket receipt.sent; crash = rw is_crash (as_recorded between new set recovered r crash told) }))
   one_turn start old new before after list more (strikes between _ set commit at strike) (t, is, receipt, is_crash) led =
       rw is (one_more start old new list t led (record { between = between; commit = rw receipt.ticket commit; sent = rw receipt.ticket receipt.sent; crash = rw is_crash strike }))
-  one_turn {next} start old new before after list more (is_full refused) is led = none_more next start old list more led is
-  one_turn {next} start old new before after list more (wants none) is led = none_more next start old list more led is
-  one_turn {next} start old new before after list more (is_late refused) is led = none_more next start old list more led is
+  one_turn start old new before after list more refused is led = rw (is, append-nil list) led
 
 pub turns_lead : {S N : Type 0} → RecordedTurnsLead S N
 turns_lead next plan workers start new list counts begins = refl

@@ -3,7 +3,7 @@ use Rattle.fbl_threads.proofs.Common.{◌≡◌, ℕ, ◌<◌, ◌⊎◌, ◌∙
 use Rattle.fbl_threads.proofs.Common.{is_none, is_some, not, ∥∥₁_map, Next, Members, Strike, GroupRecord, member}
 use Rattle.fbl_threads.proofs.Common.{Ticket, CommitRefusal, Full, Memory, Stale, Down, RefusesCommit, struck_at, Counts, Commits, more_at, commits_one, undoes, meets_full, lacks_memory}
 use Rattle.fbl_threads.proofs.Common.{Turn, commits, crashes, strikes, is_full, wants, is_late, Reached, starts, turns, nothing_done}
-use Rattle.fbl_threads.proofs.Common.{TurnRecord, CrashRecord, RecoveryRecord, IsReceiptRecord, IsRecordedAs, ReachedBy, begins, goes_on, ReachedAs, TurnAs, IsAdded, CrashesAs, with_record}
+use Rattle.fbl_threads.proofs.Common.{TurnRecord, CrashRecord, RecoveryRecord, IsReceiptRecord, IsRecordedAs, ReachedBy, begins, goes_on, ReachedAs, TurnAs, IsAdded, CountsRefusal, CrashesAs, with_record}
 
 -- ---- runs
 
@@ -73,29 +73,17 @@ module _ {S N : Type 0} where
   kept_as : (t : TurnRecord S N) {mid before after : Option (List (TurnRecord S N))} → mid ≡ before → after ≡ with_record t mid → after ≡ with_record t before
   kept_as t same kept = kept ∙ ap (with_record t) same
 
-  late : (next : Next S N) (old : GroupRecord S N) (ticket : Ticket S N) {refusal : CommitRefusal} → (refusal ≡ Down) ⊎ (refusal ≡ Stale) → RefusesCommit next old ticket refusal
-      → RefusesCommit next old ticket Stale ⊎ RefusesCommit next old ticket Down
-  late next old ticket is refused = elim is [
-    | inl down ↦ inr (rw down at refused)
-    | inr stale ↦ inl (rw stale at refused)
-  ]
-
 module _ {S N : Type 0} {next : Next S N} {plan : List Strike} {w : ℕ} {ticket : Ticket S N} {old : GroupRecord S N} {c : Counts} {before after : Option (List (TurnRecord S N))} where
-  refuses : {new : GroupRecord S N} {c' : Counts} {ends : Bool} (turn : Turn next plan w ticket old c old c' ends) → IsRecordedAs turn [] → new ≡ old → after ≡ before
+  refuses : {new : GroupRecord S N} {c' c'' : Counts} {ends ends' : Bool} (turn : Turn next plan w ticket old c old c' ends) → IsRecordedAs turn [] → (c'' ≡ c') × (ends' ≡ ends) → new ≡ old → after ≡ before
+      → TurnAs next plan w ticket old c new c'' ends' before after
+  refuses turn is counts same unchanged = rw (same, counts.0, counts.1) (record { turn = turn; added = none_added turn is before after unchanged })
+
+  pub refused : {new : GroupRecord S N} {c' : Counts} {ends : Bool} (refusal : CommitRefusal) → RefusesCommit next old ticket refusal → CountsRefusal refusal c c' ends → new ≡ old → after ≡ before
       → TurnAs next plan w ticket old c new c' ends before after
-  refuses turn is same unchanged = rw same (record { turn = turn; added = none_added turn is before after unchanged })
-
-  pub met_full : {new : GroupRecord S N} {refusal : CommitRefusal} → refusal ≡ Full → RefusesCommit next old ticket refusal → new ≡ old → after ≡ before
-      → TurnAs next plan w ticket old c new (meets_full c) true before after
-  met_full is refused same unchanged = refuses (is_full (rw is at refused)) refl same unchanged
-
-  pub met_no_memory : {new : GroupRecord S N} {refusal : CommitRefusal} → refusal ≡ Memory → RefusesCommit next old ticket refusal → new ≡ old → after ≡ before
-      → TurnAs next plan w ticket old c new (lacks_memory c) true before after
-  met_no_memory is refused same unchanged = refuses (wants (rw is at refused)) refl same unchanged
-
-  pub was_late : {new : GroupRecord S N} {refusal : CommitRefusal} → (refusal ≡ Down) ⊎ (refusal ≡ Stale) → RefusesCommit next old ticket refusal → new ≡ old → after ≡ before
-      → TurnAs next plan w ticket old c new c false before after
-  was_late is refused same unchanged = refuses (is_late (late next old ticket is refused)) refl same unchanged
+  refused Full why counts same unchanged = refuses (is_full why) refl counts same unchanged
+  refused Memory why counts same unchanged = refuses (wants why) refl counts same unchanged
+  refused Stale why counts same unchanged = refuses (is_late (inl why)) refl counts same unchanged
+  refused Down why counts same unchanged = refuses (is_late (inr why)) refl counts same unchanged
 
   module _ {between : GroupRecord S N} (commit : Commits next old between ticket) {t : TurnRecord S N} {mid : Option (List (TurnRecord S N))} (receipt : IsReceiptRecord w ticket between t)
       (same : mid ≡ before) (kept : after ≡ with_record t mid) {by : List ℕ} (is : by ≡ more_at c.by_worker w 1) where

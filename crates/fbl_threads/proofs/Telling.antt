@@ -1,7 +1,7 @@
 -- The counts of a run that is recorded are those of its list.
 use Rattle.fbl_threads.proofs.Common.{◌≡◌, ◌≢◌, ℕ, ◌+◌, ◌<◌, ◌==◌, ◌∙◌, ◌∷◌, ◌++◌, [], cond, List, refl, sym, ap, arith, inl, inr, length, length-append}
 use Rattle.fbl_threads.proofs.Common.{append-nil, nat_tests, option_map, slice_index, get_or-set_same, get_or-set_other, sum, sum_by_push, sum_by-replicate}
-use Rattle.fbl_threads.proofs.Common.{cases_eq, get_or-same, At-push, ⊎_elim, Next, Strike, GroupRecord, struck_at, Counts, more_at, commits, crashes, strikes, is_full, is_late, wants}
+use Rattle.fbl_threads.proofs.Common.{cases_eq, get_or-same, At-push, ⊎_elim, Next, Strike, GroupRecord, struck_at, Counts, more_at, commits, crashes, strikes}
 use Rattle.fbl_threads.proofs.Common.{TurnRecord, CrashRecord, ReachedBy, TellsCounts, begins, goes_on, made_by, undone_of, undone_in, crash_undid, Keeps, Recovered}
 use Rattle.fbl_threads.proofs.Common.{∥∥₁_elim, Coded-set, coded_ℕ, codes, nat_cmp}
 use Rattle.std.specs.FinSet as set
@@ -27,60 +27,38 @@ more w n xs below = record {
 none_more : (w : ℕ) (xs : List ℕ) → MoreAt w 0 xs xs
 none_more w xs = record { each = λ q. grind arith; all = omega arith }
 
-module _ {S N : Type 0} {plan : List Strike} {workers : ℕ} {start : GroupRecord S N} where
-  -- one turn more, by worker w, which undid n receipts
-  one_more : (list : List (TurnRecord S N)) (t : TurnRecord S N) (w n : ℕ) (old new : Counts) → TellsCounts plan workers start list old → w < workers → t.worker ≡ w → undone_in t ≡ n
-      → option_map (λ (c : CrashRecord). c.set) t.crash ≡ struck_at plan (start.receipts_ever + (length list + 1))
-      → MoreAt w 1 old.by_worker new.by_worker → MoreAt w n old.undone_by_worker new.undone_by_worker → TellsCounts plan workers start (list ++ t ∷ []) new
-  one_more list t w n old new tells below of_w undid as_planned made undone = record {
-    by_workers = λ place u at.
-        (elim (At-push list t place u at) [
-          | inl front ↦ tells.by_workers place u front
-          | inr last ↦ omega (arith, below, of_w, ap (λ (x : TurnRecord S N). x.worker) last.1)
-        ]);
-    made = λ q in_range.
-        (let more : made_by q (list ++ t ∷ []) ≡ made_by q list + cond (t.worker == q) 1 0 = sum_by_push (λ (x : TurnRecord S N). cond (x.worker == q) 1 0) list t in
-        cc (more, made.each q, tells.made q in_range, of_w));
-    undone = λ q in_range.
-        (let more : undone_of q (list ++ t ∷ []) ≡ undone_of q list + cond (t.worker == q) (undone_in t) 0 = sum_by_push (λ (x : TurnRecord S N). cond (x.worker == q) (undone_in x) 0) list t in
-        cc (more, undone.each q, tells.undone q in_range, of_w, undid));
-    all_made = omega (arith, made.all, tells.all_made, length-append list (t ∷ []));
-    all_undone = omega (arith, undone.all, tells.all_undone, undid, sum_by_push undone_in list t);
-    planned = λ place u at.
-        (elim (At-push list t place u at) [
-          | inl front ↦ tells.planned place u front
-          | inr last ↦ cc (as_planned, last.0, last.1)
-        ]);
-  }
-
-  -- a turn that was refused is not in the list
-  none_told : (list told : List (TurnRecord S N)) (old new : Counts) → told ≡ [] → new.by_worker ≡ old.by_worker → new.undone_by_worker ≡ old.undone_by_worker
-      → TellsCounts plan workers start list old → TellsCounts plan workers start (list ++ told) new
-  none_told list told old new none by undone tells = rw (none, append-nil) (record {
-    by_workers = tells.by_workers;
-    made = λ q in_range. rw by (tells.made q in_range);
-    undone = λ q in_range. rw undone (tells.undone q in_range);
-    all_made = rw by tells.all_made;
-    all_undone = rw undone tells.all_undone;
-    planned = tells.planned;
-  })
-
 module _ {S N : Type 0} (next : Next S N) (plan : List Strike) (workers : ℕ) (start : GroupRecord S N) where
-  -- a turn that made a receipt, which led to a record between, is the last of the list
-  told_one : (made told : List (TurnRecord S N)) (old between : GroupRecord S N) (before after : Counts) (t : TurnRecord S N) (w n : ℕ) → told ≡ t ∷ [] → ReachedBy next plan workers start made old before
-      → TellsCounts plan workers start made before → between.receipts_ever ≡ old.receipts_ever + 1 → w < workers → t.worker ≡ w → undone_in t ≡ n
-      → option_map (λ (c : CrashRecord). c.set) t.crash ≡ struck_at plan between.receipts_ever
-      → MoreAt w 1 before.by_worker after.by_worker → MoreAt w n before.undone_by_worker after.undone_by_worker → TellsCounts plan workers start (made ++ told) after
-  told_one made told old between before after t w n is run known one_more_ever below of_w undid as_planned by undone =
+  -- a turn of worker w that made a receipt, which led to a record between, and undid n receipts is the last of the list
+  told_one : (list told : List (TurnRecord S N)) (old between : GroupRecord S N) (before after : Counts) (t : TurnRecord S N) (w n : ℕ) → told ≡ t ∷ [] → ReachedBy next plan workers start list old before
+      → TellsCounts plan workers start list before.by_worker before.undone_by_worker → between.receipts_ever ≡ old.receipts_ever + 1 → w < workers → t.worker ≡ w → undone_in t ≡ n
+      → option_map (λ (c : CrashRecord). c.set) t.crash ≡ struck_at plan between.receipts_ever → MoreAt w 1 before.by_worker after.by_worker
+      → MoreAt w n before.undone_by_worker after.undone_by_worker → TellsCounts plan workers start (list ++ told) after.by_worker after.undone_by_worker
+  told_one list told old between before after t w n is run tells one_more below of_w undid as_planned made undone =
       let k : Keeps plan workers start old before.by_worker before.undone_by_worker = kept next plan workers start old before (forgets run) in
-      let number : between.receipts_ever ≡ start.receipts_ever + (length made + 1) = omega (arith, one_more_ever, k.receipts, known.all_made) in
-      rw is (one_more made t w n before after known below of_w undid (as_planned ∙ ap (struck_at plan) number) by undone)
+      let number : between.receipts_ever ≡ start.receipts_ever + (length list + 1) = omega (arith, one_more, k.receipts, tells.all_made) in
+      rw is
+      (record {
+        by_workers = λ place u at.
+            (elim (At-push list t place u at) [
+              | inl front ↦ tells.by_workers place u front
+              | inr last ↦ omega (arith, below, of_w, ap (λ (x : TurnRecord S N). x.worker) last.1)
+            ]);
+        made = λ q in_range.
+            (let more : made_by q (list ++ t ∷ []) ≡ made_by q list + cond (t.worker == q) 1 0 = sum_by_push (λ (x : TurnRecord S N). cond (x.worker == q) 1 0) list t in
+            cc (more, made.each q, tells.made q in_range, of_w));
+        undone = λ q in_range.
+            (let more : undone_of q (list ++ t ∷ []) ≡ undone_of q list + cond (t.worker == q) (undone_in t) 0 = sum_by_push (λ (x : TurnRecord S N). cond (x.worker == q) (undone_in x) 0) list t in
+            cc (more, undone.each q, tells.undone q in_range, of_w, undid));
+        all_made = omega (arith, made.all, tells.all_made, length-append list (t ∷ []));
+        all_undone = omega (arith, undone.all, tells.all_undone, undid, sum_by_push undone_in list t);
+        planned = λ place u at.
+            (elim (At-push list t place u at) [
+              | inl front ↦ tells.planned place u front
+              | inr last ↦ cc ((as_planned ∙ ap (struck_at plan) number), last.0, last.1)
+            ]);
+      })
 
-  places : (old : GroupRecord S N) (before : Counts) (made : List (TurnRecord S N)) → ReachedBy next plan workers start made old before
-      → (length before.by_worker ≡ workers) × (length before.undone_by_worker ≡ workers)
-  places old before made run = (kept next plan workers start old before (forgets run)).places
-
-  pub tells : (r : GroupRecord S N) (list : List (TurnRecord S N)) (counts : Counts) → ReachedBy next plan workers start list r counts → TellsCounts plan workers start list counts
+  pub tells : (r : GroupRecord S N) (list : List (TurnRecord S N)) (counts : Counts) → ReachedBy next plan workers start list r counts → TellsCounts plan workers start list counts.by_worker counts.undone_by_worker
   tells r list counts begins = record {
     by_workers = λ place u at. cc;
     made = λ q in_range. get_or-same workers q 0;
@@ -90,25 +68,20 @@ module _ {S N : Type 0} (next : Next S N) (plan : List Strike) (workers : ℕ) (
     planned = λ place u at. cc;
   }
   tells r list counts (goes_on old _ before _ w ticket made told run below (commits _ commit none) is) =
-      let long = places old before made run in
+      let long = (kept next plan workers start old before (forgets run)).places in
       told_one made told old r before counts is.0 w 0 is.1 run (tells old made before run) commit.1.1.2.delivery.receipts_ever below is.2.worker (ap crash_undid is.3)
       (ap (option_map (λ (c : CrashRecord). c.set)) is.3 ∙ sym none) (more w 1 before.by_worker (omega (arith, below, long.0))) (none_more w before.undone_by_worker)
   tells r list counts (goes_on old _ before _ w ticket made told run below (crashes between _ s recovered commit at crash) is) =
-      let long = places old before made run in
+      let long = (kept next plan workers start old before (forgets run)).places in
       told_one made told old between before counts is.0 w recovered.undone is.1 run (tells old made before run) commit.1.1.2.delivery.receipts_ever below is.2.worker
       (ap crash_undid is.3.1 ∙ ap (λ (r : Recovered). r.undone) is.3.2.recovered) (ap (option_map (λ (c : CrashRecord). c.set)) is.3.1 ∙ sym at)
       (more w 1 before.by_worker (omega (arith, below, long.0))) (more w recovered.undone before.undone_by_worker (omega (arith, below, long.1)))
   tells r list counts (goes_on old _ before _ w ticket made told run below (strikes between _ s commit at strike) is) =
-      let long = places old before made run in
+      let long = (kept next plan workers start old before (forgets run)).places in
       told_one made told old between before counts is.0 w 0 is.1 run (tells old made before run) commit.1.1.2.delivery.receipts_ever below is.2.worker (ap crash_undid is.3)
       (ap (option_map (λ (c : CrashRecord). c.set)) is.3 ∙ sym at) (more w 1 before.by_worker (omega (arith, below, long.0))) (none_more w before.undone_by_worker)
-  tells r list counts (goes_on old _ before _ w ticket made told run below (is_full refused) is) =
-      none_told made told before counts is refl refl (tells old made before run)
-  tells r list counts (goes_on old _ before _ w ticket made told run below (wants free) is) =
-      none_told made told before counts is refl refl (tells old made before run)
-  tells r list counts (goes_on old _ before _ w ticket made told run below (is_late refused) is) =
-      none_told made told before counts is refl refl (tells old made before run)
+  tells r list counts (goes_on old _ before _ w ticket made told run below refused is) = rw (is, append-nil made) (tells old made before run)
 
   -- where only that there is such a run is known
-  pub tells_some : (r : GroupRecord S N) (list : List (TurnRecord S N)) (counts : Counts) → ∥ ReachedBy next plan workers start list r counts ∥₁ → TellsCounts plan workers start list counts
+  pub tells_some : (r : GroupRecord S N) (list : List (TurnRecord S N)) (counts : Counts) → ∥ ReachedBy next plan workers start list r counts ∥₁ → TellsCounts plan workers start list counts.by_worker counts.undone_by_worker
   tells_some r list counts run = ∥∥₁_elim run (Prim.hlevel (Coded-set, codes, set.code {R = nat_cmp} coded_ℕ)) (tells r list counts)

@@ -66,12 +66,12 @@ undone_of w list = sum_by (λ t. if t.worker == w then undone_in t else 0) list
 
 -- the turns are of so many workers, the counts are those of the list, and each turn's crash, if any, is the one that the plan
 -- has at the number of receipts that the turn came to
-pub record TellsCounts {S N : Type 0} (plan : List Strike) (workers : ℕ) (start : GroupRecord S N) (list : List (TurnRecord S N)) (counts : Counts) : Type 0 where
+pub record TellsCounts {S N : Type 0} (plan : List Strike) (workers : ℕ) (start : GroupRecord S N) (list : List (TurnRecord S N)) (by_worker undone_by_worker : List ℕ) : Type 0 where
   pub by_workers : (place : ℕ) (t : TurnRecord S N) → slice_get list place ≡ Some t → t.worker < workers
-  pub made : (w : ℕ) → w < workers → slice_index counts.by_worker w ≡ made_by w list
-  pub undone : (w : ℕ) → w < workers → slice_index counts.undone_by_worker w ≡ undone_of w list
-  pub all_made : sum counts.by_worker ≡ length list
-  pub all_undone : sum counts.undone_by_worker ≡ sum_by undone_in list
+  pub made : (w : ℕ) → w < workers → slice_index by_worker w ≡ made_by w list
+  pub undone : (w : ℕ) → w < workers → slice_index undone_by_worker w ≡ undone_of w list
+  pub all_made : sum by_worker ≡ length list
+  pub all_undone : sum undone_by_worker ≡ sum_by undone_in list
   pub planned : (place : ℕ) (t : TurnRecord S N) → slice_get list place ≡ Some t → option_map (λ c. c.set) t.crash ≡ struck_at plan (start.receipts_ever + (place + 1))
 
 -- such turns lead from start to this record, whichever workers made them and whichever were refused between them

@@ -1,15 +1,19 @@
 -- The records of a run's turns, where they are kept.
-use Rattle.std.specs.Prelude.{◌≡◌, ℕ, ◌<◌, Bool, List, ◌++◌, ◌∷◌, [], Vec, vec_len, vec_capacity, Option, Some, None, option_map}
+use Rattle.std.specs.Prelude.{◌≡◌, ℕ, ◌<◌, Bool, true, false, length, List, ◌++◌, ◌∷◌, [], Vec, vec_len, vec_capacity, Option, Some, None, option_map}
 use Rattle.std.specs.Option.{ForSome}
 use Rattle.fbl_base.specs.Fold.{Next}
 use Rattle.fbl_base.specs.MemberSets.{Members}
 use Rattle.fbl_base.specs.declared.strike.Strike.{Strike}
 use Rattle.fbl_base.specs.declared.ticket.Ticket.{Ticket}
-use Rattle.fbl_law.specs.Groups.{GroupRecord}
+use Rattle.fbl_law.specs.Groups.{GroupRecord, member}
+use Rattle.fbl_group.specs.declared.answers.Recovered.{Recovered}
+use Rattle.fbl_group.specs.declared.answers.Struck.{Struck}
+use Rattle.fbl_group.specs.declared.refusals.CommitRefusal.{CommitRefusal}
+use Rattle.fbl_group.specs.declared.refusals.CommitRefusal.TheVariants.{Full, Memory}
 use Rattle.fbl_group.specs.declared.record.TurnRecord.{TurnRecord}
 use Rattle.fbl_group.specs.declared.record.RecoveryRecord.{RecoveryRecord}
-use Rattle.fbl_threads.specs.Runs.{Counts, Reached, Turn, lacks_memory, undoes}
-use Rattle.fbl_group.specs.Records.{IsPlannedCrash, IsRecoveryRecord}
+use Rattle.fbl_threads.specs.Runs.{Counts, Reached, Turn, lacks_memory, meets_full, undoes}
+use Rattle.fbl_group.specs.Records.{CountsEach, IsPlannedCrash, IsRecoveryRecord}
 use Rattle.fbl_group.specs.Strikes.{IsStrikeAlone}
 use Rattle.fbl_threads.specs.Recorded.{ReachedBy, IsRecordedAs}
 
@@ -51,3 +55,14 @@ abbrev pub CrashesAs : {S N : Type 0} → Next S N → ℕ → Members → Group
 CrashesAs next w set old c new after (Some r) =
     (crash : IsPlannedCrash next old new set r.recovered) × IsRecoveryRecord crash r × (after ≡ undoes w r.recovered.undone c)
 CrashesAs next w set old c new after None = IsStrikeAlone next old new set × (after ≡ lacks_memory c)
+
+-- what is counted where a commit is refused, and whether the worker ends by it
+abbrev pub CountsRefusal : CommitRefusal → Counts → Counts → Bool → Type 0
+CountsRefusal Full c after ends = (after ≡ meets_full c) × (ends ≡ true)
+CountsRefusal Memory c after ends = (after ≡ lacks_memory c) × (ends ≡ true)
+CountsRefusal refusal c after ends = (after ≡ c) × (ends ≡ false)
+
+-- the record has these answers of a strike and of a recovery, and the counts of the group that they led to
+abbrev pub IsToldOf : {S N : Type 0} → GroupRecord S N → Struck → Recovered → RecoveryRecord → Type 0
+IsToldOf new struck recovered r =
+    (r.struck ≡ struck) × (r.recovered ≡ recovered) × CountsEach new (λ m. (member new m).received) r.received.items × CountsEach new (λ m. length (member new m).log) r.sent.items

@@ -1,40 +1,34 @@
 use Rattle.fbl_threads.proofs.Common.{arith, refl, sym, ap, ◌∙◌, struck_at}
-use Rattle.fbl_threads.proofs.Recording.{met_full, met_no_memory, was_late, committed, crashed, ends_without, receipt_record}
+use Rattle.fbl_threads.proofs.Recording.{refused, committed, crashed, ends_without, receipt_record}
 use Rattle.fbl_threads.proofs.Reaching.{planned_may}
 use Rattle.fbl_threads.proofs.Keeping.{at-within}
 use Rattle.fbl_threads.proofs.counted_group.make_turn.Goals as goal
 
-pub returns-in-Down : goal.returns-in-Down
-returns-in-Down g c = record { turn = was_late c.in-Down.is c.in-Err.ensures.refused c.in-Err.ensures.unchanged c.commit_with_room.ensures.same }
-
-pub returns-in-Full : goal.returns-in-Full
-returns-in-Full g c = record { turn = met_full c.in-Full.is c.in-Err.ensures.refused c.in-Err.ensures.unchanged c.commit_with_room.ensures.same }
-
-pub returns-in-Memory : goal.returns-in-Memory
-returns-in-Memory g c = record { turn = met_no_memory c.in-Memory.is c.in-Err.ensures.refused c.in-Err.ensures.unchanged c.commit_with_room.ensures.same }
+pub returns-in-Err : goal.returns-in-Err
+returns-in-Err g c = record { turn = refused c.in-Err.refusal c.in-Err.ensures.refused c.count_refusal.ensures c.in-Err.ensures.unchanged c.commit_with_room.ensures.same }
 
 pub add-requires-clause-fits : goal.add-requires-clause-fits
 add-requires-clause-fits g c =
-    let d = c.in_default.ensures.delivered.1.2.delivery in
+    let d = c.in_default.ensures.committed.1.1.2.delivery in
     omega (arith, at-within c.args.counted.now.by_worker.items c.args.worker c.requires.places.0, c.requires.counted.0, d.receipts_ever, c.receipts_ever-ever.ensures, c.receipts_ever-ever.type_inv)
 
 pub returns-in_default-planned : goal.returns-in_default-planned
 returns-in_default-planned g c = record {
   turn =
-      committed (c.in_default.ensures.delivered.0, (c.in_default.field-0, c.in_default.ensures.delivered.1)) (receipt_record c.ticket-ticket.ensures c.sent.ensures) c.commit_with_room.ensures.same
+      committed c.in_default.ensures.committed (receipt_record c.ticket-ticket.ensures c.sent.ensures) c.commit_with_room.ensures.same
       c.keep.ensures c.add.ensures (ap (struck_at c.args.plan.now) (sym c.receipts_ever-ever.ensures) ∙ sym c.planned.ensures ∙ c.in_default-planned.is) refl;
 }
 
 pub crash-recovery-requires-clause-allowed : goal.crash-recovery-requires-clause-allowed
 crash-recovery-requires-clause-allowed g c =
-    let d = c.in_default.ensures.delivered.1.2.delivery in
+    let d = c.in_default.ensures.committed.1.1.2.delivery in
     planned_may c.args.plan.now c.args.group.now.config c.commit_with_room.new.group c.commit_with_room.new.group.receipts_ever c.in-Some.set c.requires.plan d.config (d.down ∙ d.nobody_down)
     (ap (struck_at c.args.plan.now) (sym c.receipts_ever-ever.ensures) ∙ sym c.planned.ensures ∙ c.in-Some.is)
 
 pub returns : goal.returns
 returns g c = record {
   turn =
-      crashed (c.in_default.ensures.delivered.0, (c.in_default.field-0, c.in_default.ensures.delivered.1)) (receipt_record c.ticket-ticket.ensures c.sent.ensures) c.commit_with_room.ensures.same
+      crashed c.in_default.ensures.committed (receipt_record c.ticket-ticket.ensures c.sent.ensures) c.commit_with_room.ensures.same
       c.keep-2.ensures c.add.ensures c.in-Some.set c.crash-recovery.result (ends_without _ _ c.is_none-ends.ensures)
       (ap (struck_at c.args.plan.now) (sym c.receipts_ever-ever.ensures) ∙ sym c.planned.ensures ∙ c.in-Some.is) c.crash-recovery.ensures refl;
 }
