@@ -4,7 +4,7 @@ use Rattle.fbl_group.proofs.Common.{[], length, Option, Some, get_or, refl, sym,
 use Rattle.fbl_group.proofs.Common.{blank, IsDown, recovery_table, GroupRecord, member_checkpoint, knowledge, IsSound, working, IsReplaying, found, receipt_at, logged_note, replayed_by}
 use Rattle.fbl_group.proofs.Common.{replay_begins, replaying-next, replay_is_right, replayed_in-step, replaying-tables, AreByNumber, Tries, Rounds, Made, cond, common_steps, Members}
 use Rattle.fbl_group.proofs.Common.{AreRecordsReplaced, ◌||◌, ◌⊎◌, ◌-◌, map, Fits, filter, get_or_past, Event, mark_of, Message, IsUp, channel_in, channel, member, marks, receipts}
-use Rattle.fbl_group.proofs.Common.{sent_again, sum_below-agree, Recovers, AreReplaced, IsReady, w32, w64, ◌^◌, messages_in, is_replayed, stays_by, recovered_trace, resent_to, IsRebuilt}
+use Rattle.fbl_group.proofs.Common.{sent_again, sum_below-agree, Recovers, AreReplaced, AreSentAgain, IsReady, w32, w64, ◌^◌, messages_in, is_replayed, stays_by, recovered_trace, resent_to, IsRebuilt}
 use Rattle.fbl_group.proofs.Common.{cut-undone, recovered_trace-cut, sent_again-short, with-table, working-log, replayed_in-all, recovered_trace-rebuilt}
 use Rattle.fbl_group.proofs.Common.{rebuilt_is_recovered, messages_at, IsRecovery}
 use Rattle.std.specs.FinSet as set
@@ -17,9 +17,24 @@ module _ {S N : Type 0} where
   pub read_at : (outside : S) (ms : List (MemberRecord S N)) {place i : ℕ} {m : MemberRecord S N} → place ≡ i → i < length ms → m ≡ get_or ms place m → m ≡ slice_index_or ms i (blank outside)
   read_at outside ms {i = i} {m = m} is below read = grind (arith, get_or_default)
 
+  -- one that is looked up in these, which are the list: it is there, or the place is past the end
+  pub read_within : (outside : S) {ms found : List (MemberRecord S N)} {place i : ℕ} {m : MemberRecord S N} → found ≡ ms → place ≡ i → true ≡ nat_lt place (length found) → m ≡ get_or found place m
+      → m ≡ slice_index_or ms i (blank outside)
+  read_within outside same is there read = grind (arith, nat_tests, get_or_default)
+
+  pub read_past : (outside : S) {ms found : List (MemberRecord S N)} {place i : ℕ} → found ≡ ms → place ≡ i → false ≡ nat_lt place (length found) → blank outside ≡ slice_index_or ms i (blank outside)
+  read_past outside same is past = grind (arith, nat_tests, get_or_past)
+
 pub one-at-most : (b : Bool) → bool_byte b ≤ 1
 one-at-most true = omega arith
 one-at-most false = omega arith
+
+-- a loop over the numbers below n is done
+pub all-done : {i n m : ℕ} → n ≤ i → i ≤ n → n ≡ m → i ≡ m
+all-done past within is = omega (arith, past, within, is)
+
+pub fits-few : {count : ℕ} → count ≤ 2097152 → Fits w32 count
+fits-few few = omega (arith, few)
 
 module _ {S N : Type 0} {next : Next S N} {r : GroupRecord S N} {i count : ℕ} {first before : List (MemberRecord S N)} (so_far : Rounds next r i first before count) where
   -- one more member that replays or waits
@@ -113,11 +128,6 @@ module _ {S N : Type 0} where
 
 -- ---- what a recovery leaves, once the records that were rebuilt are in place
 
-module _ {S N : Type 0} where
-  -- the channels are made of what is sent again while these records stand for the members that are down
-  abbrev AreSentAgain : GroupRecord S N → List (MemberRecord S N) → List (List (List (Message N))) → Type 0
-  AreSentAgain r rebuilt again = (q p : ℕ) → q < r.config.members → p < r.config.members → channel_in again q p ≡ sent_again r.config.f r.down (working r rebuilt) q p
-
 -- a recovery of a sound group, of the group as its contract has it, once the records are rebuilt
 module _ {S N : Type 0} {next : Next S N} {old now : GroupRecord S N} {rebuilt : List (MemberRecord S N)} {replays : ℕ} (sound : IsSound next old) (view : old ≡ now) (is_ready : IsReady next now rebuilt replays) where
   ready : IsReady next old rebuilt replays
@@ -140,9 +150,9 @@ module _ {S N : Type 0} {next : Next S N} {old now : GroupRecord S N} {rebuilt :
   fewer-receipts = rw left-is (let undone = cut-undone sound (recovered_trace-cut next old sound) in omega (arith, undone))
 
   -- the channels of n members that are made again
-  module _ {n : ℕ} {records : List (MemberRecord S N)} (again : List (List (List (Message N)))) (all : n ≡ old.config.members) (same : records ≡ rebuilt) (each : AreSentAgain now records again) where
+  module _ {n : ℕ} (again : List (List (List (Message N)))) (all : n ≡ old.config.members) (each : AreSentAgain now rebuilt again) where
     made : AreSentAgain old rebuilt again
-    made = rw view (rw same at each)
+    made = rw view each
 
     -- what is sent again on a channel is at most what the trace may have
     pub short-again : (q p : ℕ) → q < n → p < n → length (channel_in again q p) ≤ 8192
@@ -184,14 +194,14 @@ module _ {S N : Type 0} {next : Next S N} {old now : GroupRecord S N} {rebuilt :
       undone-fits fits = omega (arith, fits, undone-left, sound.counted)
 
       -- the group that is left
-      module _ {members : List (MemberRecord S N)} {channels : List (List (List (Message N)))} {down : Members} {n : ℕ} {records : List (MemberRecord S N)} (again : List (List (List (Message N))))
-          (all : n ≡ old.config.members) (same : records ≡ rebuilt) (each : AreSentAgain now records again) (put : AreRecordsReplaced old.outside s (λ m. slice_index_or rebuilt m (blank old.outside)) old.members members)
+      module _ {members : List (MemberRecord S N)} {channels : List (List (List (Message N)))} {down : Members} {n : ℕ} (again : List (List (List (Message N))))
+          (all : n ≡ old.config.members) (each : AreSentAgain now rebuilt again) (put : AreRecordsReplaced old.outside s (λ m. slice_index_or rebuilt m (blank old.outside)) old.members members)
           (replaced : AreReplaced n old.down (channel_in again) old.channels channels) (nobody_down : down ≡ set.empty) where
         abbrev new : GroupRecord S N
         new = record old { members = members; channels = channels; trace = rest; down = down; undone_ever = old.undone_ever + undone }
 
         again-is : AreSentAgain old rebuilt again
-        again-is = made again all same each
+        again-is = made again all each
 
         placed : AreRecordsReplaced old.outside old.down (λ m. slice_index_or rebuilt m (blank old.outside)) old.members members
         placed = (rw same-down at put)

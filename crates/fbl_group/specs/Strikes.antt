@@ -7,9 +7,9 @@ use Rattle.fbl_base.specs.declared.trace.Determinant.{Determinant}
 use Rattle.fbl_base.specs.declared.trace.Event.{Event}
 use Rattle.fbl_base.specs.Events.{determinant_of, mark_of}
 use Rattle.fbl_base.specs.Fold.{Next}
-use Rattle.fbl_member.specs.Members.{MemberRecord, blank}
-use Rattle.fbl_law.specs.Groups.{GroupRecord, marks, receipts, is_recorded, is_recorded_among, channel, sum_below, member_checkpoint, knowledge}
-use Rattle.fbl_law.specs.GroupSteps.{IsStrike, IsRecovery, is_replayed, IsReplaying, IsWaiting, replayed_in, recovery_table}
+use Rattle.fbl_member.specs.Members.{MemberRecord, Message, blank}
+use Rattle.fbl_law.specs.Groups.{GroupRecord, marks, receipts, is_recorded, is_recorded_among, channel, channel_in, sum_below, member_checkpoint, knowledge}
+use Rattle.fbl_law.specs.GroupSteps.{IsStrike, IsRecovery, is_replayed, IsReplaying, IsWaiting, replayed_in, recovery_table, sent_again, working}
 use Rattle.fbl_group.specs.declared.refusals.StrikeRefusal.{StrikeRefusal}
 use Rattle.fbl_group.specs.declared.refusals.StrikeRefusal.TheVariants as strike
 use Rattle.fbl_group.specs.declared.answers.Struck.{Struck}
@@ -105,6 +105,11 @@ pub record IsReady {S N : Type 0} (next : Next S N) (r : GroupRecord S N) (rebui
   pub all : AreReplaying next r rebuilt
   pub waiting : (p : ℕ) → p < r.config.members → IsDown (knowledge r) p → IsWaiting r rebuilt p
   pub counted : count ≡ replayed_in r rebuilt
+
+-- the channels are made of what is sent again while these records stand for the members that are down
+abbrev pub AreSentAgain : {S N : Type 0} → GroupRecord S N → List (MemberRecord S N) → List (List (List (Message N))) → Type 0
+AreSentAgain r rebuilt again =
+    (q p : ℕ) → q < r.config.members → p < r.config.members → channel_in again q p ≡ sent_again r.config.f r.down (working r rebuilt) q p
 
 -- ---- crashes
 

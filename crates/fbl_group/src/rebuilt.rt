@@ -9,6 +9,7 @@ ghost use Rattle.fbl_group.specs.Strikes.{AreRecordsReplaced};
 
 use fbl_base::{Behaviour, Event, Mark, Member, MemberSet};
 use fbl_member::MemberRec;
+use fbl_table::{Receipts, Table};
 use std::alloc::Allocator;
 use std::mem;
 
@@ -20,26 +21,21 @@ pub(crate) struct Rebuilt<B: Behaviour, A: Allocator> {
     pub(crate) records: Vec<MemberRec<B::State, B::Note, A>, A>,
     /// How many receipts they have beyond their checkpoints.
     pub(crate) replayed: u32,
+    /// What the survivors and these checkpoints know, until the records have it.
+    pub(crate) gathered: Table<A>,
+    /// Of each member that is down the receipts that this has beyond its checkpoint.
+    pub(crate) receipts: Vec<Receipts<A>, A>,
 }
 
 impl<B: Behaviour, A: Allocator + Copy> Rebuilt<B, A> {
-    /// How many messages the member has sent.
-    fn sent(&self, member: Member) -> u32
-        ensures { result ≡ length (slice_index_or self.now.records.items member (blank (B.next.initial 0 0))).log }
+    /// How many messages the member has sent, and how many it has received.
+    fn sent_and_received(&self, member: Member) -> (u32, u32)
+        ensures sent { result.0 ≡ length (slice_index_or self.now.records.items member (blank (B.next.initial 0 0))).log }
+        ensures received { result.1 ≡ (slice_index_or self.now.records.items member (blank (B.next.initial 0 0))).received }
     {
         match self.records.get(usize::from(member.number())) {
-            Some(record) => record.sent(),
-            None => 0,
-        }
-    }
-
-    /// How many messages the member has received.
-    fn received(&self, member: Member) -> u32
-        ensures { result ≡ (slice_index_or self.now.records.items member (blank (B.next.initial 0 0))).received }
-    {
-        match self.records.get(usize::from(member.number())) {
-            Some(record) => record.received(),
-            None => 0,
+            Some(record) => (record.sent(), record.received()),
+            None => (0, 0),
         }
     }
 
@@ -48,8 +44,10 @@ impl<B: Behaviour, A: Allocator + Copy> Rebuilt<B, A> {
         ensures { result ≡ stays_by self.now.down (λ p. slice_index_or self.now.records.items p (blank (B.next.initial 0 0))) (mark_of event.now) }
     {
         match event.mark() {
-            Mark::Send { from, ssn, .. } => !self.down.has(from) || ssn <= self.sent(from),
-            Mark::Receipt { to, rsn, .. } => !self.down.has(to) || rsn <= self.received(to),
+            Mark::Send { from, ssn, .. } => !self.down.has(from)
+                || ssn <= self.sent_and_received(from).0,
+            Mark::Receipt { to, rsn, .. } => !self.down.has(to)
+                || rsn <= self.sent_and_received(to).1,
         }
     }
 
@@ -61,17 +59,14 @@ impl<B: Behaviour, A: Allocator + Copy> Rebuilt<B, A> {
     }
 
     /// Puts the records in the places of the members that are down, of `n`.
-    pub(crate) fn put_back(self, members: &mut Vec<MemberRec<B::State, B::Note, A>, A>, n: u8)
+    pub(crate) fn put_back(&mut self, members: &mut Vec<MemberRec<B::State, B::Note, A>, A>, n: u8)
         requires members { vec_len members.old ≡ n }
-        requires records { vec_len self.records ≡ n }
+        requires records { vec_len self.old.records ≡ n }
         requires few { n ≤ 16 }
-        ensures { AreRecordsReplaced (B.next.initial 0 0) self.down (λ m. slice_index_or self.records.items m (blank (B.next.initial 0 0))) members.old.items members.new.items }
+        ensures { AreRecordsReplaced (B.next.initial 0 0) self.old.down (λ m. slice_index_or self.old.records.items m (blank (B.next.initial 0 0))) members.old.items members.new.items }
     {
-        let Rebuilt {
-            down,
-            mut records,
-            ..
-        } = self;
+        let down = self.down;
+        let records = &mut self.records;
         for number in 0..n {
             let place = usize::from(number);
             if down.has(Member::at(number)) {

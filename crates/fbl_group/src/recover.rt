@@ -6,12 +6,13 @@ ghost use Rattle.fbl_base.specs.Events.{mark_of};
 ghost use Rattle.fbl_law.specs.Groups.{HasChannels, channel_in, knowledge, receipts};
 ghost use Rattle.fbl_law.specs.Promises.{GainsHolders, RecordsFirst};
 ghost use Rattle.fbl_group.specs.Channels.{rows, AreReplaced};
-ghost use Rattle.fbl_group.specs.Strikes.{Recovers, IsRecoverRefusal, lost_receipts};
+ghost use Rattle.fbl_group.specs.Strikes.{AreSentAgain, Recovers, IsReady, IsRecoverRefusal, lost_receipts};
 ghost use Rattle.fbl_group.specs.Theorem.{Restores};
 
 use crate::answers::Recovered;
 use crate::channels::{Channels, has_either};
 use crate::group::Group;
+use crate::rebuilt::Rebuilt;
 use crate::refusals::RecoverRefusal;
 use fbl_base::{Behaviour, Event, Member, MemberSet};
 use std::alloc::{AllocError, Allocator};
@@ -50,8 +51,18 @@ impl<B: Behaviour, A: Allocator + Copy> Group<B, A> {
         ensures recovered { IfOk result (λ answer. Recovers B.next self.old self.new answer) }
         ensures unchanged { OnErr result (self.new ≡ self.old) }
     {
-        let rebuilt = self.rebuild()?;
-        let again = self.resend(rebuilt.records.as_slice())?;
+        let mut rebuilt = self.rebuild()?;
+        self.put_in_place(&mut rebuilt)
+    }
+
+    /// Sends again what is lost, puts the records that were rebuilt in their places, and cuts the trace.
+    fn put_in_place(&mut self, rebuilt: &mut Rebuilt<B, A>) -> Result<Recovered, AllocError>
+        requires ready { IsReady B.next self.old rebuilt.old.records.items rebuilt.old.replayed }
+        requires down { rebuilt.old.down ≡ self.old.down }
+        ensures recovered { IfOk result (λ answer. Recovers B.next self.old self.new answer) }
+        ensures unchanged { OnErr result (self.new ≡ self.old) }
+    {
+        let mut again = self.resend(rebuilt.records.as_slice())?;
         let n = self.config.members();
         let replayed = rebuilt.replayed;
         let resent = again.messages(n) as u32;
@@ -59,7 +70,7 @@ impl<B: Behaviour, A: Allocator + Copy> Group<B, A> {
         rebuilt.cut(&mut self.trace);
         let undone = before - count_receipts(self.trace.as_slice());
         rebuilt.put_back(&mut self.members, n);
-        self.channels.replace(again, self.down, n);
+        self.channels.replace(&mut again, self.down, n);
         self.down = MemberSet::empty();
         self.undone_ever += undone;
         Ok(Recovered {
@@ -80,13 +91,12 @@ fn count_receipts<N: Copy>(trace: &[Event<N>]) -> u64
 
 impl<N: Copy, A: Allocator> Channels<N, A> {
     /// Puts the channels that were made again in the places of those with an end that is down, of `n` members.
-    fn replace(&mut self, again: Channels<N, A>, down: MemberSet, n: u8)
+    fn replace(&mut self, again: &mut Channels<N, A>, down: MemberSet, n: u8)
         requires shape { HasChannels n (rows self.old) }
-        requires again { HasChannels n (rows again) }
+        requires again { HasChannels n (rows again.old) }
         requires few { n ≤ 16 }
-        ensures { AreReplaced n down (channel_in (rows again)) (rows self.old) (rows self.new) }
+        ensures { AreReplaced n down (channel_in (rows again.old)) (rows self.old) (rows self.new) }
     {
-        let mut again = again;
         for sender in 0..n {
             let from = Member::at(sender);
             for receiver in 0..n {

@@ -23,36 +23,45 @@ impl<B: Behaviour, A: Allocator + Copy> Group<B, A> {
         ensures ready { IfOk result (λ rebuilt. IsReady B.next self.now rebuilt.records.items rebuilt.replayed) }
         ensures down { IfOk result (λ rebuilt. rebuilt.down ≡ self.now.down) }
     {
-        let gathered = self.gather_table()?;
-        let receipts = self.number_receipts(&gathered)?;
-        let mut records = self.begin(gathered)?;
-        let mut replayed = 0;
-        'rounds: loop {
-            let more = self.replay_round(&receipts, &mut records)?;
-            if more == 0 {
-                return Ok(Rebuilt {
-                    down: self.down,
-                    records,
-                    replayed,
-                });
-            }
-            replayed += more;
-        }
+        let alloc = *self.members.allocator();
+        let mut rebuilt = Rebuilt {
+            down: self.down,
+            records: Vec::new(alloc),
+            replayed: 0,
+            gathered: Table::for_limit(alloc, self.config().f()),
+            receipts: Vec::new(alloc),
+        };
+        self.replay(&mut rebuilt)?;
+        Ok(rebuilt)
     }
 
-    /// The survivors' tables in member order and then those of the checkpoints of the members that are down, where these
-    /// count as holders.
-    fn gather_table(&self) -> Result<Table<A>, AllocError>
-        ensures table { IfOk result (λ table. table ≡ recovery_table (knowledge self.now)) }
-        ensures sound { IsSound B.next self.now }
+    /// Gathers the tables, begins at the checkpoints, and replays what the gathered table has.
+    fn replay(&self, rebuilt: &mut Rebuilt<B, A>) -> Result<(), AllocError>
+        requires gathered { rebuilt.old.gathered ≡ [] }
+        requires receipts { rebuilt.old.receipts.items ≡ [] }
+        requires records { rebuilt.old.records.items ≡ [] }
+        ensures ready { OnOk result (IsReady B.next self.now rebuilt.new.records.items rebuilt.new.replayed) }
+        ensures down { rebuilt.new.down ≡ rebuilt.old.down }
     {
-        let mut gathered = Table::for_limit(*self.members.allocator(), self.config().f());
+        self.gather_tables(&mut rebuilt.gathered)?;
+        self.number_receipts(&rebuilt.gathered, &mut rebuilt.receipts)?;
+        self.begin(&mut rebuilt.gathered, &mut rebuilt.records)?;
+        rebuilt.replayed = self.replay_all(&rebuilt.receipts, &mut rebuilt.records)?;
+        Ok(())
+    }
+
+    /// Gathers the survivors' tables in member order and then those of the checkpoints of the members that are down, where these
+    /// count as holders, into an empty one.
+    fn gather_tables(&self, gathered: &mut Table<A>) -> Result<(), AllocError>
+        requires { gathered.old ≡ [] }
+        ensures { OnOk result (gathered.new ≡ recovery_table (knowledge self.now)) }
+    {
         for record in &self.members {
             gathered.gather(record.table())?;
         }
-        self.gather_saved(&mut gathered)?;
+        self.gather_saved(gathered)?;
         gathered.mark_all(self.down);
-        Ok(gathered)
+        Ok(())
     }
 
     /// Gathers the tables of the checkpoints of the members that are down, in member order.
@@ -68,17 +77,22 @@ impl<B: Behaviour, A: Allocator + Copy> Group<B, A> {
         Ok(())
     }
 
-    /// The receipts that the gathered table has of each member that is down beyond its checkpoint, by their numbers.
-    fn number_receipts(&self, gathered: &Table<A>) -> Result<Vec<Receipts<A>, A>, AllocError>
-        requires { gathered.now ≡ recovery_table (knowledge self.now) }
-        ensures { IfOk result (λ receipts. AreByNumber self.now receipts.items) }
+    /// Puts the receipts that the gathered table has of each member that is down beyond its checkpoint, by their numbers, into the
+    /// list, which is empty.
+    fn number_receipts(
+        &self,
+        gathered: &Table<A>,
+        receipts: &mut Vec<Receipts<A>, A>,
+    ) -> Result<(), AllocError>
+        requires gathered { gathered.now ≡ recovery_table (knowledge self.now) }
+        requires empty { receipts.old.items ≡ [] }
+        ensures { OnOk result (AreByNumber self.now receipts.new.items) }
     {
-        let mut receipts = Vec::new(*self.members.allocator());
         for number in 0..self.size() {
             let member = Member::at(number);
             receipts.push(self.number_receipts_of(member, gathered)?)?;
         }
-        Ok(receipts)
+        Ok(())
     }
 
     /// The receipts that the table has of the member beyond those of its checkpoint, by their numbers, if it is down. There
@@ -99,24 +113,25 @@ impl<B: Behaviour, A: Allocator + Copy> Group<B, A> {
         }
     }
 
-    /// The records before any replay, and the gathered table for each member that is down: the last one gets the table itself,
-    /// the others copies.
-    #[tactic(auto, using(fbl_member::proofs::Made::made_none))]
+    /// Puts the records before any replay into the list, and in those of the members that are down the gathered table: in the
+    /// last one the table itself, in the others copies.
     fn begin(
         &self,
-        gathered: Table<A>,
-    ) -> Result<Vec<MemberRec<B::State, B::Note, A>, A>, AllocError>
-        requires { gathered ≡ recovery_table (knowledge self.now) }
-        ensures replaying { IfOk result (λ rebuilt. AreReplaying B.next self.now rebuilt.items) }
-        ensures none { IfOk result (λ rebuilt. replayed_in self.now rebuilt.items ≡ 0) }
+        gathered: &mut Table<A>,
+        rebuilt: &mut Vec<MemberRec<B::State, B::Note, A>, A>,
+    ) -> Result<(), AllocError>
+        requires gathered { gathered.old ≡ recovery_table (knowledge self.now) }
+        requires empty { rebuilt.old.items ≡ [] }
+        ensures replaying { OnOk result (AreReplaying B.next self.now rebuilt.new.items) }
+        ensures none { OnOk result (replayed_in self.now rebuilt.new.items ≡ 0) }
     {
-        let mut gathered = gathered;
-        let mut rebuilt = Vec::new(*self.members.allocator());
+        // the group is sound
+        self.recoverable();
         for number in 0..self.size() {
             let member = Member::at(number);
-            rebuilt.push(self.begin_one(member, &mut gathered)?)?;
+            rebuilt.push(self.begin_one(member, gathered)?)?;
         }
-        Ok(rebuilt)
+        Ok(())
     }
 
     /// A member that is down begins at its checkpoint, with the table lent. The table is left while a later member is down.
@@ -163,6 +178,29 @@ impl<B: Behaviour, A: Allocator + Copy> Group<B, A> {
             }
         }
         true
+    }
+
+    /// Rounds of replay, until in one of them no member that is down has a receipt to replay. The answer is how many were replayed.
+    fn replay_all(
+        &self,
+        receipts: &Vec<Receipts<A>, A>,
+        rebuilt: &mut Vec<MemberRec<B::State, B::Note, A>, A>,
+    ) -> Result<u32, AllocError>
+        requires numbered { AreByNumber self.now receipts.now.items }
+        requires replaying { AreReplaying B.next self.now rebuilt.old.items }
+        requires none { replayed_in self.now rebuilt.old.items ≡ 0 }
+        ensures { IfOk result (IsReady B.next self.now rebuilt.new.items) }
+    {
+        // the group is sound
+        self.recoverable();
+        let mut replayed = 0;
+        'rounds: loop {
+            let more = self.replay_round(receipts, rebuilt)?;
+            if more == 0 {
+                return Ok(replayed);
+            }
+            replayed += more;
+        }
     }
 
     /// Each member that is down tries to replay its next receipt, and the answer is how many did.
@@ -246,11 +284,10 @@ impl<B: Behaviour, A: Allocator + Copy> Group<B, A> {
         requires member { member < self.now.config.members }
         ensures { result.now ≡ working self.now rebuilt.now member }
     {
-        let place = usize::from(member.number());
         if self.down().has(member) {
-            &rebuilt[place]
+            &rebuilt[usize::from(member.number())]
         } else {
-            &self.members[place]
+            self.record(member)
         }
     }
 }

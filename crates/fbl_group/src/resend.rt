@@ -3,9 +3,10 @@
 ghost use Rattle.std.specs.Prelude.{◌≡◌, ℕ, ◌<◌, [], length, map, slice_index_or, vec_len, IfOk, IfSome};
 ghost use Rattle.std.specs.VecDeque.{deque_items};
 ghost use Rattle.fbl_table.specs.Tables.{piggybacked};
-ghost use Rattle.fbl_law.specs.Groups.{HasChannels, channel_in};
+ghost use Rattle.fbl_law.specs.Groups.{HasChannels};
 ghost use Rattle.fbl_law.specs.GroupSteps.{working, resent, sent_again};
 ghost use Rattle.fbl_group.specs.Channels.{rows};
+ghost use Rattle.fbl_group.specs.Strikes.{AreSentAgain};
 
 use crate::channels::{Channel, Channels, has_either};
 use crate::group::Group;
@@ -17,14 +18,13 @@ use std::collections::VecDeque;
 
 impl<B: Behaviour, A: Allocator + Copy> Group<B, A> {
     /// The channels made again: on each with an end that is down what its sender sends again, and nothing on the others.
-    #[tactic(auto, using(fbl_member::proofs::Made::made_none))]
     pub(crate) fn resend(
         &self,
         rebuilt: &[MemberRec<B::State, B::Note, A>],
     ) -> Result<Channels<B::Note, A>, AllocError>
         requires { length rebuilt.now ≡ self.now.config.members }
         ensures shape { IfOk result (λ again. HasChannels self.now.config.members (rows again)) }
-        ensures each { IfOk result (λ again. (q p : ℕ) → q < self.now.config.members → p < self.now.config.members → channel_in (rows again) q p ≡ sent_again self.now.config.f self.now.down (working self.now rebuilt.now) q p) }
+        ensures each { IfOk result (λ again. AreSentAgain self.now rebuilt.now (rows again)) }
     {
         let mut rows = Vec::new(*self.members.allocator());
         for number in 0..self.size() {
@@ -35,7 +35,6 @@ impl<B: Behaviour, A: Allocator + Copy> Group<B, A> {
     }
 
     /// The member's channels made again.
-    #[tactic(auto, using(fbl_member::proofs::Made::made_none))]
     fn resend_from(
         &self,
         rebuilt: &[MemberRec<B::State, B::Note, A>],
@@ -90,7 +89,6 @@ impl<B: Behaviour, A: Allocator + Copy> Group<B, A> {
 }
 
 /// These messages, each with what the sender's table passes on: one list for all of them, where there is memory to share it.
-#[tactic(auto, using(fbl_member::proofs::Once::carried_once))]
 fn put_again<N: Copy, A: Allocator + Copy>(
     alloc: A,
     from: Member,
@@ -128,7 +126,5 @@ fn pass_on<A: Allocator + Copy>(
         return carried.another();
     }
     let made = Carried::for_several(table.piggyback(f)?);
-    let carried = made.another()?;
-    *passed = Some(made);
-    Ok(carried)
+    passed.insert(made).another()
 }

@@ -1,10 +1,10 @@
-use Rattle.fbl_group.proofs.Common.{subst, IsSound, arith, made-more, ap, ◌∙◌, List, Entry, member_checkpoint}
-use Rattle.fbl_group.proofs.Recovering.{begun, none-replayed}
+use Rattle.fbl_group.proofs.Common.{arith, made-more, ap, ◌∙◌, List, Entry, member_checkpoint}
+use Rattle.fbl_group.proofs.Recovering.{all-done, begun, none-replayed}
 use Rattle.fbl_member.proofs.Made.{made_none}
 use Rattle.fbl_group.proofs.group.Group.begin.Goals as goal
 
 pub loop-number-init : goal.loop-number-init
-loop-number-init g c = record { made = rw c.new-rebuilt.ensures.items (made_none _ _); left = λ p past down. c.requires }
+loop-number-init g c = record { made = rw c.requires.empty (made_none _ _); left = λ p past down. c.requires.gathered }
 
 pub loop-number-preserved : goal.loop-number-preserved
 loop-number-preserved g c =
@@ -18,8 +18,8 @@ loop-number-preserved g c =
 
 pub returns-clause-replaying : goal.returns-clause-replaying
 returns-clause-replaying g c =
-    begun (subst (IsSound g.B.Behaviour.next) c.self.view_is c.self.invariant) (grind (arith, c.self.view_is, c.loop-number.auto.number-end)) c.loop-number.invariant.made
+    begun c.recoverable.ensures.sound (all-done c.loop-number-test.false c.loop-number.auto.number-end c.size-number-end.ensures.value) c.loop-number.invariant.made
 
 pub returns-clause-none : goal.returns-clause-none
 returns-clause-none g c =
-    none-replayed (subst (IsSound g.B.Behaviour.next) c.self.view_is c.self.invariant) (grind (arith, c.self.view_is, c.loop-number.auto.number-end)) c.loop-number.invariant.made
+    none-replayed c.recoverable.ensures.sound (all-done c.loop-number-test.false c.loop-number.auto.number-end c.size-number-end.ensures.value) c.loop-number.invariant.made

@@ -3,9 +3,7 @@ use Rattle.fbl_group.proofs.Recovering.{looked-up, from-member}
 use Rattle.fbl_group.proofs.group.Group.next_replay.Goals as goal
 
 pub index-requires-2 : goal.index-requires-2
-index-requires-2 g c =
-    let sound = c.recoverable.ensures.sound in
-    omega (arith, sound.down c.args.member c.requires.down, c.requires.numbered.size)
+index-requires-2 g c = omega (arith, c.recoverable.ensures.sound.down c.args.member c.requires.down, c.requires.numbered.size)
 
 pub working-sender-requires-clause-member : goal.working-sender-requires-clause-member
 working-sender-requires-clause-member g c =
@@ -22,3 +20,21 @@ pub returns-clause-found : goal.returns-clause-found
 returns-clause-found g c =
     sym (looked-up c.recoverable.ensures.sound c.requires.replaying c.requires.down (c.from-place.ensures ∙ c.number.ensures.value) c.index.ensures
     c.requires.numbered c.index-2.ensures c.determinant.ensures c.received-rsn.ensures.value) ∙ c.in-Some.is
+
+pub index-requires : goal.index-requires
+index-requires g c = omega (arith, c.recoverable.ensures.sound.down c.args.member c.requires.down, c.requires.replaying.size)
+
+pub overflow_add-rsn : goal.overflow_add-rsn
+overflow_add-rsn g c = omega (arith, c.received-rsn.ensures.kept.few_receipts)
+
+pub working-sender-requires-clause-size : goal.working-sender-requires-clause-size
+working-sender-requires-clause-size g c = rw c.as_slice.ensures.value c.requires.replaying.size
+
+pub returns-in_default-clause-waits : goal.returns-in_default-clause-waits
+returns-in_default-clause-waits g c =
+    let looked = looked-up c.recoverable.ensures.sound c.requires.replaying c.requires.down (c.from-place.ensures ∙ c.number.ensures.value) c.index.ensures
+    c.requires.numbered c.index-2.ensures c.determinant.ensures c.received-rsn.ensures.value in
+    λ d is. absurd (c.in_default.not-Some d (looked ∙ is))
+
+pub returns-clause-sent : goal.returns-clause-sent
+returns-clause-sent g c = sym (rw (c.working-sender.ensures, c.as_slice.ensures.value) at c.log_note.ensures) ∙ c.in-Some-log_note.is

@@ -1,6 +1,11 @@
-use Rattle.fbl_group.proofs.Common.{◌≡◌, map, sym, ap, ◌∙◌, arith, deque_items, length-map, working, sent_again}
+use Rattle.fbl_group.proofs.Common.{map, sym, ap, ◌∙◌, deque_items, length-map, working, sent_again}
 use Rattle.fbl_group.proofs.Queues.{made-mapped}
+use Rattle.fbl_group.proofs.Recovering.{all-done}
+use Rattle.fbl_member.proofs.Made.{made_none}
 use Rattle.fbl_group.proofs.group.Group.resend.Goals as goal
+
+pub loop-number-init : goal.loop-number-init
+loop-number-init g c = rw c.new-rows.ensures.items (made_none _ _)
 
 pub loop-number-preserved : goal.loop-number-preserved
 loop-number-preserved g c =
@@ -15,7 +20,7 @@ pub returns : goal.returns
 returns g c =
     let r = c.args.self.now in
     let made = c.loop-number.invariant in
-    let all : c.loop-number.number ≡ r.config.members = omega (arith, c.loop-number-test.false, c.loop-number.auto.number-end, c.size-number-end.ensures.value) in
+    let all = all-done c.loop-number-test.false c.loop-number.auto.number-end c.size-number-end.ensures.value in
     record {
       shape = record { senders = made.size ∙ all; receivers = λ q below. (made.each q (rw all below)).0 };
       each = λ q p below_q below_p. (made.each q (rw all below_q)).1 p below_p;

@@ -1,16 +1,24 @@
-use Rattle.fbl_group.proofs.Common.{ap, ◌∙◌, arith, deque_items, length-map, working, sent_again}
+use Rattle.fbl_group.proofs.Common.{◌≡◌, sym, ap, ◌∙◌, deque_items, length-map, working, sent_again}
 use Rattle.fbl_group.proofs.Queues.{made-mapped}
+use Rattle.fbl_group.proofs.Recovering.{all-done}
+use Rattle.fbl_member.proofs.Made.{made_none}
 use Rattle.fbl_group.proofs.group.Group.resend_from.Goals as goal
+
+pub loop-number-init : goal.loop-number-init
+loop-number-init g c = record { made = rw c.new-row.ensures.items (made_none _ _); passed = tt }
 
 pub loop-number-preserved : goal.loop-number-preserved
 loop-number-preserved g c =
-    let member = c.at-to.ensures in
+    let wanted = sent_again c.args.self.now.config.f c.args.self.now.down (working c.args.self.now c.args.rebuilt.now) c.args.from in
     record {
       made =
-          rw c.in_ok-push.ensures.items (made-mapped deque_items _ _ c.loop-number.invariant.made
-          (c.in_ok-resend_on.ensures.made ∙ ap (λ k. sent_again c.args.self.now.config.f c.args.self.now.down (working c.args.self.now c.args.rebuilt.now) c.args.from k) member));
+          rw c.in_ok-push.ensures.items (made-mapped deque_items {Wanted = λ p channel. channel ≡ wanted p} _ _ c.loop-number.invariant.made
+          (c.in_ok-resend_on.ensures.made ∙ ap wanted c.at-to.ensures));
       passed = c.resend_on.ensures.passed;
     }
 
 pub returns : goal.returns
-returns g c = grind (arith, c.self.view_is, length-map)
+returns g c =
+    let made = c.loop-number.invariant.made in
+    let all = all-done c.loop-number-test.false c.loop-number.auto.number-end c.size-number-end.ensures.value in
+    record { size = c.loop-number.row.ok.0 ∙ sym (length-map c.loop-number.row.items deque_items) ∙ made.size ∙ all; each = λ p below. made.each p (rw all below) }

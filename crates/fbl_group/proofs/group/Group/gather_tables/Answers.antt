@@ -1,6 +1,6 @@
 use Rattle.fbl_group.proofs.Common.{◌++◌, ◌∙◌, List, ap, sym, refl, length, map, subst, at_drop_more, gathered_all, saved_tables, MemberRecord, IsSound, GroupRecord}
 use Rattle.std.proofs.Math.ListN.{drop_of_length-le}
-use Rattle.fbl_group.proofs.group.Group.gather_table.Goals as goal
+use Rattle.fbl_group.proofs.group.Group.gather_tables.Goals as goal
 
 pub loop-record-preserved : goal.loop-record-preserved
 loop-record-preserved g c =
@@ -11,8 +11,8 @@ loop-record-preserved g c =
     c.loop-record.record-index c.record-item.result c.loop-record-test.true in
     rw (c.in_ok-gather.ensures.gathered, c.table.ensures) (sym (rw (← c.record-item.is) at next) ∙ c.loop-record.invariant)
 
-pub returns-clause-table : goal.returns-clause-table
-returns-clause-table g c =
+pub returns : goal.returns
+returns g c =
     let r = c.args.self.now in
     let sound = subst (IsSound g.B.Behaviour.next) c.self.view_is c.self.invariant in
     let none = drop_of_length-le c.deref-record-items.result.now c.loop-record-test.false in

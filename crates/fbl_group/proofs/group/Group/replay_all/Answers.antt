@@ -1,19 +1,19 @@
 use Rattle.fbl_group.proofs.Common.{arith, replayed_in-short}
-use Rattle.fbl_group.proofs.group.Group.rebuild.Goals as goal
+use Rattle.fbl_group.proofs.group.Group.replay_all.Goals as goal
 
 pub rounds-smaller : goal.rounds-smaller
 rounds-smaller g c =
     let round = c.in_ok-more.ensures in
-    omega (arith, round.counted, replayed_in-short g.B.Behaviour.next _ c.gather_table.ensures.sound _ round.replaying.replaying)
+    omega (arith, round.counted, replayed_in-short g.B.Behaviour.next _ c.recoverable.ensures.sound _ round.replaying.replaying)
 
 pub overflow_add-replayed : goal.overflow_add-replayed
 overflow_add-replayed g c =
     let round = c.in_ok-more.ensures in
-    let few = replayed_in-short g.B.Behaviour.next _ c.gather_table.ensures.sound _ round.replaying.replaying in
+    let few = replayed_in-short g.B.Behaviour.next _ c.recoverable.ensures.sound _ round.replaying.replaying in
     omega (arith, c.rounds.invariant.counted, round.counted, few)
 
-pub returns-then-more-eq0-clause-ready : goal.returns-then-more-eq0-clause-ready
-returns-then-more-eq0-clause-ready g c =
+pub returns-then-more-eq0 : goal.returns-then-more-eq0
+returns-then-more-eq0 g c =
     let round = c.in_ok-more.ensures in
     let still = round.waiting c.if-more-eq0.true in
     record {

@@ -1,5 +1,5 @@
 use Rattle.fbl_group.proofs.Common.{◌≡◌, [], ◌++◌, drop, length, map, MemberRecord, gathered_all, saved_tables}
-use Rattle.fbl_group.proofs.group.Group.gather_table.Given as goal
+use Rattle.fbl_group.proofs.group.Group.gather_tables.Given as goal
 
 abbrev pub invariant-loop-record : goal.invariant-loop-record
 invariant-loop-record g l =
