@@ -21,15 +21,22 @@ module _ {V A : Type 0} (view : V → Data) (shape : Data → Option A) where
   one_more list i v a within is given before j d below =
       below_more (λ k. (x : Data) → slice_get (map view list) k ≡ Some x → is_some (shape x) ≡ true) i (λ k lt x at. before k x lt at) (has_shape list i v a within is given) j below d
 
+  left_from : (list : List V) (i : ℕ) (v : V) → i < length list → v ≡ get_or list i v → drop i list ≡ v ∷ drop (i + 1) list
+  left_from list i v within is = rw add-one (drop-cons list i v within ∙ ap (λ x. x ∷ drop (suc i) list) (sym is))
+
+  -- one without the shape
+  pub none_read : (list : List V) (i : ℕ) (v : V) (front : List A) (all : Option (List A)) → i < length list → v ≡ get_or list i v → None ≡ shape (view v)
+      → option_map (λ rest. front ++ rest) (all_shaped shape (map view (drop i list))) ≡ all → None ≡ all
+  none_read list i v front all within is given h = rw (left_from list i v within is, ← given) at h
+
   -- what is read of the items so far and of those that are left, with one more read
   pub read_more : (list : List V) (i : ℕ) (v : V) (a : A) (front : List A) (all : Option (List A)) → i < length list → v ≡ get_or list i v → Some a ≡ shape (view v)
       → option_map (λ rest. front ++ rest) (all_shaped shape (map view (drop i list))) ≡ all
       → option_map (λ rest. (front ++ a ∷ []) ++ rest) (all_shaped shape (map view (drop (i + 1) list))) ≡ all
   read_more list i v a front all within is given h =
-      let here : drop i list ≡ v ∷ drop (i + 1) list = rw add-one (drop-cons list i v within ∙ ap (λ x. x ∷ drop (suc i) list) (sym is)) in
       moved (all_shaped shape (map view (drop (i + 1) list)))
       ∙ ap (λ found. option_map (λ r. front ++ r) (step (map view (drop (i + 1) list)) found)) given
-      ∙ ap (λ l. option_map (λ r. front ++ r) (all_shaped shape (map view l))) (sym here) ∙ h
+      ∙ ap (λ l. option_map (λ r. front ++ r) (all_shaped shape (map view l))) (sym (left_from list i v within is)) ∙ h
     where
       step : List Data → Option A → Option (List A)
       step ds found = option_and_then (λ x. option_map (λ rest. x ∷ rest) (all_shaped shape ds)) found

@@ -166,6 +166,21 @@ fn write_missing<W: fmt::Write>(
     }
 }
 
+/// Writes what is found at the place, if it is one in a list, and what is wanted there.
+fn write_wrong<W: fmt::Write>(
+    f: &mut fmt::Formatter<W>,
+    name: &str,
+    place: Option<usize>,
+    found: ShownText<'_>,
+    wanted: &str,
+) -> fmt::Result {
+    f.write_str(name)?;
+    if let Some(place) = place {
+        write!(f, " {place}")?;
+    }
+    write!(f, " is {found}, and must be {wanted}")
+}
+
 /// Writes the fault, with what stands at its place.
 fn write_misfit<W: fmt::Write>(
     f: &mut fmt::Formatter<W>,
@@ -186,24 +201,21 @@ fn write_misfit<W: fmt::Write>(
         }
         Misfit::NotObject => write!(f, "the input must be one JSON object, and is {found}"),
         Misfit::MissingKey { key, unknown } => write_missing(f, kind, *key, unknown.as_ref()),
-        Misfit::BadValue(key) => {
-            let wanted = kind.wanted_at(*key);
-            write!(f, "{key} is {found}, and must be {wanted}")
-        }
+        Misfit::BadValue(key) => write_wrong(f, key.name(), None, found, kind.wanted_at(*key)),
         Misfit::BadItem { key, place } => {
             let (name, wanted) = kind.wanted_item(*key);
-            write!(f, "{name} {place} is {found}, and must be {wanted}")
+            write_wrong(f, name, Some(*place), found, wanted)
         }
         Misfit::TooManyCommands => {
             f.write_str("command 1024 is one too many: there may be 1024, numbered from 0")
         }
         Misfit::BadCommand { place, wanted } => {
-            write!(f, "command {place} is {found}, and must be {wanted}")
+            write_wrong(f, "command", Some(*place), found, wanted.words())
         }
         Misfit::UnknownKey(name) => write!(f, "the key {name:?} is unknown: {kind}"),
-        Misfit::Config(_, breach) | Misfit::Dump(_, breach) => write!(f, "{breach}"),
-        Misfit::Log(_, breach) => write!(f, "{breach}"),
-        Misfit::Read | Misfit::Memory => write!(f, "{fault}"),
+        Misfit::Config(_, breach) | Misfit::Dump(_, breach) => fmt::Display::fmt(breach, f),
+        Misfit::Log(_, breach) => fmt::Display::fmt(breach, f),
+        Misfit::Read | Misfit::Memory => fmt::Display::fmt(fault, f),
     }
 }
 

@@ -8,6 +8,7 @@ use fbl_base::{Breach, ConfigRefusal, DumpRefusal};
 use fbl_moments::LogBreach;
 use serde_json::Error as JsonError;
 use std::alloc::{AllocError, AllocFailed};
+use std::fmt;
 use thiserror::Error;
 
 /// The most commands that a script may have.
@@ -103,29 +104,47 @@ impl InputKind {
 }
 
 /// How a command is written. `Any` stands where no command is named, and `NoCheckpoint` where version 1 names one.
-#[derive(Clone, Copy, PartialEq, Eq, Debug, Error)]
+#[derive(Clone, Copy, PartialEq, Eq, Debug)]
 pub enum CommandForm {
-    #[error("[\"deliver\", to, from]: members 0 to 15")]
     Deliver,
-    #[error("[\"states\"]")]
     States,
-    #[error("[\"report\"]")]
     Report,
-    #[error("[\"strike\", set]: a list of members 0 to 15")]
     Strike,
-    #[error("[\"recover\"]")]
     Recover,
-    #[error("[\"dump\", set]: a list of members 0 to 15")]
     Dump,
-    #[error("[\"run\", plan]: a list of [at, set], each a number 0 to 4294967295 and a list of members 0 to 15")]
     Run,
-    #[error("[\"checkpoint\", member]: 0 to 15")]
     Checkpoint,
-    #[error("a command of version 1: a checkpoint is one of version 2")]
     NoCheckpoint,
-    #[error("one of [\"deliver\", to, from], [\"states\"], [\"report\"], [\"strike\", set], [\"recover\"], [\"dump\", set], [\"run\", plan], and in version 2 [\"checkpoint\", member]")]
     Any,
 }
+
+impl CommandForm {
+    /// The form in words.
+    pub(crate) fn words(self) -> &'static str {
+        match self {
+            CommandForm::Deliver => "[\"deliver\", to, from]: members 0 to 15",
+            CommandForm::States => "[\"states\"]",
+            CommandForm::Report => "[\"report\"]",
+            CommandForm::Strike => "[\"strike\", set]: a list of members 0 to 15",
+            CommandForm::Recover => "[\"recover\"]",
+            CommandForm::Dump => "[\"dump\", set]: a list of members 0 to 15",
+            CommandForm::Run =>
+                "[\"run\", plan]: a list of [at, set], each a number 0 to 4294967295 and a list of members 0 to 15",
+            CommandForm::Checkpoint => "[\"checkpoint\", member]: 0 to 15",
+            CommandForm::NoCheckpoint => "a command of version 1: a checkpoint is one of version 2",
+            CommandForm::Any =>
+                "one of [\"deliver\", to, from], [\"states\"], [\"report\"], [\"strike\", set], [\"recover\"], [\"dump\", set], [\"run\", plan], and in version 2 [\"checkpoint\", member]",
+        }
+    }
+}
+
+impl fmt::Display for CommandForm {
+    fn fmt<W: fmt::Write>(&self, f: &mut fmt::Formatter<W>) -> fmt::Result {
+        f.write_str(self.words())
+    }
+}
+
+impl std::error::Error for CommandForm {}
 
 /// The first fault of an input. The faults are tested in the order of `RunFault`.
 #[derive(Debug, Drop)]

@@ -1,5 +1,5 @@
 use Rattle.fbl_input.proofs.Common.{◌++◌, ◌∙◌, ap, drop, map, option_map, ◌+◌, view, all_shaped}
-use Rattle.fbl_input.proofs.Firsts.{one_more, read_more}
+use Rattle.fbl_input.proofs.Firsts.{none_read, one_more, read_more}
 use Rattle.fbl_input.proofs.shapes.all_in.Goals as goal
 
 pub loop-place-preserved : goal.loop-place-preserved
@@ -13,3 +13,7 @@ loop-place-preserved g c =
           ∙ read_more view g.S.JsonShape.shape list i item c.in-Some.one c.loop-place.all.items _ within is c.in-Some.ensures c.loop-place.invariant.0,
       one_more view g.S.JsonShape.shape list i item c.in-Some.one within is c.in-Some.ensures c.loop-place.invariant.1,
     )
+
+pub returns-in-None-clause-exact : goal.returns-in-None-clause-exact
+returns-in-None-clause-exact g c =
+    none_read view g.S.JsonShape.shape c.args.list.now c.loop-place.place c.index-list-place.result c.loop-place.all.items _ c.loop-place-test.true c.index-list-place.is c.in-None.ensures c.loop-place.invariant.0
