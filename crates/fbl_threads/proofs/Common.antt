@@ -1,8 +1,7 @@
 -- The names that proofs of this crate take from outside: of the standard library, of the crates below, and of the definitions here.
 pub use Rattle.std.proofs.Common.{Bool, List, None, Option, Some, [], ap, append-nil, arith, cond, eq-eqb, eqb, false, filter, find, get_or, get_or-set_other, get_or-set_same, inl, inr}
-pub use Rattle.std.proofs.Common.{length-append, not, ◌≢◌}
+pub use Rattle.std.proofs.Common.{length-append, not, ◌≢◌, ◌==◌, ◌||◌, ◌↔◌, ◌∙◌, ◌∷◌, ◌≡◌, ◌≤◌, ◌⊎◌}
 pub use Rattle.std.proofs.Common.{length, length-set, map, ne_eqb, option_map, refl, rules, set, slice_index, subst, suc, sum, sym, take, true, true≢false, zero, ℕ, ◌++◌, ◌+◌, ◌<◌}
-pub use Rattle.std.proofs.Common.{◌==◌, ◌||◌, ◌↔◌, ◌∙◌, ◌∷◌, ◌≡◌, ◌≤◌, ◌⊎◌}
 pub use Rattle.std.proofs.Math.ListN.{replicate}
 pub use Rattle.std.proofs.Math.Logic.{∥∥₁_elim, ∥∥₁_map}
 pub use Rattle.std.proofs.lemmas.Bool.{cases_eq, cases_lt}
@@ -54,7 +53,7 @@ pub use Rattle.fbl_threads.specs.Plans.{is_named, struck_at}
 pub use Rattle.fbl_threads.specs.Recorded.{IsReceiptRecord, IsRecordedAs, ReachedBy, RecordedTurnsLead, TellsCounts, crash_undid, made_by, undone_in, undone_of}
 pub use Rattle.fbl_threads.specs.Recorded.ReachedBy.{begins, goes_on}
 pub use Rattle.fbl_threads.specs.Recorders.{CountsRefusal, CrashesAs, IsAdded, ReachedAs, TurnAs, recorded, with_record}
-pub use Rattle.fbl_threads.specs.Runs.{Counts, Reached, Turn, commits_one, lacks_memory, meets_full, more_at, nothing_done, undoes}
+pub use Rattle.fbl_threads.specs.Runs.{Counts, Reached, Turn, commits_one, more_at, nothing_done, undoes}
 pub use Rattle.fbl_threads.specs.Runs.Reached.{starts, turns}
 pub use Rattle.fbl_threads.specs.Runs.Turn.{commits, crashes, is_full, is_late, strikes, wants}
 pub use Rattle.fbl_threads.specs.Stages.{IsOf}

@@ -1,5 +1,5 @@
 -- Turns that are recorded lead from one group to the other.
-use Rattle.fbl_threads.proofs.Common.{◌≡◌, ℕ, ◌∷◌, ◌++◌, [], Bool, List, Some, refl, subst, append-nil, Next, Strike, GroupRecord, Members, Ticket, Counts, Recovered, RecoveryRecord}
+use Rattle.fbl_threads.proofs.Common.{ℕ, ◌∷◌, ◌++◌, [], Bool, List, Some, refl, subst, append-nil, Next, Strike, GroupRecord, Members, Ticket, Counts, Recovered, RecoveryRecord}
 use Rattle.fbl_threads.proofs.Common.{Turn, commits, crashes, strikes, TurnRecord, IsPlannedCrash, IsRecordedAs, IsRecoveryRecord, begins, goes_on, RecordedTurnsLead, StrikeLeads, TurnLeads, TurnsLead}
 
 module _ {S N : Type 0} where

@@ -1,7 +1,7 @@
 -- Turns that are recorded.
-use Rattle.fbl_threads.proofs.Common.{◌≡◌, ℕ, ◌<◌, ◌⊎◌, ◌∙◌, ◌∷◌, [], Bool, true, false, List, Option, Some, None, refl, sym, subst, ap, inl, inr, cond, length, append-nil}
+use Rattle.fbl_threads.proofs.Common.{◌≡◌, ℕ, ◌<◌, ◌∙◌, ◌∷◌, [], Bool, true, false, List, Option, Some, None, refl, sym, subst, ap, inl, inr, cond, length, append-nil}
 use Rattle.fbl_threads.proofs.Common.{is_none, is_some, not, ∥∥₁_map, Next, Members, Strike, GroupRecord, member}
-use Rattle.fbl_threads.proofs.Common.{Ticket, CommitRefusal, Full, Memory, Stale, Down, RefusesCommit, struck_at, Counts, Commits, more_at, commits_one, undoes, meets_full, lacks_memory}
+use Rattle.fbl_threads.proofs.Common.{Ticket, CommitRefusal, Full, Memory, Stale, Down, RefusesCommit, struck_at, Counts, Commits, more_at, commits_one, undoes}
 use Rattle.fbl_threads.proofs.Common.{Turn, commits, crashes, strikes, is_full, wants, is_late, Reached, starts, turns, nothing_done}
 use Rattle.fbl_threads.proofs.Common.{TurnRecord, CrashRecord, RecoveryRecord, IsReceiptRecord, IsRecordedAs, ReachedBy, begins, goes_on, ReachedAs, TurnAs, IsAdded, CountsRefusal, CrashesAs, with_record}
 

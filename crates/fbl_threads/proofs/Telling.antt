@@ -1,5 +1,5 @@
 -- The counts of a run that is recorded are those of its list.
-use Rattle.fbl_threads.proofs.Common.{◌≡◌, ◌≢◌, ℕ, ◌+◌, ◌<◌, ◌==◌, ◌∙◌, ◌∷◌, ◌++◌, [], cond, List, refl, sym, ap, arith, inl, inr, length, length-append}
+use Rattle.fbl_threads.proofs.Common.{◌≡◌, ◌≢◌, ℕ, ◌+◌, ◌<◌, ◌==◌, ◌∙◌, ◌∷◌, ◌++◌, [], cond, List, sym, ap, arith, inl, inr, length, length-append}
 use Rattle.fbl_threads.proofs.Common.{append-nil, nat_tests, option_map, slice_index, get_or-set_same, get_or-set_other, sum, sum_by_push, sum_by-replicate}
 use Rattle.fbl_threads.proofs.Common.{cases_eq, get_or-same, At-push, ⊎_elim, Next, Strike, GroupRecord, struck_at, Counts, more_at, commits, crashes, strikes}
 use Rattle.fbl_threads.proofs.Common.{TurnRecord, CrashRecord, ReachedBy, TellsCounts, begins, goes_on, made_by, undone_of, undone_in, crash_undid, Keeps, Recovered}

@@ -12,6 +12,12 @@ add-requires-clause-fits g c =
     let d = c.in_default.ensures.committed.1.1.2.delivery in
     omega (arith, at-within c.args.counted.now.by_worker.items c.args.worker c.requires.places.0, c.requires.counted.0, d.receipts_ever, c.receipts_ever-ever.ensures, c.receipts_ever-ever.type_inv)
 
+pub keep-requires : goal.keep-requires
+keep-requires g c = c.in_default.ensures.room
+
+pub crash-recovery-requires-clause-counted : goal.crash-recovery-requires-clause-counted
+crash-recovery-requires-clause-counted g c = omega (arith, c.requires.counted.1, c.in_default.ensures.committed.1.1.2.delivery.undone_ever)
+
 pub returns-in_default-planned : goal.returns-in_default-planned
 returns-in_default-planned g c = record {
   turn =
