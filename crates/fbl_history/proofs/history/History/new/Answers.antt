@@ -20,7 +20,7 @@ loop-start-preserved c =
     record {
       so_many = omega (arith, c.in_ok-push.ensures.len, so_far.so_many);
       made = rw (take_more starts c.loop-start.start-index start c.loop-start-test.true, ← c.start-item.is, start_events-push [] before start, filter_map-append)
-      (c.in_ok-push.ensures.items ∙ (λ i. so_far.made i ++ Send start.from (number i + 1) start.to false ∷ []));
+          (c.in_ok-push.ensures.items ∙ (λ i. so_far.made i ++ Send start.from (number i + 1) start.to false ∷ []));
     }
 
 pub invariant_of-result : goal.invariant_of-result
