@@ -20,17 +20,16 @@ pub count-kinds : (columns : List Column) → receipts_made columns ≡ receipts
 count-kinds [] = refl
 count-kinds (c ∷ columns) =
     grind (arith, kind c, count-kinds columns, count-cons is_receipt c columns, count-cons is_receipt c (standing columns), count-cons is_undone_receipt c columns) where
-  kind : (c : Column) → cond (is_receipt c) 1 0 ≡ cond (is_standing c) (cond (is_receipt c) 1 0) 0 + cond (is_undone_receipt c) 1 0
-  kind (Receipt p r q k s undone) = grind arith
-  kind (Send q k p undone) = grind arith
-  kind _ = refl
+      kind : (c : Column) → cond (is_receipt c) 1 0 ≡ cond (is_standing c) (cond (is_receipt c) 1 0) 0 + cond (is_undone_receipt c) 1 0
+      kind (Receipt p r q k s undone) = grind arith
+      kind (Send q k p undone) = grind arith
+      kind _ = refl
 
 -- columns whose standing events are the trace of a sound group count its receipts that were undone where they count those that it made
 pub counted_from : (next : Next ℕ Note) (r : GroupRecord ℕ Note) (columns : List Column) → IsSound next r → standing columns ≡ trace_columns next r
     → receipts_made columns ≡ r.receipts_ever → IsHistoryOf next r columns
 counted_from next r columns sound stand made =
-    let left = ap receipts_made stand ∙ count-trace next r.config.members r.trace r.trace in
-    record { standing = stand; counted = (made, omega (arith, made, left, count-kinds columns, sound.counted)) }
+    record { standing = stand; counted = (made, omega (arith, made, ap receipts_made stand ∙ count-trace next r.config.members r.trace r.trace, count-kinds columns, sound.counted)) }
 
 pub made-append : (columns more : List Column) → receipts_made (columns ++ more) ≡ receipts_made columns + receipts_made more
 made-append columns more = sum_by-append (λ c. cond (is_receipt c) 1 0) columns more

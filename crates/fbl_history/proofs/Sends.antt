@@ -2,7 +2,7 @@
 use Rattle.fbl_base.specs.declared.trace.Note.{Note}
 use Rattle.fbl_base.specs.declared.trace.Event.TheVariants as event
 use Rattle.fbl_base.specs.declared.trace.Mark.TheVariants as mark
-use Rattle.fbl_history.proofs.Common.{◌≡◌, ◌⊎◌, ◌<◌, ◌==◌, ◌&&◌, ℕ, zero, suc, Bool, true, false, inl, inr, List, [], ◌∷◌, ◌++◌, length, get_or, Some, slice_get, subst, refl, ap, sym, ◌∙◌, arith, nat_tests, At-below, At-front, At-push}
+use Rattle.fbl_history.proofs.Common.{◌≡◌, ◌⊎◌, ◌<◌, ◌==◌, ◌&&◌, ℕ, zero, suc, Bool, true, false, inl, inr, List, [], ◌∷◌, ◌++◌, length, get_or, Some, slice_get, refl, ap, sym, ◌∙◌, arith, nat_tests, At-below, At-front, At-push}
 use Rattle.fbl_history.proofs.Common.{Event, mark_of, Next, GroupRecord, marks, IsSound, eqb-self, filter_map, send_column, mark-at, send-at, sent-before, map-At, slice_get-map, slice_get-get_or, option_map}
 use Rattle.fbl_history.proofs.Common.{Column, Send, Receipt, ReceiptsFollowSends, column_then, event_column, get_or_from_slice_get, go_on, go_on_to, is_next, is_receipt, trace_columns, trace_then, undo}
 use Rattle.std.proofs.lemmas.List.Sums.{fails_before_first, passes_at_first}
@@ -127,4 +127,4 @@ untruncated columns follow place to rsn from ssn state undone at =
     grind (arith, nat_tests, fails_before_first test columns sent.0 (Send from ssn to false), get_or_from_slice_get columns sent.0 _ (Send from ssn to false) sent.3, sent.1, passes))) in
     let below : first < length columns = omega (arith, before, At-below columns place (Receipt to rsn from ssn state undone) at) in
     let is = sends-it from ssn to (get_or columns first (Send from ssn to false)) (passes_at_first test columns (Send from ssn to false) below) in
-    (first, before, is.0, subst (λ c. slice_get columns first ≡ Some c) is.1 (slice_get-get_or columns first (Send from ssn to false) below))
+    (first, before, is.0, rw is.1 at (slice_get-get_or columns first (Send from ssn to false) below))

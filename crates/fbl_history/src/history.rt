@@ -132,7 +132,6 @@ impl History {
     }
 
     /// The history with one more column, which is of no receipt.
-    #[tactic(auto, using(crate::proofs::Sends::follow_push))]
     fn with(self, column: Column) -> Result<History, AllocError>
         requires { is_receipt column ≡ false }
         ensures { IfOk result (λ history. history ≡ self ++ column ∷ []) }

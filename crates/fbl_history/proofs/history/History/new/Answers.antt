@@ -1,5 +1,5 @@
 use Rattle.fbl_history.proofs.Common.{[], ap, arith, filter_map-append, length, map, mark_of, sends_of, start_columns, start_events, take, take_all, take_more, ◌+◌, ◌++◌, ◌∙◌, ◌∷◌, ◌≡◌}
-use Rattle.fbl_history.proofs.Common.{Send, count_by, false, is_sent_by}
+use Rattle.fbl_history.proofs.Common.{ReceiptsFollowSends, Send, count_by, false, is_sent_by, subst, sym}
 use Rattle.fbl_history.proofs.Counting.{count_sent}
 use Rattle.fbl_history.proofs.Sends.{follow_sends}
 use Rattle.fbl_history.proofs.Steps.{start_events-push}
@@ -20,11 +20,12 @@ loop-start-preserved c =
     record {
       so_many = omega (arith, c.in_ok-push.ensures.len, so_far.so_many);
       made = rw (take_more starts c.loop-start.start-index start c.loop-start-test.true, ← c.start-item.is, start_events-push [] before start, filter_map-append)
-      (c.in_ok-push.ensures.items ∙ (λ i. so_far.made i ++ Send start.from (number i + 1) start.to false ∷ []));
+          (c.in_ok-push.ensures.items ∙ (λ i. so_far.made i ++ Send start.from (number i + 1) start.to false ∷ []));
     }
 
 pub invariant_of-result : goal.invariant_of-result
-invariant_of-result c = rw c.loop-start.invariant.made (follow_sends (start_events [] (take c.loop-start.start-index c.starts-start-items.result.now)))
+invariant_of-result c =
+    subst ReceiptsFollowSends (sym c.loop-start.invariant.made) (follow_sends (start_events [] (take c.loop-start.start-index c.starts-start-items.result.now)))
 
 pub returns : goal.returns
 returns c =

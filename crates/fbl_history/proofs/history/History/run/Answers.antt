@@ -1,4 +1,4 @@
-use Rattle.fbl_history.proofs.Common.{ap, arith, slice_get-get_or, sym, take, take_all, take_more, IsAfterTurns, Some, ◌∙◌}
+use Rattle.fbl_history.proofs.Common.{ap, arith, slice_get-get_or, subst, sym, take, take_all, take_more, IsAfterTurns, Some, ◌∙◌}
 use Rattle.fbl_history.proofs.Turning.{after_more, crash_led, history_led, sends_led}
 use Rattle.fbl_history.proofs.history.History.run.Goals as goal
 use Rattle.fbl_history.proofs.history.History.run.Goals.{After-loop-turn}
@@ -21,7 +21,12 @@ loop-turn-preserved g c =
 -- at the end these are the columns after all turns
 all : (g : Over) (c : After-loop-turn g) → IsAfterTurns g.B.Behaviour.next c.args.group.now c.args.turns.now c.args.self c.loop-turn.columns.items
 all g c =
-    rw (take_all c.loop-turn.turn-index c.args.turns.now (omega (arith, c.loop-turn-test.false)), c.self.view_is) at c.loop-turn.invariant
+    let turns = c.args.turns.now in
+    let next = g.B.Behaviour.next in
+    let group = c.args.group.now in
+    let columns = c.loop-turn.columns.items in
+    subst (λ ts. IsAfterTurns next group ts c.args.self columns) (take_all c.loop-turn.turn-index turns (omega (arith, c.loop-turn-test.false)))
+    (subst (λ xs. IsAfterTurns next group (take c.loop-turn.turn-index turns) xs columns) c.self.view_is c.loop-turn.invariant)
 
 pub invariant_of-result : goal.invariant_of-result
 invariant_of-result g c =
