@@ -1,16 +1,18 @@
 -- What the last moment is: it obeys the rules of dumps, and who is an orphan there.
 use Rattle.fbl_moments.proofs.Common.{ℕ, zero, suc, Bool, true, false, ◌≡◌, ◌==◌, ◌<◌, ◌≤◌, ◌+◌, ◌↔◌, inl, inr, List, [], ◌∷◌, length, take, Some, slice_get, refl, sym, ap, subst, ◌∙◌, arith}
 use Rattle.fbl_moments.proofs.Common.{cases_eq, false≢true, nat_tests, filter_map, filter_map-At, Determinant, Send, Receipt, receipt_of, Members, contains-union}
-use Rattle.fbl_moments.proofs.Common.{Entry, Event, Hold, Store, entry_member, log_of, mark_in, at, DependsAt, IsReceiptAt, LosesAt, IsOrphanAt}
+use Rattle.fbl_moments.proofs.Common.{Entry, Event, Hold, Store, log_of, mark_in, at, DependsAt, IsReceiptAt, LosesAt, IsOrphanAt}
 use Rattle.std.specs.FinSet as set
 use Rattle.std.specs.Cmp.{nat_cmp_total}
 use Rattle.fbl_base.proofs.Sets.{len-remove_one, some_member}
 use Rattle.fbl_base.specs.Audit.{HeldAt, IsDump}
-use Rattle.fbl_moments.specs.Clocks.{StandsAt, seen}
+use Rattle.fbl_moments.specs.declared.clocks.Advance.{Advance}
+use Rattle.fbl_moments.specs.Clocks.{IsAdvance, seen}
 use Rattle.fbl_moments.specs.Entries.{receipt_in}
 use Rattle.fbl_moments.specs.Lawful.{records}
 use Rattle.fbl_moments.specs.LastMoments.{dump_of, last_of, pair_in}
 use Rattle.fbl_moments.specs.Logs.{IsLog, LogParts, run_of}
+use Rattle.fbl_moments.proofs.HistoryLaws.{advance_stands}
 use Rattle.fbl_moments.proofs.Listing.{locate_all, placed, stands_at}
 
 -- ---- the dump
@@ -67,11 +69,11 @@ receipt_is (Hold q d') d is = cc
 receipt_is (Store q d') d is = cc
 
 -- the receipt stands at the number that the history has of its place
-pub receipt_at : (entries : List Entry) (p : ℕ) (e : Entry) (d : Determinant) (number : ℕ) → slice_get entries p ≡ Some e → receipt_in e ≡ Some d
-    → ((e : Entry) → slice_get entries p ≡ Some e → StandsAt entries p (at (entry_member e) number)) → IsReceiptAt (log_of entries) d (at d.to number)
-receipt_at entries p e d number here receipt stands =
+pub receipt_at : (entries : List Entry) (p : ℕ) (e : Entry) (d : Determinant) (advance : Advance) → slice_get entries p ≡ Some e → receipt_in e ≡ Some d → IsAdvance entries p advance
+    → IsReceiptAt (log_of entries) d (at d.to advance.number)
+receipt_at entries p e d advance here receipt is =
     let there : slice_get entries p ≡ Some (Event (receipt_of d)) = here ∙ ap Some (receipt_is e d receipt) in
-    stands_at entries p (at d.to number) (Event (receipt_of d)) (stands (Event (receipt_of d)) there) there
+    stands_at entries p (at d.to advance.number) (Event (receipt_of d)) (advance_stands entries p (Event (receipt_of d)) advance is there) there
 
 one_receipt : (d d' : Determinant) → Event (receipt_of d) ≡ Event (receipt_of d') → d ≡ d'
 one_receipt d d' same = (let some : Some d ≡ Some d' = ap receipt_in same in cc)

@@ -1,8 +1,8 @@
 -- Paths among the sends and receipts as paths among all entries.
-use Rattle.fbl_moments.proofs.Common.{ℕ, zero, suc, ◌≡◌, ◌<◌, inl, inr, List, [], ◌∷◌, length, take, Some, slice_get, refl, sym, ap, subst, ◌∙◌, arith}
+use Rattle.fbl_moments.proofs.Common.{ℕ, zero, suc, ◌≡◌, ◌<◌, inl, inr, List, [], ◌∷◌, length, take, Option, Some, None, slice_get, refl, sym, ap, subst, ◌∙◌, arith}
 use Rattle.fbl_moments.proofs.Common.{cases_order, filter_map-At, slice_get_within, Determinant, Mark, WellFormed, member_of, receipt_of}
 use Rattle.fbl_moments.proofs.Common.{Entry, Event, Hold, Store, entry_member, log_of, mark_in, marks, IsAt, Position, Precedes, at, IsReceiptAt}
-use Rattle.std.proofs.Common.{map, slice_index}
+use Rattle.std.proofs.Common.{Global, IfNone, IfSome, Vec, map, slice_index, unwrap_or}
 use Rattle.std.proofs.lemmas.Option.{slice_get-get_or}
 use Rattle.fbl_base.proofs.PrecedenceLaws.{events-from_places, places-from_events}
 use Rattle.fbl_base.specs.Events.{At}
@@ -174,7 +174,7 @@ module _ (log : LogParts) (n : ℕ) (lawful : WellFormed n (marks log.entries)) 
       places-from_events n (marks es) lawful i (receipt_of d) at_i (events_before es said.place) (receipt_of r.0) (event_number es said.place (receipt_of r.0) r.1)
       (marks_precede n es lawful (receipt_of d) (receipt_of r.0) depends.1 r.3 depends.2)
 
-  pub depends_place : (i : ℕ) → At (marks es) i (receipt_of d) → base.DependsOnPlace (marks es) j.member i
+  depends_place : (i : ℕ) → At (marks es) i (receipt_of d) → base.DependsOnPlace (marks es) j.member i
   depends_place i at_i = (let r = said_receipt in (events_before es said.place, receipt_of r.0, precedes i at_i, event_number es said.place (receipt_of r.0) r.1, r.2))
 
   -- so the first event of its member that depends on the receipt is this one
@@ -205,6 +205,9 @@ module _ (log : LogParts) (n : ℕ) (lawful : WellFormed n (marks log.entries)) 
           let own = subst P first.own.2 (path, later) in
           says.dependent.first (seen es p.0 j.member) (let lt = own.1 in let n = stands.3 in omega (arith, lt, n)) (depends.0, depends.1, own.0)
 
-  -- a path to the member is one to what is said
-  pub found_path : (i : ℕ) → At (marks es) i (receipt_of d) → (path : List ℕ) → audit.IsPathTo (record { events = marks es; place = i }) j.member path → IsEventPath es d said.place path
-  found_path i at_i path found = (i, found.0, at_i, end_is i found.0 at_i found.1, found.2)
+  -- the path that is found to the member is one to what is said, and there is one
+  pub found_path : (i : ℕ) → At (marks es) i (receipt_of d) → (member : ℕ) → member ≡ j.member → (found : Option (Vec ℕ Global))
+      → IfSome found (λ path. audit.IsPathTo (record { events = marks es; place = i }) member path.items) → IfNone found (¬ (base.DependsOnPlace (marks es) member i))
+      → (other : Vec ℕ Global) → IsEventPath es d said.place (unwrap_or found other).items
+  found_path i at_i member own None some none other = absurd (none (subst (λ (m : ℕ). base.DependsOnPlace (marks es) m i) (sym own) (depends_place i at_i)))
+  found_path i at_i member own (Some path) some none other = (i, some.0, at_i, end_is i some.0 at_i (subst (λ (m : ℕ). audit.IsFirstDependent (marks es) i m some.0) own some.1), some.2)

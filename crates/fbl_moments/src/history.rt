@@ -1,14 +1,16 @@
 //! Which entries of a run precede which.
 
-ghost use Rattle.std.specs.Prelude.{◌≡◌, ◌<◌, ◌+◌, ◌≤◌, ◌↔◌, ℕ, true, IfOk, MatchOption, Some, length, slice_get};
+ghost use Rattle.std.specs.Prelude.{◌≡◌, ◌<◌, ◌+◌, ◌≤◌, ◌↔◌, ℕ, true, IfOk, MatchOption, length};
 ghost use Rattle.std.specs.FinSet as set;
 ghost use Rattle.fbl_moments.specs.Clocks.{IsAdvance, IsClock, PrecedesSome, StandsAt, cut_of};
-ghost use Rattle.fbl_moments.specs.Entries.{entry_member, log_of};
+ghost use Rattle.fbl_moments.specs.Entries.{log_of};
 ghost use Rattle.fbl_moments.specs.HappenedBefore.{Position, Precedes, at};
 ghost use Rattle.fbl_moments.specs.Histories.{IsFirstAfter, IsLeastMomentOfReceipt};
+ghost use Rattle.fbl_moments.specs.Logs.{IsLog};
 
 use crate::clock::Clock;
 use crate::clocks::{Advance, Clocks};
+use crate::entry::Entry;
 use crate::index::Index;
 use crate::log::RunLog;
 use fbl_base::{Member, MemberSet};
@@ -70,28 +72,20 @@ impl<'a> History<'a> {
         self.log
     }
 
+    /// The log's entries, as they are listed.
+    pub(crate) fn entries(&self) -> &'a [Entry]
+        ensures entries { result.now ≡ self.now.entries }
+        ensures rules { IsLog self.now }
+    {
+        self.log.entries()
+    }
+
     /// What a pass over the entries knows of the entry at the place.
-    fn advance(&self, place: usize) -> &Advance
+    pub(crate) fn advance(&self, place: usize) -> &Advance
         requires { place < length self.now.entries }
         ensures { IsAdvance self.now.entries place result.now }
     {
         &self.advances[place]
-    }
-
-    /// The member in whose log the entry at the place stands.
-    pub(crate) fn member(&self, place: usize) -> Member
-        requires { place < length self.now.entries }
-        ensures { (e : _) → slice_get self.now.entries place ≡ Some e → result ≡ entry_member e }
-    {
-        self.advance(place).member
-    }
-
-    /// The number of the entry at the place in its member's log.
-    pub(crate) fn number(&self, place: usize) -> usize
-        requires { place < length self.now.entries }
-        ensures { (e : _) → slice_get self.now.entries place ≡ Some e → StandsAt self.now.entries place (at (entry_member e) result) }
-    {
-        self.advance(place).number
     }
 
     /// The entries' index.

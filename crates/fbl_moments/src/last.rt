@@ -79,20 +79,19 @@ fn loses(history: &History<'_>, determinant: &Determinant, moment: &Clock) -> bo
 fn audit_of(alloc: Global, history: &History<'_>) -> Result<LogAudit, AllocError>
     ensures { IfOk result (IsLogAudit history.now) }
 {
-    let log = history.log();
     let last = history.index().last();
     let mut lost = Vec::new(alloc);
     let mut dependents = MemberSet::empty();
-    for (place, entry) in log.entries().iter().enumerate() {
+    for (place, entry) in history.entries().iter().enumerate() {
         if let Some(determinant) = entry.receipt() {
             if loses(history, &determinant, &last) {
                 lost.push(determinant)?;
-                let reached = history.reached(determinant.to, history.number(place), &last);
+                let reached = history.reached(determinant.to, history.advance(place).number, &last);
                 dependents = dependents.union(reached);
             }
         }
     }
-    let orphans = dependents.without(log.strike());
+    let orphans = dependents.without(history.log().strike());
     Ok(LogAudit { lost, orphans })
 }
 

@@ -50,8 +50,10 @@ fn records(entry: &Entry, determinant: &Determinant) -> bool
 fn next_place(history: &History<'_>, determinant: &Determinant, moment: &Clock) -> Option<usize>
     ensures { IsNextPlace history.now.entries (cut_of moment.now) determinant.now result }
 {
-    for (place, entry) in history.log().entries().iter().enumerate() {
-        if records(entry, determinant) && history.number(place) >= moment.count(entry.member()) {
+    for (place, entry) in history.entries().iter().enumerate() {
+        if records(entry, determinant)
+            && history.advance(place).number >= moment.count(entry.member())
+        {
             return Some(place);
         }
     }
@@ -91,10 +93,14 @@ fn event_path(
     requires said { IsSaidOf history.now said.now.determinant said.now }
     ensures { IfOk result (λ path. IsEventPath history.now.entries said.now.determinant said.now.place path.items) }
 {
-    let member = history.member(said.place);
-    let place = receipt_place(audit.dump().events(), &said.determinant).unwrap();
-    let path = Paths::of(audit, place).to(alloc, member)?;
-    Ok(path.unwrap())
+    let path = match receipt_place(audit.dump().events(), &said.determinant) {
+        Some(place) => {
+            let member = history.advance(said.place).member;
+            Paths::of(audit, place).to(alloc, member)?
+        }
+        None => None,
+    };
+    Ok(path.unwrap_or(Vec::new(alloc)))
 }
 
 /// The path whose places among the sends and receipts are these, where those stand at these places.
@@ -121,7 +127,7 @@ fn path_to(
     ensures { IfOk result (λ path. IsPathFrom history.now.entries said.now.determinant said.now.place path.items) }
 {
     let path = event_path(alloc, history, audit, said)?;
-    let places = event_places(alloc, history.log().entries())?;
+    let places = event_places(alloc, history.entries())?;
     among_entries(alloc, places.as_slice(), path.as_slice())
 }
 

@@ -1,19 +1,11 @@
-use Rattle.fbl_moments.proofs.Common.{arith, ap, ◌≡◌, ◌∙◌, ◌≤◌, subst, [], ◌∷◌, inl, inr, refl, append-nil, append_assoc, List, Entry, length, Some, slice_get, slice_get_read}
+use Rattle.fbl_moments.proofs.Common.{arith, ap, ◌≡◌, ◌≤◌, subst, [], ◌∷◌, inl, inr, refl, append-nil, append_assoc, List, Entry, length, Some, slice_get, slice_get_read}
 use Rattle.std.proofs.lemmas.List.{drop_all}
 use Rattle.fbl_base.proofs.Gets.{drop_next}
-use Rattle.fbl_moments.specs.Logs.{IsLog, LogParts}
 use Rattle.fbl_moments.proofs.UnsafeLaws.{says_safe}
 use Rattle.fbl_moments.proofs.check.moments_of.Goals as goal
-use Rattle.fbl_moments.proofs.check.moments_of.Goals.{After-entries-entry-items}
-
-rules : (c : After-entries-entry-items) → IsLog c.args.history.now
-rules c = subst IsLog c.log.ensures c.entries-entry-items.ensures.rules
-
-listed : (c : After-entries-entry-items) → c.entries-entry-items.result.now ≡ c.args.history.now.entries
-listed c = c.entries-entry-items.ensures.entries ∙ ap (λ (log : LogParts). log.entries) c.log.ensures
 
 pub unsafe_moment-requires : goal.unsafe_moment-requires
-unsafe_moment-requires c = rules (goal.at.unsafe_moment-requires c).After-entries-entry-items
+unsafe_moment-requires c = c.entries-entry-items.ensures.rules
 
 pub loop-entry-init : goal.loop-entry-init
 loop-entry-init c rest says = rw c.new-moments.ensures.items says
@@ -22,7 +14,7 @@ pub loop-entry-preserved : goal.loop-entry-preserved
 loop-entry-preserved c rest says =
     let es = c.args.history.now.entries in
     let k = c.loop-entry.entry-index in
-    let here : slice_get es k ≡ Some c.entry-item.result = subst (λ (es : List Entry). slice_get es k ≡ Some c.entry-item.result) (listed (goal.at.loop-entry-preserved c).After-entries-entry-items)
+    let here : slice_get es k ≡ Some c.entry-item.result = subst (λ (es : List Entry). slice_get es k ≡ Some c.entry-item.result) c.entries-entry-items.ensures.entries
     (slice_get_read c.entries-entry-items.result.now (length c.entries-entry-items.result.now) k c.entry-item.result refl c.loop-entry-test.true c.entry-item.is) in
     let next = drop_next es k c.entry-item.result here in
     let so_far = (rw next at c.loop-entry.invariant) in
@@ -36,12 +28,12 @@ loop-entry-preserved c rest says =
 pub returns-clause-said : goal.returns-clause-said
 returns-clause-said c =
     let es = c.args.history.now.entries in
-    let all : length es ≤ c.loop-entry.entry-index = (let same = ap (λ (es : List Entry). length es) (listed (goal.at.returns-clause-said c).After-entries-entry-items) in let t = c.loop-entry-test.false in omega (arith, same, t)) in
+    let all : length es ≤ c.loop-entry.entry-index = (let same = ap (λ (es : List Entry). length es) c.entries-entry-items.ensures.entries in let t = c.loop-entry-test.false in omega (arith, same, t)) in
     let none = drop_all c.loop-entry.entry-index es all in
     let said = c.loop-entry.invariant [] (rw none refl) in
     (rw append-nil at said)
 
 pub returns-clause-safe : goal.returns-clause-safe
 returns-clause-safe c =
-    let is = rules (goal.at.returns-clause-safe c).After-entries-entry-items in
+    let is = c.entries-entry-items.ensures.rules in
     says_safe c.args.history.now is.lawful is.strike c.loop-entry.moments.items (returns-clause-said c)

@@ -4,17 +4,11 @@ use Rattle.fbl_base.proofs.Gets.{drop_next}
 use Rattle.std.specs.FinSet as set
 use Rattle.fbl_moments.specs.Clocks.{PrecedesSome, cut_of}
 use Rattle.fbl_moments.specs.LastMoments.{last_of}
-use Rattle.fbl_moments.specs.Logs.{IsLog, LogParts, run_of}
+use Rattle.fbl_moments.specs.Logs.{LogParts, run_of}
 use Rattle.fbl_moments.proofs.Audits.{more_dependents, none_dependent, orphans, receipt_at, same_dependents}
 use Rattle.fbl_moments.proofs.UnsafeLaws.{dependents_at}
 use Rattle.fbl_moments.proofs.last.audit_of.Goals as goal
 use Rattle.fbl_moments.proofs.last.audit_of.Goals.{After-entries-entry-items, in-Some+then-loses+in_ok-push, in-Some+else-loses, in_default}
-
-rules : (c : After-entries-entry-items) → IsLog c.args.history.now
-rules c = subst IsLog c.log-log.ensures c.entries-entry-items.ensures.rules
-
-listed : (c : After-entries-entry-items) → c.entries-entry-items.result.now ≡ c.args.history.now.entries
-listed c = c.entries-entry-items.ensures.entries ∙ ap (λ (log : LogParts). log.entries) c.log-log.ensures
 
 last : (c : After-entries-entry-items) → cut_of c.last-last.result ≡ last_of c.args.history.now.entries
 last c = (let each = λ (q : ℕ). c.last-last.ensures q ∙ ap (λ (es : List Entry). length (log_of es q)) c.index.ensures in λ i q. each q i)
@@ -31,7 +25,7 @@ loop-place-preserved c =
     let log = c.args.history.now in
     let k = c.loop-place.place in
     let e = c.entry-item.result in
-    let here : slice_get log.entries k ≡ Some e = subst (λ (es : List Entry). slice_get es k ≡ Some e) (listed c2)
+    let here : slice_get log.entries k ≡ Some e = subst (λ (es : List Entry). slice_get es k ≡ Some e) c.entries-entry-items.ensures.entries
     (slice_get_read c.entries-entry-items.result.now (length c.entries-entry-items.result.now) k e refl c.loop-place-test.true c.entry-item.is) in
     let next = drop_next log.entries k e here in
     let so_far = (rw next at c.loop-place.invariant.lost) in
@@ -39,9 +33,9 @@ loop-place-preserved c =
       | in-Some+then-loses+in_ok-push w ↦
           let d = w.in-Some.determinant in
           let lost : LosesAt (run_of log) (last_of log.entries) log.strike d = subst (λ (cut : Cut). LosesAt (run_of log) cut log.strike d) (last c2) (w.loses.ensures.0 w.if-loses.true) in
-          let receipt = receipt_at log.entries k e d w.number.result here (sym w.in-Some.ensures) w.number.ensures in
-          let depend = dependents_at log (rules c2).lawful (rules c2).strike d (at d.to w.number.result) receipt (last_of log.entries) w.reached-reached.result
-          (subst (λ (cut : Cut). (q : ℕ) → (set.contains w.reached-reached.result q ≡ true) ↔ PrecedesSome (log_of log.entries) (at d.to w.number.result) q (cut q)) (last c2) w.reached-reached.ensures) in
+          let receipt = receipt_at log.entries k e d w.advance.result.now here (sym w.in-Some.ensures) w.advance.ensures in
+          let depend = dependents_at log c.entries-entry-items.ensures.rules.lawful c.entries-entry-items.ensures.rules.strike d (at d.to w.advance.result.now.number) receipt (last_of log.entries) w.reached-reached.result
+          (subst (λ (cut : Cut). (q : ℕ) → (set.contains w.reached-reached.result q ≡ true) ↔ PrecedesSome (log_of log.entries) (at d.to w.advance.result.now.number) q (cut q)) (last c2) w.reached-reached.ensures) in
           record {
             lost = λ rest are. rw (w.lost-is, w.in_ok-push.ensures.items, append_assoc) (so_far (d ∷ rest) (rw (← w.in-Some.ensures) (inr (lost, (rest, refl, are)))));
             dependents = rw w.dependents-is (more_dependents log k e d c.loop-place.dependents w.reached-reached.result w.union-dependents.result here (sym w.in-Some.ensures) lost depend w.union-dependents.ensures c.loop-place.invariant.dependents);
@@ -64,10 +58,9 @@ loop-place-preserved c =
 
 pub returns : goal.returns
 returns c =
-    let c2 = (goal.at.returns c).After-entries-entry-items in
     let log = c.args.history.now in
-    let strike = c.strike.ensures ∙ ap (λ (log : LogParts). log.strike) c.log-log.ensures in
-    let all : length log.entries ≤ c.loop-place.place = (let same = ap (λ (es : List Entry). length es) (listed c2) in let t = c.loop-place-test.false in omega (arith, same, t)) in
+    let strike = c.strike.ensures ∙ ap (λ (log : LogParts). log.strike) c.log.ensures in
+    let all : length log.entries ≤ c.loop-place.place = (let same = ap (λ (es : List Entry). length es) c.entries-entry-items.ensures.entries in let t = c.loop-place-test.false in omega (arith, same, t)) in
     record {
       lost = (let none = drop_all c.loop-place.place log.entries all in let are = c.loop-place.invariant.lost [] (rw none refl) in (rw append-nil at are));
       orphans = orphans log c.loop-place.place c.loop-place.dependents c.without-orphans.result all c.loop-place.invariant.dependents

@@ -2,25 +2,22 @@ use Rattle.fbl_moments.proofs.Common.{arith, ◌≡◌, ◌∙◌, inl, inr, cas
 use Rattle.std.proofs.Common.{below_more}
 use Rattle.fbl_moments.specs.Clocks.{cut_of, seen}
 use Rattle.fbl_moments.specs.Entries.{recorded_in}
-use Rattle.fbl_moments.specs.Logs.{LogParts}
+use Rattle.fbl_moments.proofs.HistoryLaws.{advance_stands}
 use Rattle.fbl_moments.proofs.reason.next_place.Goals as goal
-use Rattle.fbl_moments.proofs.reason.next_place.Goals.{After-entries-entry-items, After-records, else-records-via-then-records+else-number-count, else-records-via-else-records}
-
-listed : (c : After-entries-entry-items) → c.entries-entry-items.result.now ≡ c.args.history.now.entries
-listed c = c.entries-entry-items.ensures.entries ∙ ap (λ (log : LogParts). log.entries) c.log.ensures
+use Rattle.fbl_moments.proofs.reason.next_place.Goals.{After-records, else-records-via-then-records+else-advance-count, else-records-via-else-records}
 
 here : (c : After-records) → slice_get c.args.history.now.entries c.loop-place.place ≡ Some c.entry-item.result
 here c =
     let L = c.entries-entry-items.result.now in
-    subst (λ (es : List Entry). slice_get es c.loop-place.place ≡ Some c.entry-item.result) (c.entries-entry-items.ensures.entries ∙ ap (λ (log : LogParts). log.entries) c.log.ensures)
+    subst (λ (es : List Entry). slice_get es c.loop-place.place ≡ Some c.entry-item.result) c.entries-entry-items.ensures.entries
     (slice_get_read L (length L) c.loop-place.place c.entry-item.result refl c.loop-place-test.true c.entry-item.is)
 
-pub returns-then-number-count : goal.returns-then-number-count
-returns-then-number-count c =
+pub returns-then-advance-count : goal.returns-then-advance-count
+returns-then-advance-count c =
     let e = c.entry-item.result in
-    let at_place = here (goal.at.returns-then-number-count c).After-records in
-    let stands = c.number.ensures e at_place in (
-      (e, at (entry_member e) c.number.result, at_place, stands, c.records.ensures.0 c.if-records.true, λ come. (let count = c.count.ensures ∙ ap (cut_of c.args.moment.now) c.member.ensures in let t = c.if-number-count.true in omega (arith, come, count, t))),
+    let at_place = here (goal.at.returns-then-advance-count c).After-records in
+    let stands = advance_stands c.args.history.now.entries c.loop-place.place e c.advance.result.now c.advance.ensures at_place in (
+      (e, at (entry_member e) c.advance.result.now.number, at_place, stands, c.records.ensures.0 c.if-records.true, λ come. (let count = c.count.ensures ∙ ap (cut_of c.args.moment.now) c.member.ensures in let t = c.if-advance-count.true in omega (arith, come, count, t))),
       c.loop-place.invariant,
     )
 
@@ -33,14 +30,14 @@ loop-place-preserved c = below_more _ _ c.loop-place.invariant (λ to_come.
     let is : to_come.0 ≡ e = one es p to_come.0 e to_come.2 at_place in
     let records = subst (λ (e : Entry). recorded_in e ≡ Some c.args.determinant.now) is to_come.4 in
     elim c.else-records.branch [
-      | else-records-via-then-records+else-number-count w ↦
+      | else-records-via-then-records+else-advance-count w ↦
           let i = to_come.1 in
           let stands = to_come.3 in
           let own : entry_member e ≡ i.member = ap entry_member (sym (one es p stands.0 e stands.1 at_place)) ∙ stands.2 in
-          let number = w.number.ensures e at_place in
+          let number = advance_stands es p e w.advance.result.now w.advance.ensures at_place in
           let count : w.count.result ≡ cut_of c.args.moment.now i.member = w.count.ensures ∙ ap (cut_of c.args.moment.now) (w.member.ensures ∙ own) in
-          let same : w.number.result ≡ i.number = sym number.3 ∙ ap (seen es p) own ∙ stands.3 in
-          to_come.5 (let t = w.if-number-count.false in omega (arith, t, count, same))
+          let same : w.advance.result.now.number ≡ i.number = sym number.3 ∙ ap (seen es p) own ∙ stands.3 in
+          to_come.5 (let t = w.if-advance-count.false in omega (arith, t, count, same))
       | else-records-via-else-records w ↦ absurd (false≢true (sym w.if-records.false ∙ c.records.ensures.1 records))
     ]) where
       one : (es : List Entry) (p : ℕ) (a b : Entry) → slice_get es p ≡ Some a → slice_get es p ≡ Some b → a ≡ b
@@ -51,6 +48,6 @@ returns c place to_come = elim (cases_lt place c.loop-place.place) [
   | inl below ↦ c.loop-place.invariant place below to_come
   | inr past ↦
       let w = slice_get_within c.args.history.now.entries place to_come.0 to_come.2 in
-      let same = ap (λ (es : List Entry). length es) (listed (goal.at.returns c).After-entries-entry-items) in
+      let same = ap (λ (es : List Entry). length es) c.entries-entry-items.ensures.entries in
       (let t = c.loop-place-test.false in omega (arith, w, same, t, past))
 ]
