@@ -118,11 +118,7 @@ pub(crate) fn push_outcome(
 }
 
 /// Writes the line of an unsafe receipt: its determinant, the members lost with it, and the orphans then.
-fn push_unsafe(
-    text: &mut String,
-    alloc: Global,
-    receipt: &UnsafeReceipt,
-) -> Result<(), AllocError>
+fn push_unsafe(text: &mut String, alloc: Global, receipt: &UnsafeReceipt) -> Result<(), AllocError>
     ensures { OnOk result (string_bytes text.new ≡ string_bytes text.old ++ unsafe_line receipt.now) }
 {
     text.push_str("unsafe")?;

@@ -62,7 +62,13 @@ pub(crate) fn pair_numbers(holder: Member, determinant: Determinant) -> [u32; 5]
 {
     let from = u32::from(determinant.from.number());
     let to = u32::from(determinant.to.number());
-    [u32::from(holder.number()), from, determinant.ssn, to, determinant.rsn]
+    [
+        u32::from(holder.number()),
+        from,
+        determinant.ssn,
+        to,
+        determinant.rsn,
+    ]
 }
 
 /// A held pair as a list.
