@@ -20,8 +20,7 @@ fifo n t q p obeys = WellFormed-keeps n (λ u. filter_map (sent_on q p) u ≡ fi
   more u (Send q' s p') obeys may was =
       rw (in_flight-send n u obeys q' s p' q p may, filter_map-append (sent_on q p), filter_map-append (taken_on q p), was, append-nil, append_assoc) grind (arith)
   more u (Receipt p' r q' s) obeys may was =
-      rw (in_flight-receipt n u obeys p' r q' s q p may, filter_map-append (sent_on q p), filter_map-append (taken_on q p))
-      grind (arith, nat_tests, append-nil, append_assoc, was, may.5)
+      search (arith, in_flight-receipt n u obeys p' r q' s q p may, filter_map-append (sent_on q p), filter_map-append (taken_on q p), append-nil, append_assoc)
 
 -- in a rising list whose front has been taken, the numbers beyond the last one taken are the rest
 abbrev last_of : ℕ → List ℕ → ℕ

@@ -25,8 +25,7 @@ front-left {Y = Y} g keep (suc stop) (x ∷ xs) tells =
 -- a part of the events of which each one is kept
 pub map-kept : {Y : Type 0} (keep : Mark → Bool) (g : Mark → Option Y) (u : List Mark) → ((e : Mark) (y : Y) → Has u e → g e ≡ Some y → keep e ≡ true)
     → filter_map g (filter keep u) ≡ filter_map g u
-map-kept keep g u all =
-    front-left g keep (length u) u (λ i e y here is. all e y (i, here) is ∙ grind (arith, nat_tests, slice_get_within u i e here)) ∙ ap (filter_map g) (take_all (length u) u (omega arith))
+map-kept keep g u all = search (arith, front-left g keep (length u) u, slice_get_within u, take_all (length u) u)
 
 -- a count of events is how many a map gives
 count-map : (p : Mark → Bool) (u : List Mark) → count_by p u ≡ length (filter_map (λ e. cond (p e) (Some e) None) u)
@@ -86,15 +85,7 @@ module _ (n : ℕ) (keep : Mark → Bool) (u : List Mark) (obeys : WellFormed n 
   MayFollow-kept : (e : Mark) → MayFollow n u e → ((a : Mark) → Has u a → (member_of a ≡ member_of e) ⊎ (send_of e ≡ Some a) → keep a ≡ true) → MayFollow n (filter keep u) e
   MayFollow-kept (mark.Send from ssn to) may causes = search (arith, count-kept, nat_tests, length-left)
   MayFollow-kept (mark.Receipt to rsn from ssn) may causes =
-      let count : receipts_of (filter keep u) to ≡ receipts_of u to = count-kept keep (is_receipt_of to) u (λ a h own. causes a h (inl (grind (arith, nat_tests)))) in (
-        may.0,
-        may.1,
-        may.2,
-        omega (arith, may.3, count),
-        omega (arith, may.4, length-left keep u),
-        first-kept from ssn to may.5 (causes (mark.Send from ssn to) (in_flight-sent u from ssn to 0 may.5) (inr refl))
-            (map-kept keep (taken_on from to) u (λ a y h is. causes a h (inl (grind (arith, nat_tests))))),
-      )
+      search (arith, count-kept keep (is_receipt_of to) u, length-left, first-kept from ssn to may.5, in_flight-sent u from ssn to 0 may.5, map-kept keep (taken_on from to) u)
 
 -- what is left of a trace that obeys the rules obeys them, where what leads to a kept event is kept
 pub WellFormed-kept : (n : ℕ) (keep : Mark → Bool) (t : List Mark) → WellFormed n t → KeepsCauses keep t → WellFormed n (filter keep t)
@@ -137,10 +128,7 @@ module _ {N : Type 0} (n : ℕ) (keep : Mark → Bool) (t : List (Event N)) (obe
 
   -- a note that is left was there
   pub note-was : (q k : ℕ) (x : N) → note_of left q k ≡ Some x → note_of t q k ≡ Some x
-  note-was q k x is =
-      let sent = noted-sent left q k x is in
-      let was = At-filter (λ e. keep (mark_of e)) t sent.0 (Send q k sent.1 x) sent.2 in
-      sent-noted n t obeys was.0 q k sent.1 x was.1
+  note-was q k x is = search (arith, noted-sent left q k x is, At-filter, sent-noted n t obeys)
 
   -- the note of a member whose events are kept is left
   pub note-stays : (q k : ℕ) (x : N) → ((e : Mark) → Has (map mark_of t) e → member_of e ≡ q → keep e ≡ true) → note_of t q k ≡ Some x → note_of left q k ≡ Some x
@@ -167,9 +155,7 @@ module _ {S N : Type 0} (next : Next S N) (n : ℕ) (starts : List (Start N)) (k
 
   -- a member's actions that are left are its first ones
   first_actions : (p : ℕ) → filter_map (action_of t p) (filter keeps t) ≡ filter_map (action_of t p) (take (stop p) t)
-  first_actions p = front-left (action_of t p) keeps (stop p) t (λ i e y here is.
-      let own : member_of (mark_of e) ≡ p = grind (arith, nat_tests) in
-      tells i e here ∙ ap (λ m. nat_lt i (stop m)) own)
+  first_actions p = grind (arith, nat_tests, front-left (action_of t p) keeps (stop p) t)
 
   -- and what comes next is a note
   then_note : (p : ℕ) (y : Action N) (ys : List (Action N)) → filter_map (action_of t p) (drop (stop p) t) ≡ y ∷ ys → IsNote y

@@ -55,9 +55,7 @@ module _ {S N : Type 0} (next : Next S N) (old : GroupRecord S N) (sound : IsSou
   -- the event at the place is a lost receipt
   first-lost : (m : ℕ) (e : Mark) → At (marks old) (first m) e → (d : Determinant) × (e ≡ receipt_of d) × (d.to ≡ m) × (is_held table d ≡ false)
   first-lost m e here =
-      lost_one e (rw (get_or_from_slice_get (marks old) (first m) e e here) at (passes_at_first (is_lost table m) (marks old) e (slice_get_within (marks old) (first m) e here))) where
-        lost_one : (e : Mark) → is_lost table m e ≡ true → (d : Determinant) × (e ≡ receipt_of d) × (d.to ≡ m) × (is_held table d ≡ false)
-        lost_one e is = search arith
+      search (arith, get_or_from_slice_get (marks old) (first m) e e here, passes_at_first (is_lost table m) (marks old) e, slice_get_within (marks old) (first m) e here)
 
   stays-keep : (e : Mark) → Has (marks old) e → Stays (knowledge old) e → keep e ≡ true
   stays-keep e has stays = elim (down_or_up old.down (member_of e)) [
@@ -91,12 +89,8 @@ module _ {S N : Type 0} (next : Next S N) (old : GroupRecord S N) (sound : IsSou
     receipt_is e d is = grind arith
 
     ends : (p : ℕ) (e : Event N) → slice_get old.trace (stop p) ≡ Some e → (r : ℕ) × (q : ℕ) × (k : ℕ) × (e ≡ event.Receipt p r q k)
-    ends p e here = elim (down_or_up old.down p) [
-      | inr up ↦ absurd (omega (arith, rw up at (slice_get_within old.trace (stop p) e here)))
-      | inl down ↦
-          let lost = first-lost p (mark_of e) (mark-at old.trace (first p) e (rw down at here)) in
-          (lost.0.rsn, lost.0.from, lost.0.ssn, rw lost.2 at (receipt_is e lost.0 lost.1))
-    ]
+    ends p e here =
+        search (arith, down_or_up old.down p, slice_get_within old.trace (stop p) e here, first-lost p (mark_of e), mark-at old.trace (first p) e, receipt_is e)
 
 -- a cut of a sound group's trace
 module _ {S N : Type 0} {next : Next S N} {old : GroupRecord S N} (sound : IsSound next old) {new : List (Event N)} (cut : IsEventCut (Stays (knowledge old)) old.trace new) where

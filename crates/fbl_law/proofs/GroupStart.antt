@@ -26,8 +26,7 @@ module _ {N : Type 0} where
   starts_given : {Y : Type 0} (g : Event N → Option Y) (h : Start N → Option Y) → ((s : Start N) (k : ℕ) → g (event.Send s.from k s.to s.note) ≡ h s)
       → (done : List (Event N)) (ss : List (Start N)) → filter_map g (start_events done ss) ≡ filter_map g done ++ filter_map h ss
   starts_given g h is done [] = sym (append-nil (filter_map g done))
-  starts_given g h is done (s ∷ ss) =
-      search (arith, filter_map-append, append_assoc, starts_given g h is (done ++ send_of done s ∷ []) ss)
+  starts_given g h is done (s ∷ ss) = search (arith, filter_map-append, append_assoc, starts_given g h is (done ++ send_of done s ∷ []) ss)
 
   filter_map-all : (ss : List (Start N)) → filter_map (λ s. Some s) ss ≡ ss
   filter_map-all [] = refl

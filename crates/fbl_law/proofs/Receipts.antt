@@ -33,8 +33,7 @@ receipts_at-number n t p j d obeys = WellFormed-keeps n (λ u. (j : ℕ) → sli
 -- they are in the trace, and the member's
 pub receipts_at-Has : (n : ℕ) (t : List Mark) (p j : ℕ) (d : Determinant) → WellFormed n t → slice_get (receipts_at t p) j ≡ Some d
     → Has t (receipt_of d) × (d.to ≡ p) × (d.rsn ≡ j + 1)
-receipts_at-Has n t p j d obeys here =
-    grind (arith, nat_tests, At-filter, At-filter_map, filter-passes, is_receipt, receipts_at-number n t p j d obeys here)
+receipts_at-Has n t p j d obeys here = search (arith, At-filter, At-filter_map, filter-passes, is_receipt, receipts_at-number n t p j d obeys here)
 
 -- and each receipt of the member is among them, at its number
 pub Has-receipts_at : (n : ℕ) (t : List Mark) (p j : ℕ) (d : Determinant) → WellFormed n t → Has t (receipt_of d) → d.to ≡ p → d.rsn ≡ j + 1
@@ -49,20 +48,13 @@ Has-receipts_at n t p j d obeys has to number =
 pub at-most : (n : ℕ) (t : List Mark) (p k : ℕ) → WellFormed n t → ((d : Determinant) → Has t (receipt_of d) → d.to ≡ p → d.rsn ≤ k) → length (receipts_at t p) ≤ k
 at-most n t p k obeys all = omega (arith, few) where
   few : ¬ (k < length (receipts_at t p))
-  few more =
-      let d = some-at (receipts_at t p) k more in
-      let has = receipts_at-Has n t p k d.0 obeys d.1 in
-      omega (arith, all d.0 has.0 has.1, has.2)
+  few more = (let d = some-at (receipts_at t p) k more in search (arith, d, receipts_at-Has n t p k d.0 obeys d.1))
 
 -- so before a place too
 pub at-most-before : (n : ℕ) (t : List Mark) (p k j : ℕ) → WellFormed n t → ((i : ℕ) (d : Determinant) → i < j → At t i (receipt_of d) → d.to ≡ p → d.rsn ≤ k)
     → receipts_of (take j t) p ≤ k
 at-most-before n t p k j obeys all =
-    let few = at-most n (take j t) p k (WellFormed-take n j t obeys) (λ d has to.
-    let below = At-below (take j t) has.0 (receipt_of d) has.1 in
-    let here : At t has.0 (receipt_of d) = rw take-append-drop at (At-front (take j t) (drop j t) has.0 (receipt_of d) has.1) in
-    all has.0 d (omega (arith, below, length-take j t)) here to) in
-    omega (arith, few, length-receipts_at (take j t) p)
+    search (arith, at-most n (take j t) p k (WellFormed-take n j t obeys), At-below (take j t), take-append-drop, At-front (take j t) (drop j t), length-take j t, length-receipts_at (take j t) p)
 
 module _ {N : Type 0} where
   -- their notes

@@ -62,8 +62,7 @@ count_in-same s a b n agree = sum_below-agree n _ _ (λ q below. grind (arith, a
 -- one more of a member of the set
 pub count_in-step : (s : Members) (a b : ℕ → ℕ) (n p : ℕ) → p < n → set.contains s p ≡ true → b p ≡ a p + 1 → ((q : ℕ) → q ≢ p → b q ≡ a q)
     → count_in s b n ≡ count_in s a n + 1
-count_in-step s a b n p below in' one others =
-    grind (arith, nat_tests, sum_below-at n p 1 (λ q. cond (set.contains s q) (a q) 0) (λ q. cond (set.contains s q) (b q) 0) (λ q. grind (arith, nat_tests, one, others q)))
+count_in-step s a b n p below in' one others = search (arith, sum_below-at n p 1)
 
 -- the receipts of the members of a set beyond a number of each member's, counted member by member
 abbrev pub beyond : Members → (ℕ → ℕ) → Determinant → Bool
@@ -165,21 +164,14 @@ module _ {S N : Type 0} (next : Next S N) (old : GroupRecord S N) (sound : IsSou
   -- each member that is down begins at its checkpoint
   pub replay_begins : (rebuilt : List (MemberRecord S N)) → length rebuilt ≡ old.config.members
       → ((p : ℕ) → p < old.config.members → IsDown (knowledge old) p → slice_index_or rebuilt p (blank old.outside) ≡ member_checkpoint old p) → IsReplaying next old rebuilt
-  replay_begins rebuilt size begins = record {
-    size = size;
-    replayed = λ p below down. rw (begins p below down) (checkpoint-survives sound cut p below);
-    begun = λ p below down. rw (begins p below down) (omega arith);
-  }
+  replay_begins rebuilt size begins = search (arith, checkpoint-survives sound cut)
 
   module _ (rebuilt : List (MemberRecord S N)) (replaying : IsReplaying next old rebuilt) where
     abbrev current : ℕ → MemberRecord S N
     current p = slice_index_or rebuilt p (blank old.outside)
 
     working-replays : (q : ℕ) → q < old.config.members → Replays q (working old rebuilt q)
-    working-replays q below = elim (down_or_up old.down q) [
-      | inl down ↦ rw down (replaying.replayed q below down)
-      | inr up ↦ rw up (survivor-replays sound cut q below up).0
-    ]
+    working-replays q below = search (arith, down_or_up old.down q, replaying.replayed q below, survivor-replays sound cut q below)
 
     replays-log : (q : ℕ) (m : MemberRecord S N) → Replays q m → length m.log ≤ 8192
     replays-log q m replays = omega (arith, log-short lawful replays, count_by-le-length (is_send_of q) (map mark_of (recovered_trace old)), cut-short)

@@ -84,8 +84,7 @@ module _ {N : Type 0} where
   log_from n p all u [] obeys = refl
   log_from n p all u (e ∷ rest) obeys =
       let may = MayFollow-seam n (map mark_of u) (mark_of e) (map mark_of rest) obeys in
-      let ih = log_from n p all (u ++ e ∷ []) rest (rw (map-append, append_assoc) obeys) in
-      grind (arith, nat_tests, may, map-append mark_of u (e ∷ []), sends-step (map mark_of u) (mark_of e) p, ih)
+      search (arith, may, log_from n p all (u ++ e ∷ []) rest, append_assoc, map-append mark_of u, sends-step (map mark_of u) (mark_of e) p)
 
   -- the log of a trace's sends names the note of each
   pub logged_note-trace : (t : List (Event N)) (p ssn : ℕ) → logged_note (filter_map (logged_of p) t) ssn ≡ note_of t p ssn
@@ -152,12 +151,7 @@ module _ {S N : Type 0} where
 module _ {S N : Type 0} {next : Next S N} {n : ℕ} {starts : List (Start N)} {t : List (Event N)} (lawful : Lawful next n starts t) {p : ℕ} {m : MemberRecord S N} (replayed : IsReplayed next n starts t p m) where
   -- with the rest it is the log after all the member's notes
   whole-log : (rest : List (Logged N)) × ((after_notes next p n starts (received_notes t p)).log ≡ m.log ++ rest)
-  whole-log = (
-    numbered (length m.log) (sends_in (responses next p n m.state (drop m.received (received_notes t p)))),
-    ap (λ (xs : List N). (after_notes next p n starts xs).log) (sym (take-append-drop m.received (received_notes t p)))
-        ∙ ap (λ (x : Progress S N). x.log) (fold-append (advanced next p n) (begun (next.initial p n) p starts) (take m.received (received_notes t p)) (drop m.received (received_notes t p)))
-        ∙ rw (← replayed.progress) (log-fold next p n (progress_of m) (drop m.received (received_notes t p))),
-  )
+  whole-log = search (arith, take-append-drop m.received (received_notes t p), fold-append (advanced next p n), replayed.progress, log-fold next p n (progress_of m))
 
   -- a message that it names has that note in the trace
   pub logged-noted : (ssn : ℕ) (note : N) → logged_note m.log ssn ≡ Some note → note_of t p ssn ≡ Some note
@@ -188,8 +182,7 @@ module _ {S N : Type 0} {next : Next S N} {n : ℕ} {starts : List (Start N)} {t
 -- a member with as many receipts as the trace has of it has them all
 pub all-taken : {N : Type 0} → (n : ℕ) (t : List (Event N)) (p k : ℕ) → WellFormed n (map mark_of t) → k ≡ length (receipts_at (map mark_of t) p)
     → (take k (received_notes t p) ≡ received_notes t p) × (take k (receipts_at (map mark_of t) p) ≡ receipts_at (map mark_of t) p)
-all-taken n t p k obeys count =
-    (take_all k (received_notes t p) (omega (arith, length-received_notes n t p obeys)), take_all k (receipts_at (map mark_of t) p) (omega arith))
+all-taken n t p k obeys count = search (arith, take_all k (received_notes t p), length-received_notes n t p obeys, take_all k (receipts_at (map mark_of t) p))
 
 module _ {S N : Type 0} where
   -- a fresh member has replayed nothing

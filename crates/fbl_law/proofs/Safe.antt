@@ -254,8 +254,7 @@ module _ {S N : Type 0} {n f : ℕ} {r : Knowledge S N} (sound : IsSoundKnowledg
 
   table_known : (m : ℕ) (e : Entry) → Contains (table r m) e → IsKnown e
   table_known m e here =
-      let up = up_if_named f r sound.down m e.det (e, here, refl) in
-      (inl (m, (up, (e, here, refl))), (sound.truth (in_table m) e up here).0.1)
+      search (arith, up_if_named f r sound.down m e.det (e, here, refl), sound.truth (in_table m) e (up_if_named f r sound.down m e.det (e, here, refl)) here)
 
   all_known : All IsKnown (gathered_all [] sources)
   all_known = gathered_all-keeps IsKnown

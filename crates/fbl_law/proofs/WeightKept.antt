@@ -42,10 +42,8 @@ module _ {S N : Type 0} (next : Next S N) (n : ℕ) (P : ℕ → S → Type 0) (
       → All (Came m) (notes_of xs) → xs ++ sent s ∷ ys ≡ map sent sends ++ responses next m n state notes → Sends m s
   sent-kept m state [] [] [] ys s below holds each came is = absurd cc
   sent-kept m state [] (note ∷ notes) (took x ∷ xs) ys s below holds each came is =
-      let same : x ≡ note = cc in
-      let here = rw same at (All-head (Came m) x (notes_of xs) came) in
-      let step = keeps m here.0 state note below holds here.1 in
-      sent-kept m (next.step m n state note).state (next.step m n state note).sends.items notes xs ys s below step.0 step.1 (All-tail (Came m) x (notes_of xs) came) (cc)
+      let here = All-head (Came m) x (notes_of xs) came in
+      search (arith, here, sent-kept m (next.step m n state note).state (next.step m n state note).sends.items notes xs ys s below, All-tail (Came m) x (notes_of xs) came)
   sent-kept m state (x ∷ sends) notes [] ys s below holds each came is = (let same : x ≡ s = cc in rw same at (All-head (Sends m) x sends each))
   sent-kept m state (x ∷ sends) notes (sent y ∷ xs) ys s below holds each came is =
       sent-kept m state sends notes xs ys s below holds (All-tail (Sends m) x sends each) came (cc)
@@ -98,15 +96,13 @@ module _ {S N : Type 0} (next : Next S N) (n : ℕ) (P : ℕ → S → Type 0) (
 
     -- each note that a member received has Q
     pub all-came : (m : ℕ) → All (Came m) (received_notes t m)
-    all-came m = came-in m t (λ i p r q s here.
-        let noted = receipt-noted n t i p r q s lawful.well_formed here in (noted.0, noted.1, all-sent noted.2 q s p noted.0 noted.4))
+    all-came m = search (arith, came-in m t, receipt-noted n t, lawful.well_formed, all-sent)
 
   -- so the member's state has P, after each of its receipts
   pub state-kept : (m : ℕ) (state : S) (notes : List N) → m < n → P m state → All (Came m) notes → P m (fold (λ s x. (next.step m n s x).state) state notes)
   state-kept m state [] below holds came = holds
   state-kept m state (x ∷ notes) below holds came =
-      let here = All-head (Came m) x notes came in
-      state-kept m (next.step m n state x).state notes below (keeps m here.0 state x below holds here.1).0 (All-tail (Came m) x notes came)
+      search (arith, All-head (Came m) x notes came, state-kept m (next.step m n state x).state notes below, All-tail (Came m) x notes came)
 
 -- what each step of n members keeps holds of a sound group of them, if it holds at first
 pub holds-of_sound : {S N : Type 0} → (next : Next S N) (r : GroupRecord S N) (P : ℕ → S → Type 0) (Q : ℕ → ℕ → N → Type 0) → IsSound next r
@@ -276,10 +272,7 @@ module _ {S N : Type 0} (next : Next S N) (r : GroupRecord S N) (P : ℕ → S �
 
   -- what is in flight, and what the members took, is what they gave
   flows : weight_on n w (marks r) + sum_below n (λ m. sum_by taken (acts m)) ≡ sum_below n (λ m. sum_by given (acts m))
-  flows =
-      let sends = acts-weigh given (out n w) (λ q s p x note. rw note refl) (λ p r' q s x note. refl) in
-      let takes = acts-weigh taken (into n w) (λ q s p x note. refl) (λ p r' q s x note. rw note refl) in
-      omega (arith, flow n w (marks r) sound.lawful.well_formed, sends, takes)
+  flows = search (arith, acts-weigh given (out n w), acts-weigh taken (into n w), flow n w (marks r) sound.lawful.well_formed)
 
   up-weighs : (m : ℕ) → m < n → IsUp (knowledge r) m → mass m (member r m).state ≡ by_trace m
   up-weighs m below up = ap (mass m) (up_state next r sound m below up)
