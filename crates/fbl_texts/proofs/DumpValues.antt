@@ -1,9 +1,9 @@
 -- The value of a dump, and how it is read back.
-use Rattle.fbl_texts.proofs.Common.{◌≡◌, ℕ, ◌≤◌, map, refl, arith, false, Some, Ok, All, Data, Parts, IsDump, Mark, Send, Receipt, member_list, member_shape, depth, has_float}
-use Rattle.fbl_texts.proofs.Common.{event_data, pair_data, list_data, number_data, event_shape, pair_shape}
-use Rattle.fbl_texts.specs.DumpLines.{dump_data}
+use Rattle.fbl_texts.proofs.Common.{◌≡◌, ◌≤◌, refl, arith, false, Some, Ok, All, Parts, IsDump, Mark, Send, Receipt, member_list, member_shape, depth, has_float}
+use Rattle.fbl_texts.proofs.Common.{event_data, pair_data, number_data, event_shape, pair_shape}
 use Rattle.fbl_texts.specs.Dumps.{parts_of_data}
-use Rattle.fbl_texts.proofs.Values.{IsWritable, flat, list_read, number_read, set_read}
+use Rattle.fbl_texts.specs.DumpLines.{IsWritable, dump_data}
+use Rattle.fbl_texts.proofs.Values.{flat, list_read, number_read, set_read}
 
 -- the parts of a dump are read back
 pub parts_read : (dump : Parts) → IsDump dump → All (λ x. event_shape (event_data x) ≡ Some x) dump.events

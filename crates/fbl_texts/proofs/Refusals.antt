@@ -33,12 +33,19 @@ unread_misfit kind asked Refuses IsOf input bytes misfits.TooLong any is =
     (record { first = inl long; value = λ d e. tt; given = λ a e. absurd cc }, tt)
 unread_misfit kind asked Refuses IsOf input bytes misfit any is = absurd is
 
--- that an input could not be had is its first fault
-pub unread : {A : Type 0} (kind : InputKind) (asked : Data → Result A RunFault) (Refuses : A → RunFault → Type 0) (IsOf : A → Misfit → Type 0) → ((a : A) → IsOf a misfits.Read × IsOf a misfits.Memory)
-    → (known : Option (List ℕ)) (fault : InputFault) → (fault.kind ≡ kind) × IsUnread known fault.misfit
-    → IfSome known (λ input. IsReadFault kind (λ i. IsFaultOf kind (value_of_input i >>= asked) Refuses IsOf i) input fault)
-unread kind asked Refuses IsOf any None fault is = tt
-unread kind asked Refuses IsOf any (Some input) fault is = (let of = unread_misfit kind asked Refuses IsOf input fault.input.items fault.misfit any is.1 in (is.0, of.0, of.1))
+-- a fault that is passed on
+pub is_passed : {A : Type 0} (P : InputFault → Type 0) (fault : InputFault) (r : Result A InputFault) → IsErrAnd r (λ e. e ≡ fault) → P fault → IfErr r P
+is_passed P fault (Ok x) same h = tt
+is_passed P fault (Err e) same h = subst P (sym same) h
+
+-- that an input could not be had is its first fault, where it is passed on
+pub unread : {A B : Type 0} (kind : InputKind) (asked : Data → Result A RunFault) (Refuses : A → RunFault → Type 0) (IsOf : A → Misfit → Type 0) → ((a : A) → IsOf a misfits.Read × IsOf a misfits.Memory)
+    → (known : Option (List ℕ)) (fault : InputFault) (r : Result B InputFault) → IsErrAnd r (λ e. e ≡ fault) → (fault.kind ≡ kind) × IsUnread known fault.misfit
+    → IfErr r (λ e. IfSome known (λ input. IsReadFault kind (λ i. IsFaultOf kind (value_of_input i >>= asked) Refuses IsOf i) input e))
+unread kind asked Refuses IsOf any None fault r same is = is_passed (λ e. Unit {0}) fault r same tt
+unread kind asked Refuses IsOf any (Some input) fault r same is =
+    let of = unread_misfit kind asked Refuses IsOf input fault.input.items fault.misfit any is.1 in
+    is_passed (λ e. IsReadFault kind (λ i. IsFaultOf kind (value_of_input i >>= asked) Refuses IsOf i) input e) fault r same (is.0, of.0, of.1)
 
 -- what is so of the bytes that were read is so of the input
 pub of_bytes : (P : List ℕ → Type 0) (known : Option (List ℕ)) (bytes read : List ℕ) → IfSome known (λ input. bytes ≡ input) → read ≡ bytes → P read → IfSome known P
@@ -65,11 +72,6 @@ first_fault asked Refuses e (inr none) = absurd (none.2)
 pub form_misfit : {A : Type 0} (kind : InputKind) (asked : Result A RunFault) (Refuses : A → RunFault → Type 0) (IsOf : A → Misfit → Type 0) (input : List ℕ) (misfit : Misfit)
     → IsFaultOf kind asked RefusesNone IsOf input misfit → IsFaultOf kind asked Refuses IsOf input misfit
 form_misfit kind asked Refuses IsOf input misfit is = record { first = first_fault asked Refuses (run_fault misfit) is.first; value = is.value; given = is.given }
-
--- a fault that is passed on
-pub is_passed : {A : Type 0} (P : InputFault → Type 0) (fault : InputFault) (r : Result A InputFault) → IsErrAnd r (λ e. e ≡ fault) → P fault → IfErr r P
-is_passed P fault (Ok x) same h = tt
-is_passed P fault (Err e) same h = subst P (sym same) h
 
 -- so it is where a reader passes on a fault of the form
 pub passed_on : {A : Type 0} (IsForm IsFault : List ℕ → InputFault → Type 0) → ((input : List ℕ) (fault : InputFault) → IsForm input fault → IsFault input fault)

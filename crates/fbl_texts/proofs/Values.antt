@@ -1,13 +1,12 @@
 -- Values in lists, how they are read back, and texts: of values that have no float and whose brackets nest to a small depth.
 use Rattle.fbl_texts.proofs.Common.{◌≡◌, ℕ, ◌+◌, ◌<◌, ◌≤◌, List, [], ◌∷◌, ◌++◌, map, take, get_or, length, suc, zero, refl, sym, ap, subst, ◌∙◌, arith, Bool, cond}
 use Rattle.fbl_texts.proofs.Common.{true, false, Option, Some, option_map, Err, nat_cmp, nat_eq, nat_lt, take_more, map_push, All-push, any-filter_same, eqb-true, le-leb, le-ltb, Result}
-use Rattle.fbl_texts.proofs.Common.{All, IsUtf8, filter, list_any, range_with_len, nat_cmp_total, append_assoc, Data, view, Value, AllBelow, all_shaped, number_within, list_of, member_shape, set_shape}
-use Rattle.fbl_texts.proofs.Common.{list_data, number_data, elements_of, depth, items_depth, read, max_depth, items_of, has_float, items_have_float, compact_text, RunFault}
+use Rattle.fbl_texts.proofs.Common.{All, filter, list_any, range_with_len, nat_cmp_total, append_assoc, Data, view, Value, AllBelow, all_shaped, number_within, list_of, member_shape, set_shape}
+use Rattle.fbl_texts.proofs.Common.{list_data, number_data, elements_of, depth, items_depth, items_of, has_float, items_have_float, RunFault}
 use Rattle.fbl_texts.proofs.Common.{json_of, longest, or_fault, value_of_input, ◌>>=◌}
 use Rattle.std.specs.FinSet as set
 use Rattle.fbl_base.specs.MemberSets.{member_list}
 use Rattle.fbl_input.specs.declared.fault.RunFault.TheVariants as faults
-use Rattle.fbl_texts.proofs.Newlines.{read_newline}
 
 -- one more value
 pub next_value : {X : Type 0} (f : X → Data) (front : List Data) (vs : List Value) (v : Value) (xs : List X) (i : ℕ) (x : X) → i < length xs
@@ -61,23 +60,8 @@ pub flat : {X : Type 0} (f : X → Data) → ((x : X) → (has_float (f x) ≡ f
 flat f each [] = (refl, omega arith)
 flat f each (x ∷ xs) = (let rest = flat f each xs in (rw ((each x).0, rest.0), omega (arith, (each x).1, rest.1)))
 
--- the value has no float, and nests to a depth that is read
-abbrev pub IsWritable : Data → Type 0
-IsWritable d = (has_float d ≡ false) × (depth d ≤ max_depth)
-
--- the text of a value that is this one
-pub text_of : (d e : Data) (text : List ℕ) → d ≡ e → IsWritable e → (has_float d ≡ false → text ≡ compact_text d) → text ≡ compact_text e
-text_of d e text same writable h = h (ap has_float same ∙ writable.0) ∙ ap compact_text same
-
-short_read : {A : Type 0} (asked : Data → Result A RunFault) (bytes : List ℕ) (d : Data) → length bytes ≤ longest → json_of bytes ≡ Some d → (value_of_input bytes >>= asked) ≡ asked d
+-- what is asked of a line that spells a value is asked of the value
+pub short_read : {A : Type 0} (asked : Data → Result A RunFault) (bytes : List ℕ) (d : Data) → length bytes ≤ longest → json_of bytes ≡ Some d → (value_of_input bytes >>= asked) ≡ asked d
 short_read asked bytes d short e =
     let within : nat_lt longest (length bytes) ≡ false = le-ltb longest (length bytes) short in
     ap (λ b. cond b (Err faults.TooLong) (or_fault faults.NotJson (json_of bytes)) >>= asked) within ∙ ap (λ o. or_fault faults.NotJson o >>= asked) e
-
--- what is asked of the text as a line is asked of the value
-pub text_reads_back : {A : Type 0} (asked : Data → Result A RunFault) (d e : Data) (text : List ℕ) → d ≡ e → IsWritable e → IsUtf8 text → text ≡ compact_text e
-    → (depth d ≤ max_depth → read text ≡ Some d) → length (compact_text e ++ 10 ∷ []) ≤ longest → (value_of_input (compact_text e ++ 10 ∷ []) >>= asked) ≡ asked e
-text_reads_back asked d e text same writable valid is reads short =
-    let P : List ℕ → Type 0 = λ t. json_of (t ++ 10 ∷ []) ≡ Some e in
-    let flat : depth d ≤ max_depth = subst (λ (x : Data). depth x ≤ max_depth) (sym same) writable.1 in
-    short_read asked _ e short (subst P is (read_newline text _ valid (reads flat ∙ ap Some same)))

@@ -1,5 +1,5 @@
 -- The verdict of a check, by the receipts that are said to be unsafe.
-use Rattle.fbl_texts.proofs.Common.{◌≡◌, ◌↔◌, ℕ, List, [], ◌∷◌, Option, Result, Ok, Err, refl, PutsOut, Verdict, Safe, Unsafe}
+use Rattle.fbl_texts.proofs.Common.{◌≡◌, ◌↔◌, ℕ, List, [], ◌∷◌, Option, Result, Ok, Err, refl, PutsOut, Verdict}
 use Rattle.fbl_input.specs.declared.output.OutputFault.{OutputFault}
 use Rattle.fbl_input.specs.declared.output.OutputFault.TheVariants as outputs
 use Rattle.fbl_texts.specs.Auditing.{IsVerdictThat, verdict_of}

@@ -1,10 +1,11 @@
 -- A dump as a JSON value, and as a line.
-use Rattle.std.specs.Prelude.{◌≡◌, ℕ, ◌≤◌, length, Ok, List, [], ◌∷◌, ◌++◌, map, codes}
+use Rattle.std.specs.Prelude.{◌≡◌, ℕ, ◌≤◌, length, false, Ok, List, [], ◌∷◌, ◌++◌, map, codes}
 use Rattle.std.specs.Ordering.{nat_cmp}
 use Rattle.std.specs.FinSet as set
-use Rattle.serde_json.specs.Data.{Data, Members, number, unsigned, string, array, object, member, no_members}
+use Rattle.serde_json.specs.Data.{Data, Members, depth, number, unsigned, string, array, object, member, no_members}
 use Rattle.serde_json.specs.View.{items_of}
-use Rattle.serde_json.specs.Written.{compact_text}
+use Rattle.serde_json.specs.Read.{max_depth}
+use Rattle.serde_json.specs.Written.{compact_text, has_float}
 use Rattle.fbl_base.specs.declared.trace.Determinant.{Determinant}
 use Rattle.fbl_base.specs.declared.trace.Mark.{Mark}
 use Rattle.fbl_base.specs.declared.trace.Mark.TheVariants.{Send, Receipt}
@@ -56,3 +57,7 @@ dump_line dump = compact_text (dump_data dump) ++ 10 ∷ []
 -- the line, where it is no longer than an input may be, is read as the same dump
 abbrev pub ReadsBack : Parts → Type 0
 ReadsBack dump = length (dump_line dump) ≤ longest → parts_of_input (dump_line dump) ≡ Ok dump
+
+-- the value has no float, and nests to a depth that is read
+abbrev pub IsWritable : Data → Type 0
+IsWritable d = (has_float d ≡ false) × (depth d ≤ max_depth)

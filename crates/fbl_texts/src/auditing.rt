@@ -9,7 +9,7 @@ ghost use Rattle.fbl_texts.specs.Auditing.{Audits, IsAuditText, IsChecked, check
 ghost use Rattle.fbl_texts.specs.Lines.{audit_lines, determinant_line, determinant_words, outcome_line, unsafe_line};
 
 use crate::reading::read_dump;
-use crate::sets::set_text;
+use crate::sets::{push_set, set_text};
 use fbl_audit::{UnsafeReceipt, unsafe_receipts};
 use fbl_base::audit::{Audit, Dump};
 use fbl_base::{Determinant, MemberSet};
@@ -111,10 +111,11 @@ pub(crate) fn push_outcome(
 ) -> Result<(), AllocError>
     ensures { OnOk result (string_bytes text.new ≡ string_bytes text.old ++ outcome_line strike orphans) }
 {
-    let strike = set_text(alloc, strike)?;
-    let orphans = set_text(alloc, orphans)?;
-    write!(text, " strike {strike} orphans {orphans}\n")?;
-    Ok(())
+    text.push_str(" strike ")?;
+    push_set(text, alloc, strike)?;
+    text.push_str(" orphans ")?;
+    push_set(text, alloc, orphans)?;
+    Ok(text.push_str("\n")?)
 }
 
 /// Writes the line of an unsafe receipt: its determinant, the members lost with it, and the orphans then.

@@ -1,6 +1,6 @@
 //! The audit and the check of a log.
 
-ghost use Rattle.std.specs.Prelude.{◌≡◌, ◌↔◌, ◌++◌, ℕ, List, [], IfOk, IfSome, OnOk, string_bytes};
+ghost use Rattle.std.specs.Prelude.{◌≡◌, ◌↔◌, ◌++◌, ℕ, List, [], IfOk, OnOk, string_bytes};
 ghost use Rattle.fbl_input.specs.Faults.{PutsOut};
 ghost use Rattle.fbl_texts.specs.Lines.{unsafe_moment_line};
 ghost use Rattle.fbl_texts.specs.LogAuditing.{AreUnsafeMomentLines, IsLogAuditText, IsLogCheckText, IsLogChecked, IsUnsafeMomentLine};

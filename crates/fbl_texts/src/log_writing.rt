@@ -2,11 +2,12 @@
 
 ghost use Rattle.std.specs.Prelude.{◌≡◌, ◌≤◌, ◌++◌, ◌∷◌, [], length, Ok, IfOk, string_bytes};
 ghost use Rattle.serde_json.specs.View.{view};
-ghost use Rattle.serde_json.specs.Written.{compact_text};
 ghost use Rattle.fbl_texts.specs.LogLines.{LogReadsBack, log_data, log_line};
 ghost use Rattle.fbl_texts.specs.Logs.{log_of_data};
 
-use crate::writing::{EventForm, Form, common_members, list_value, named_value, pair_numbers};
+use crate::writing::{
+    EventForm, Form, common_members, line_of, list_value, named_value, pair_numbers,
+};
 use fbl_moments::{Entry, RunLog};
 use serde_json::{Value, put};
 use std::alloc::{AllocError, Global};
@@ -44,22 +45,10 @@ fn log_value(alloc: Global, log: &RunLog) -> Result<Value, AllocError>
     ensures reads_back { IfOk result (λ v. log_of_data (log_data log.now) ≡ Ok log.now) }
 {
     let mut object = common_members(alloc, log.members(), log.f(), log.strike())?;
-    let events = list_value::<Entry, EntryForm>(alloc, log.entries())?;
+    let events = list_value::<Entry, EntryForm>(alloc, Vec::new(alloc), log.entries())?;
     put(&mut object, alloc, "events", events)?;
     put(&mut object, alloc, "version", Value::from(2u8))?;
     Ok(Value::Object(object))
-}
-
-/// The log as JSON with no space. A newline may stand behind it where it is read.
-fn log_json_text(alloc: Global, log: &RunLog) -> Result<String, AllocError>
-    ensures text { IfOk result (λ text. string_bytes text ≡ compact_text (log_data log.now)) }
-    ensures reads_back { IfOk result (λ text. LogReadsBack log.now) }
-{
-    let value = log_value(alloc, log)?;
-    let text = value.to_string(alloc)?;
-    // the text's contract says that it is UTF-8, as reading it back asks
-    let _text = text.as_str();
-    Ok(text)
 }
 
 /// The log as one line of JSON, which ends with a newline. `Err` comes only where there is no memory for it.
@@ -67,7 +56,6 @@ pub fn log_text(alloc: Global, log: &RunLog) -> Result<String, AllocError>
     ensures line { IfOk result (λ text. string_bytes text ≡ log_line log.now) }
     ensures reads_back { IfOk result (λ text. LogReadsBack log.now) }
 {
-    let mut text = log_json_text(alloc, log)?;
-    text.push_str("\n")?;
-    Ok(text)
+    let value = log_value(alloc, log)?;
+    line_of(alloc, &value)
 }

@@ -17,19 +17,26 @@ fn push_members(text: &mut String, members: &[Member]) -> Result<(), AllocError>
     Ok(())
 }
 
-/// The members with commas between.
-fn listed_text(alloc: Global, members: &[Member]) -> Result<String, AllocError>
-    ensures { IfOk result (λ text. string_bytes text ≡ with_commas members.now) }
+/// Writes the members with commas between.
+fn push_listed(text: &mut String, members: &[Member]) -> Result<(), AllocError>
+    ensures { OnOk result (string_bytes text.new ≡ string_bytes text.old ++ with_commas members.now) }
 {
     match members {
-        [] => String::from_str(alloc, "none"),
+        [] => Ok(text.push_str("none")?),
         [first, others @ ..] => {
             let number = first.number();
-            let mut text = format!(in alloc; "{number}")?;
-            push_members(&mut text, others)?;
-            Ok(text)
+            write!(text, "{number}")?;
+            push_members(text, others)
         }
     }
+}
+
+/// Writes the set as it is printed.
+pub(crate) fn push_set(text: &mut String, alloc: Global, set: MemberSet) -> Result<(), AllocError>
+    ensures { OnOk result (string_bytes text.new ≡ string_bytes text.old ++ set_words set) }
+{
+    let members = set.members(alloc)?;
+    push_listed(text, members.as_slice())
 }
 
 /// The set as it is printed: its members, rising, with commas between and no spaces. The empty set is `none`. `Err` comes
@@ -37,6 +44,7 @@ fn listed_text(alloc: Global, members: &[Member]) -> Result<String, AllocError>
 pub fn set_text(alloc: Global, set: MemberSet) -> Result<String, AllocError>
     ensures { IfOk result (λ text. string_bytes text ≡ set_words set) }
 {
-    let members = set.members(alloc)?;
-    listed_text(alloc, members.as_slice())
+    let mut text = String::new(alloc);
+    push_set(&mut text, alloc, set)?;
+    Ok(text)
 }

@@ -5,10 +5,10 @@ ghost use Rattle.std.specs.List.{All};
 ghost use Rattle.serde_json.specs.Data.{string};
 ghost use Rattle.serde_json.specs.View.{members_view, view};
 ghost use Rattle.serde_json.specs.Written.{compact_text};
-ghost use Rattle.fbl_input.specs.Shapes.{longest, member_shape};
+ghost use Rattle.fbl_input.specs.Shapes.{json_of, longest, member_shape};
 ghost use Rattle.fbl_texts.specs.Dumps.{event_shape, pair_shape, parts_of_data, parts_of_input};
 ghost use Rattle.fbl_base.specs.MemberSets.{member_list};
-ghost use Rattle.fbl_texts.specs.DumpLines.{common_data, dump_data, dump_line, ReadsBack, event_data, list_data, number_data, pair_data};
+ghost use Rattle.fbl_texts.specs.DumpLines.{IsWritable, common_data, dump_data, dump_line, ReadsBack, event_data, list_data, number_data, pair_data};
 
 use fbl_base::audit::Dump;
 use fbl_base::{Determinant, Mark, Member, MemberSet};
@@ -84,7 +84,7 @@ impl Form<(Member, Determinant)> for PairForm {
 
     fn value_of(alloc: Global, pair: (Member, Determinant)) -> Result<Value, AllocError> {
         let numbers = pair_numbers(pair.0, pair.1);
-        list_value::<u32, NumberForm>(alloc, &numbers)
+        list_value::<u32, NumberForm>(alloc, Vec::new(alloc), &numbers)
     }
 }
 
@@ -121,7 +121,7 @@ impl Form<Member> for MemberForm {
 }
 
 /// The items as a list, behind these values.
-fn list_behind<T: Copy, F: Form<T>>(
+pub(crate) fn list_value<T: Copy, F: Form<T>>(
     alloc: Global,
     front: Vec<Value>,
     items: &[T],
@@ -136,24 +136,13 @@ fn list_behind<T: Copy, F: Form<T>>(
     Ok(Value::Array(values))
 }
 
-/// The items as a list.
-pub(crate) fn list_value<T: Copy, F: Form<T>>(
-    alloc: Global,
-    items: &[T],
-) -> Result<Value, AllocError>
-    ensures value { IfOk result (λ v. view v ≡ list_data (map F.form items.now)) }
-    ensures reads_back { IfOk result (λ v. All (λ x. F.shape (F.form x) ≡ Some x) items.now) }
-{
-    list_behind::<T, F>(alloc, Vec::new(alloc), items)
-}
-
 /// The numbers as a list that begins with this name.
 pub(crate) fn named_value(alloc: Global, name: &str, numbers: &[u32]) -> Result<Value, AllocError>
     ensures { IfOk result (λ v. view v ≡ list_data (string name.now ∷ map number_data numbers.now)) }
 {
     let mut front = Vec::new(alloc);
     front.push(Value::String(String::from_str(alloc, name)?))?;
-    list_behind::<u32, NumberForm>(alloc, front, numbers)
+    list_value::<u32, NumberForm>(alloc, front, numbers)
 }
 
 /// A set as the list of its members, rising.
@@ -162,7 +151,7 @@ pub(crate) fn set_value(alloc: Global, set: MemberSet) -> Result<Value, AllocErr
     ensures reads_back { IfOk result (λ v. All (λ m. member_shape (number_data m) ≡ Some m) (member_list set)) }
 {
     let members = set.members(alloc)?;
-    list_value::<Member, MemberForm>(alloc, members.as_slice())
+    list_value::<Member, MemberForm>(alloc, Vec::new(alloc), members.as_slice())
 }
 
 /// The members of an object that a dump has in either version, but for its events.
@@ -189,22 +178,23 @@ fn dump_value(alloc: Global, dump: &Dump) -> Result<Value, AllocError>
     ensures reads_back { IfOk result (λ v. parts_of_data (dump_data dump.now) ≡ Ok dump.now) }
 {
     let mut object = common_members(alloc, dump.members(), dump.f(), dump.strike())?;
-    let events = list_value::<Mark, EventForm>(alloc, dump.events())?;
+    let events = list_value::<Mark, EventForm>(alloc, Vec::new(alloc), dump.events())?;
     put(&mut object, alloc, "events", events)?;
-    let held = list_value::<(Member, Determinant), PairForm>(alloc, dump.held())?;
+    let held = list_value::<_, PairForm>(alloc, Vec::new(alloc), dump.held())?;
     put(&mut object, alloc, "held", held)?;
     Ok(Value::Object(object))
 }
 
-/// The dump as JSON with no space. A newline may stand behind it where it is read.
-fn json_text(alloc: Global, dump: &Dump) -> Result<String, AllocError>
-    ensures text { IfOk result (λ text. string_bytes text ≡ compact_text (dump_data dump.now)) }
-    ensures reads_back { IfOk result (λ text. ReadsBack dump.now) }
+/// The value as one line of JSON with no space, which ends with a newline.
+pub(crate) fn line_of(alloc: Global, value: &Value) -> Result<String, AllocError>
+    requires { IsWritable (view value.now) }
+    ensures line { IfOk result (λ text. string_bytes text ≡ compact_text (view value.now) ++ 10 ∷ []) }
+    ensures reads_back { IfOk result (λ text. json_of (compact_text (view value.now) ++ 10 ∷ []) ≡ Some (view value.now)) }
 {
-    let value = dump_value(alloc, dump)?;
-    let text = value.to_string(alloc)?;
+    let mut text = value.to_string(alloc)?;
     // the text's contract says that it is UTF-8, as reading it back asks
     let _text = text.as_str();
+    text.push_str("\n")?;
     Ok(text)
 }
 
@@ -213,7 +203,6 @@ pub fn dump_text(alloc: Global, dump: &Dump) -> Result<String, AllocError>
     ensures line { IfOk result (λ text. string_bytes text ≡ dump_line dump.now) }
     ensures reads_back { IfOk result (λ text. ReadsBack dump.now) }
 {
-    let mut text = json_text(alloc, dump)?;
-    text.push_str("\n")?;
-    Ok(text)
+    let value = dump_value(alloc, dump)?;
+    line_of(alloc, &value)
 }

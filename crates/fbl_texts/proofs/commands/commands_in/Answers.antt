@@ -1,7 +1,6 @@
-use Rattle.fbl_texts.proofs.Common.{◌≡◌, ℕ, ◌+◌, ◌<◌, List, [], ◌∷◌, ◌++◌, Option, Some, Ok, Err, Result, arith, ap, ◌∙◌, sym, refl, drop, get_or, length, map, suc, append_assoc, nat_eq, cond, or_fault, ◌>>=◌, Data, Value, view, RunFault}
+use Rattle.fbl_texts.proofs.Common.{◌≡◌, ℕ, ◌+◌, ◌<◌, List, [], ◌∷◌, ◌++◌, Option, Some, Ok, Err, Result, arith, ap, ◌∙◌, sym, refl, drop, get_or, length, map, suc, append_assoc, nat_eq, ◌>>=◌, Data, Value, view, RunFault}
 use Rattle.std.proofs.Common.{add-one, drop-cons, false}
 use Rattle.std.proofs.lemmas.Bool.{ne_eqb}
-use Rattle.fbl_input.specs.declared.fault.RunFault.TheVariants.{BadCommand}
 use Rattle.fbl_texts.specs.Scripts.{commands_from, versioned_shape, with_front}
 use Rattle.fbl_texts.specs.declared.script.Command.{Command}
 use Rattle.fbl_texts.proofs.commands.commands_in.Goals as goal

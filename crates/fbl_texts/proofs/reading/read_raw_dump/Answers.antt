@@ -1,16 +1,13 @@
-use Rattle.std.proofs.Common.{IfSome}
 use Rattle.fbl_texts.proofs.Common.{refl, sym, IsOfParts, parts_of_data}
 use Rattle.fbl_input.specs.declared.misfit.InputKind.TheVariants.{Dump}
-use Rattle.fbl_texts.proofs.Refusals.{has_input, is_passed, of_bytes, unread}
+use Rattle.fbl_texts.proofs.Refusals.{has_input, of_bytes, unread}
 use Rattle.fbl_texts.specs.RawDumps.{IsNoRawDump, IsRawDumpOf, RefusesNone}
 use Rattle.fbl_texts.proofs.reading.read_raw_dump.Goals as goal
 
 pub returns-in_err-bytes-clause-fault : goal.returns-in_err-bytes-clause-fault
 returns-in_err-bytes-clause-fault g c =
-    let known = g.R.Read.remaining c.args.reader.now in
-    let fault = c.in_err-bytes.field-0.0 in
-    is_passed (λ e. IfSome known (λ input. IsNoRawDump input e)) fault c.from_residual.result c.from_residual.ensures.1
-    (unread Dump parts_of_data RefusesNone IsOfParts (λ parts. (tt, tt)) known fault c.in_err-bytes.ensures.unread)
+    unread Dump parts_of_data RefusesNone IsOfParts (λ parts. (tt, tt)) (g.R.Read.remaining c.args.reader.now) c.in_err-bytes.field-0.0 c.from_residual.result c.from_residual.ensures.1
+    c.in_err-bytes.ensures.unread
 
 pub returns-in-Ok-clause-parts : goal.returns-in-Ok-clause-parts
 returns-in-Ok-clause-parts g c =

@@ -1,4 +1,4 @@
-use Rattle.fbl_texts.proofs.Common.{refl, sym}
+use Rattle.fbl_texts.proofs.Common.{sym}
 use Rattle.fbl_texts.proofs.Refusals.{has_input, of_bytes}
 use Rattle.fbl_texts.specs.Logs.{IsNotRecorded, IsRecordedOf}
 use Rattle.fbl_texts.proofs.recorded.read_recorded.Goals as goal

@@ -1,16 +1,13 @@
-use Rattle.std.proofs.Common.{IfSome}
 use Rattle.fbl_texts.proofs.Common.{refl, sym, IsOfSettings}
 use Rattle.fbl_input.specs.declared.misfit.InputKind.TheVariants.{Script}
-use Rattle.fbl_texts.proofs.Refusals.{has_input, is_passed, of_bytes, unread}
+use Rattle.fbl_texts.proofs.Refusals.{has_input, of_bytes, unread}
 use Rattle.fbl_texts.specs.Scripts.{IsNoScript, IsScriptOf, RefusesScript, outline, outline_of}
 use Rattle.fbl_texts.proofs.script_reading.read_script.Goals as goal
 
 pub returns-in_err-input-clause-fault : goal.returns-in_err-input-clause-fault
 returns-in_err-input-clause-fault g c =
-    let known = g.R.Read.remaining c.args.reader.now in
-    let fault = c.in_err-input.field-0.0 in
-    is_passed (λ e. IfSome known (λ input. IsNoScript input e)) fault c.from_residual.result c.from_residual.ensures.1
-    (unread Script outline_of RefusesScript (λ s. IsOfSettings s.config) (λ s. (tt, tt)) known fault c.in_err-input.ensures.unread)
+    unread Script outline_of RefusesScript (λ s. IsOfSettings s.config) (λ s. (tt, tt)) (g.R.Read.remaining c.args.reader.now) c.in_err-input.field-0.0 c.from_residual.result c.from_residual.ensures.1
+    c.in_err-input.ensures.unread
 
 pub returns-in-Ok-clause-script : goal.returns-in-Ok-clause-script
 returns-in-Ok-clause-script g c =

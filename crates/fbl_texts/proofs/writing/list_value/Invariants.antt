@@ -1,6 +1,6 @@
 -- the values so far, and that they read back
 use Rattle.fbl_texts.proofs.Common.{◌≡◌, ◌++◌, map, take, Some, All, view}
-use Rattle.fbl_texts.proofs.writing.list_behind.Given as goal
+use Rattle.fbl_texts.proofs.writing.list_value.Given as goal
 
 abbrev pub invariant-loop-item : goal.invariant-loop-item
 invariant-loop-item g l = record {

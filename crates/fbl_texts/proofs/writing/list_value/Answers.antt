@@ -1,6 +1,6 @@
 use Rattle.fbl_texts.proofs.Common.{◌≡◌, ◌++◌, ap, ◌∙◌, Some, map, take_all, array, view, items_of, view-Array}
 use Rattle.fbl_texts.proofs.Values.{next_value, next_read}
-use Rattle.fbl_texts.proofs.writing.list_behind.Goals as goal
+use Rattle.fbl_texts.proofs.writing.list_value.Goals as goal
 
 pub loop-item-preserved : goal.loop-item-preserved
 loop-item-preserved g c =
