@@ -4,8 +4,8 @@ pub use Rattle.std.proofs.Common.{get_or, ℕ, ◌++◌, ◌+◌, ◌-◌, ◌<�
 pub use Rattle.std.proofs.Math.ListN.{length-set}
 pub use Rattle.std.proofs.lemmas.Bool.Decides.{nat_tests}
 pub use Rattle.std.proofs.lemmas.Grind.{common_steps}
-pub use Rattle.std.proofs.lemmas.List.{append_assoc, at_drop_more, length-append}
-pub use Rattle.std.proofs.lemmas.List.Elements.{All-pop, All-push, All-weaker}
+pub use Rattle.std.proofs.lemmas.List.{append_assoc, drop_more, length-append}
+pub use Rattle.std.proofs.lemmas.List.Elements.{All-pop, All-push}
 pub use Rattle.std.proofs.lemmas.Option.{get_or_from_slice_get, slice_get-get_or, slice_get_past, slice_get_within}
 pub use Rattle.std.specs.List.{All, AllByRecursion}
 pub use Rattle.std.specs.Option.{option_copied, option_map}
@@ -20,4 +20,5 @@ pub use Rattle.fbl_table.specs.declared.entry.Entry.{Entry}
 pub use Rattle.fbl_member.specs.Carried.{IsOnce}
 pub use Rattle.fbl_member.specs.Laws.{IsKept, without_number}
 pub use Rattle.fbl_member.specs.Members.{MemberRecord, Message, blank, fresh, logged_beyond, logged_note, messages_from}
-pub use Rattle.fbl_member.specs.Stored.{HasRoom}
+pub use Rattle.fbl_member.specs.Stored.{HasRoom, HasRooms}
+pub use Rattle.fbl_member.specs.declared.buffers.Buffers.{Buffers}

@@ -35,7 +35,6 @@ impl<N: Copy, A: Allocator + Copy> Buffers<N, A> {
     }
 
     /// Makes the messages of a step's sends, numbered from one more than `before`, each with what the table passes on.
-    #[tactic(auto, using(crate::proofs::Once::carried_once))]
     pub(crate) fn into_wires(
         self,
         me: Member,

@@ -99,8 +99,7 @@ impl<A: Allocator + Copy> Carried<A> {
     fn copy(&self) -> Result<Carried<A>, AllocError>
         ensures { IfOk result (λ carried. carried ≡ self.now) }
     {
-        let mut copy = Vec::new(*self.allocator());
-        copy.extend_from_slice(self.entries())?;
+        let copy = Vec::from_slice(*self.allocator(), self.entries())?;
         Ok(Carried::own(copy))
     }
 

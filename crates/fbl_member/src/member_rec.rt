@@ -94,8 +94,7 @@ impl<S: Copy, N: Content, A: Allocator + Copy> MemberRec<S, N, A> {
     pub fn copy_with(&self, table: Table<A>) -> Result<MemberRec<S, N, A>, AllocError>
         ensures { IfOk result (λ m. m ≡ record self.now { table = table }) }
     {
-        let mut log = Vec::new(*self.log.allocator());
-        log.extend_from_slice(self.log.as_slice())?;
+        let log = Vec::from_slice(*self.log.allocator(), self.log.as_slice())?;
         Ok(MemberRec {
             state: self.state,
             received: self.received,

@@ -1,10 +1,12 @@
-use Rattle.fbl_member.proofs.Common.{◌≡◌, ap, ◌∙◌, sym, arith, length, drop, length-append, starts_of}
+use Rattle.fbl_member.proofs.Common.{ap, arith, common_steps, length, length-append}
 use Rattle.fbl_member.proofs.Logs.{few_starts}
 use Rattle.fbl_member.proofs.member_rec.MemberRec.fresh.Goals as goal
 
+pub loop-start-preserved : goal.loop-start-preserved
+loop-start-preserved g c = grind (arith, common_steps)
+
 pub invariant_of-member : goal.invariant_of-member
-invariant_of-member g c =
-    let starts = c.starts-start-items.result.now in
-    let all = sym (length-append c.loop-start.log.items (starts_of c.args.me (drop c.loop-start.start-index starts))) ∙ ap length c.loop-start.invariant in
-    let same : length starts ≡ length c.args.config.now.starts = ap length c.starts-start-items.ensures in
-    (c.member.invariant.0, c.member.invariant.1, omega (arith, all, same, few_starts c.args.me starts, c.members-members.ensures.rules.few_starts))
+invariant_of-member g c = grind (arith, length-append, few_starts, c.members-members.ensures.rules.few_starts, ap length c.loop-start.invariant)
+
+pub returns : goal.returns
+returns g c = grind (arith, common_steps)

@@ -1,4 +1,4 @@
-use Rattle.fbl_member.proofs.Common.{◌≡◌, ◌++◌, ap, arith, length, All-weaker, nat_tests}
+use Rattle.fbl_member.proofs.Common.{◌≡◌, ◌++◌, ◌≤◌, ℕ, ap, arith, length, refl, HasRooms, Buffers}
 use Rattle.fbl_member.proofs.Logs.{bounded, numbered-more}
 use Rattle.fbl_member.proofs.member_rec.MemberRec.receive.Goals as goal
 use Rattle.fbl_member.proofs.member_rec.MemberRec.receive.Goals.{After-unwrap}
@@ -9,16 +9,15 @@ grown : (g : Over) (c : After-unwrap g) → c.extend_from_slice.new.self.items �
 grown g c =
     rw (c.in_ok-reserve.ensures.items, c.as_slice-sends.ensures.value) at (rw c.unwrap.ensures at c.extend_from_slice.ensures.items)
 
+-- room for this many entries is room for fewer
+fewer : {N A : Type 0} {messages more less : ℕ} {b : Buffers N A} → HasRooms messages more b → less ≤ more → HasRooms messages less b
+fewer rooms le = record { wires = rooms.wires; count = rooms.count; lists = λ k d below. grind (arith, rooms.lists k d below) }
+
 pub into_wires-requires-clause-numbers : goal.into_wires-requires-clause-numbers
-into_wires-requires-clause-numbers g c =
-    let sends : length c.as_slice-sends.result.now ≡ length c.args.outcome.now.sends.items = ap length c.as_slice-sends.ensures.value in
-    omega (arith, c.sent-before.ensures.value, sends, c.requires.sends)
+into_wires-requires-clause-numbers g c = omega (arith, c.sent-before.ensures.value, ap length c.as_slice-sends.ensures.value, c.requires.sends)
 
 pub into_wires-requires-clause-rooms : goal.into_wires-requires-clause-rooms
-into_wires-requires-clause-rooms g c =
-    let after = c.learn_and_note.new.self in
-    let most = c.room_to_piggyback-most.result in
-    grind (arith, All-weaker)
+into_wires-requires-clause-rooms g c = fewer c.in_ok-buffers.ensures (rw c.in_ok-learn_and_note.ensures.ok (c.room_to_piggyback-most.ensures.enough c.args.me c.next_determinant-determinant.result))
 
 pub invariant_of-self-2 : goal.invariant_of-self-2
 invariant_of-self-2 g c =
@@ -26,4 +25,15 @@ invariant_of-self-2 g c =
     (rw (← c.self.view_is) at c.requires.receipts) (grown g (goal.at.invariant_of-self-2 g c).After-unwrap) (rw (← c.self.view_is) at c.requires.sends)
 
 pub returns-clause-received : goal.returns-clause-received
-returns-clause-received g c = grind (arith, nat_tests, grown, numbered-more)
+returns-clause-received g c =
+    rw (← c.self.view_is, grown g (goal.at.returns-clause-received g c).After-unwrap, numbered-more, c.in_ok-learn_and_note.ensures.ok, c.next_determinant-determinant.ensures)
+    (rw (c.carried-carried.ensures.value, c.number.ensures.value, c.from.ensures, c.ssn.ensures, ← c.self.view_is) refl)
+
+pub returns-clause-sent : goal.returns-clause-sent
+returns-clause-sent g c = rw (c.sent-before.ensures.value, c.as_slice-sends.ensures.value) at c.into_wires.ensures
+
+pub invariant_of-self : goal.invariant_of-self
+invariant_of-self g c = (c.self.invariant.0, c.self.invariant.1, rw c.reserve.ensures.items c.self.invariant.2)
+
+pub invariant_of-self-in_err-learn_and_note : goal.invariant_of-self-in_err-learn_and_note
+invariant_of-self-in_err-learn_and_note g c = (c.self.invariant.0, c.self.invariant.1, rw c.reserve.ensures.items c.self.invariant.2)

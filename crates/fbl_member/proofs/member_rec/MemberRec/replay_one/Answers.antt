@@ -10,3 +10,6 @@ invariant_of-self-2 g c =
 
 pub returns-clause-replayed : goal.returns-clause-replayed
 returns-clause-replayed g c = grind (arith, nat_tests, numbered-more)
+
+pub invariant_of-self : goal.invariant_of-self
+invariant_of-self g c = (c.self.invariant.0, c.self.invariant.1, rw c.in_err-extend_from_slice.ensures.items c.self.invariant.2)

@@ -1,0 +1,5 @@
+use Rattle.fbl_member.proofs.Common.{arith, common_steps}
+use Rattle.fbl_member.proofs.buffers.empty_lists.Goals as goal
+
+pub loop-place-preserved : goal.loop-place-preserved
+loop-place-preserved g c = grind (arith, common_steps)
