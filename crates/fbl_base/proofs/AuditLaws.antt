@@ -2,10 +2,9 @@
 use Rattle.fbl_base.proofs.Common.{ℕ, ◌≡◌, Bool, false, not, ◌&&◌, ◌||◌, refl, sym, Decides, arith, nat_cmp, nat_tests, Any-from_list_any, list_any-from_Any, Determinant}
 use Rattle.fbl_base.proofs.Common.{and_parts, Parts, is_held_outside, same_determinant, or-false, not-true, IsHeldOutside, ◌+◌, ◌<◌, true, List, [], ◌∷◌, length, take}
 use Rattle.fbl_base.proofs.Common.{get_or, Some, ap, ◌∙◌, list_any, cons_option, take_more, list_any-append, filter_map-append, get_or_from_slice_get, Mark}
-use Rattle.fbl_base.proofs.Common.{determinant_of, Has, WellFormed, is_received, slice_get-get_or, receipt_of, receipts}
+use Rattle.fbl_base.proofs.Common.{determinant_of, Has, WellFormed, is_received, slice_get-get_or, receipt_of, receipts, IsCause, IsFirstCause, AreCauses, DependsOnPlace, same_place}
 use Rattle.fbl_base.proofs.Common.{◌==◌, ◌↔◌, inl, inr, map, false≢true, cases_eq, eqb-true, nat_cmp_total, filter, Contains, Members, holders_of, ◌≤◌, ◌⊎◌, ◌++◌, slice_get}
 use Rattle.fbl_base.proofs.Common.{slice_get_within, cases_order, None, Option, MatchOption, contains-insert_same, contains-insert_other, IsDumpOrphan, IsLostAt, IsReached}
-use Rattle.fbl_base.proofs.Common.{IsCause, IsFirstCause, AreCauses, DependsOnPlace, same_place}
 use Rattle.std.specs.FinSet as set
 use Rattle.fbl_base.proofs.Gets.{At-front, At-below, At-filter_map, filter_map-At, At-seam, At-push}
 use Rattle.fbl_base.proofs.RulesLaws.{eqb-self}

@@ -3,8 +3,7 @@ use Rattle.fbl_base.proofs.Common.{cases_Bool, slice_index, slice_set, ◌+◌, 
 use Rattle.fbl_base.proofs.Common.{take, drop, Some, refl, ap, ◌∙◌, arith, count_by, slice_get, nat_tests, filter_map, list_any, take-append-le, take_all, sum_by-cons, Mark, At}
 use Rattle.fbl_base.proofs.Common.{Has, is_send_of, sends_of, receipts_of, sent_on, taken_on, in_flight, MayFollow, WellFormed, append-nil, take-append-drop, sum_by_push, Send}
 use Rattle.fbl_base.proofs.Common.{Receipt, is_receipt_of, false, ◌≢◌, ◌≤◌, filter, list_any-append, filter-append, filter_map-append, first_in_flight, FitsEvent, next_number}
-use Rattle.fbl_base.proofs.Common.{Option, MatchOption, length-set, common_steps, Counted, EventRule, Counts, destination_of, source_of, CountsEvent, first_by}
-use Rattle.fbl_base.proofs.Common.{next_by, length-take, append_assoc}
+use Rattle.fbl_base.proofs.Common.{Option, MatchOption, length-set, common_steps, Counted, EventRule, Counts, destination_of, source_of, CountsEvent, first_by, next_by, length-take, append_assoc}
 use Rattle.fbl_base.proofs.Gets.{At-front, At-seam, At-below, At-push, At-filter, At-filter_map, Apart, Apart-filter, Apart-filter_map, slice_get-take}
 
 -- the empty trace obeys the rules

@@ -303,7 +303,8 @@ pub fn lost<A: Allocator + Copy>(
 pub fn orphans<A: Allocator + Copy>(alloc: A, dump: &Dump<A>) -> Result<MemberSet, AllocError>
     ensures { IfOk result (λ s. (q : ℕ) → (set.contains s q ≡ true) ↔ IsDumpOrphan dump.now q) }
 {
-    Ok(Audit::of(alloc, dump)?.orphans())
+    let audit = Audit::of(alloc, dump)?;
+    Ok(audit.orphans())
 }
 
 /// Determinants by their hashes.
@@ -415,25 +416,34 @@ pub fn checked_dump<A: Allocator + Copy>(
     ensures refused { IfErr result (λ e. RefusesDump (parts_of raw) e.0) }
     ensures breach { IfErr result (λ e. IsDumpBreach (parts_of raw) e.0 e.1) }
 {
+    match dump_breach(alloc, &raw) {
+        None => Ok(Dump { raw }),
+        Some(refused) => Err(refused),
+    }
+}
+
+/// What the dump is refused for, if it is: the refusal, and the rule that it breaks.
+fn dump_breach<A: Allocator + Copy>(alloc: A, raw: &RawDump<A>) -> Option<(DumpRefusal, Breach)>
+    ensures refused { MatchOption result (IsDump (parts_of raw.now)) (λ e. RefusesDump (parts_of raw.now) e.0) }
+    ensures breach { IfSome result (λ e. IsDumpBreach (parts_of raw.now) e.0 e.1) }
+{
     let members = raw.members;
     if members < LEAST_MEMBERS || members > MOST_MEMBERS {
-        return Err((DumpRefusal::BadMembers, Breach::Members { members }));
+        return Some((DumpRefusal::BadMembers, Breach::Members { members }));
     }
     if raw.f < 1 || raw.f >= members {
-        return Err((DumpRefusal::BadF, Breach::F { f: raw.f, members }));
+        return Some((DumpRefusal::BadF, Breach::F { f: raw.f, members }));
     }
     match first_bad_event(alloc, members, raw.events.as_slice()) {
         Ok(None) => {}
-        Ok(Some(fault)) => return Err((DumpRefusal::BadEvent(fault.place), Breach::Event(fault))),
-        Err(_) => return Err((DumpRefusal::Memory, Breach::Memory)),
+        Ok(Some(fault)) => return Some((DumpRefusal::BadEvent(fault.place), Breach::Event(fault))),
+        Err(_) => return Some((DumpRefusal::Memory, Breach::Memory)),
     }
-    match first_bad_pair(alloc, &raw) {
+    match first_bad_pair(alloc, raw) {
         Ok(None) => {}
-        Ok(Some(fault)) => return Err((DumpRefusal::BadHeld(fault.place), Breach::Held(fault))),
-        Err(_) => return Err((DumpRefusal::Memory, Breach::Memory)),
+        Ok(Some(fault)) => return Some((DumpRefusal::BadHeld(fault.place), Breach::Held(fault))),
+        Err(_) => return Some((DumpRefusal::Memory, Breach::Memory)),
     }
-    match raw.strike.outsider(members) {
-        None => Ok(Dump { raw }),
-        Some(outsider) => Err((DumpRefusal::BadStrike, Breach::Strike(outsider))),
-    }
+    let outsider = raw.strike.outsider(members)?;
+    Some((DumpRefusal::BadStrike, Breach::Strike(outsider)))
 }

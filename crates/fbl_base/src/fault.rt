@@ -18,7 +18,7 @@ pub struct Outsider {
 #[derive(Clone, Copy, PartialEq, Eq, Debug, Error)]
 pub enum StartRule {
     /// Each end is in the group: the first that isn't.
-    #[error("{0}")]
+    #[error(transparent)]
     Outside(Outsider),
     /// It goes from one member to another.
     #[error("must go to another member")]
@@ -35,7 +35,7 @@ pub enum EventRule {
     #[error("there may be at most 8192 events")]
     TooMany,
     /// Each end is in the group: the sender, if it isn't, and else the receiver.
-    #[error("{0}")]
+    #[error(transparent)]
     Outside(Outsider),
     /// A message goes from one member to another.
     #[error("its ends must differ")]
@@ -74,7 +74,7 @@ pub enum PairRule {
     #[error("there may be at most 131072 pairs")]
     TooMany,
     /// The holder is in the group.
-    #[error("{0}")]
+    #[error(transparent)]
     Outside(Outsider),
     /// Some event is the receipt that the determinant names.
     #[error("no event is {0}")]
@@ -123,9 +123,9 @@ pub enum Breach {
         limit: u32,
         starts: usize,
     },
-    #[error("{0}")]
+    #[error(transparent)]
     Event(EventFault),
-    #[error("{0}")]
+    #[error(transparent)]
     Held(PairFault),
     /// The least member of the strike set that is outside the group.
     #[error("in strike, {0}")]
@@ -150,7 +150,7 @@ pub enum EntryRule {
     #[error("may strike at most {0}, which is f")]
     TooManyMembers(u8),
     /// Each that it names is in the group: the least that isn't.
-    #[error("{0}")]
+    #[error(transparent)]
     Outside(Outsider),
 }
 

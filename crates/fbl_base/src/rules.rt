@@ -69,7 +69,6 @@ pub struct Counts<A: Allocator = Global> {
 
 impl<A: Allocator + Copy> Counts<A> {
     /// The counts of no events.
-    #[tactic(auto, using(crate::proofs::Gets::replicated))]
     pub fn new(alloc: A) -> Result<Counts<A>, AllocError>
         ensures { IfOk result (Counted []) }
     {

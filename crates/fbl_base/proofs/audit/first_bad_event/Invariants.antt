@@ -1,8 +1,5 @@
-use Rattle.fbl_base.proofs.Common.{ℕ, ◌<◌, take, ObeysAt, Counted}
+use Rattle.fbl_base.proofs.Common.{take, Counted, WellFormed}
 use Rattle.fbl_base.proofs.audit.first_bad_event.Given as goal
 
 abbrev pub invariant-loop-place : goal.invariant-loop-place
-invariant-loop-place g l = record {
-  counted : Counted (take l.place l.events) l.counts;
-  obeyed : (i : ℕ) → i < l.place → ObeysAt l.n l.events i;
-}
+invariant-loop-place g l = record { counted : Counted (take l.place l.events) l.counts; obeyed : WellFormed l.n (take l.place l.events) }
