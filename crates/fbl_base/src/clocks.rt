@@ -14,7 +14,7 @@ use std::hash::{BuildHasherDefault, FoldHasher};
 use std::marker::Model;
 
 /// For each member's number, how many events the trace has up to the member's last one of those that are counted.
-#[derive(Clone, Copy, Debug)]
+#[derive(Clone, Copy)]
 struct Clock {
     counts: [u16; 16],
 }

@@ -60,5 +60,6 @@ fn broken_rule<N: Content>(
     if entry.set.count() > u32::from(config.f()) {
         return Some(EntryRule::TooManyMembers(config.f()));
     }
-    entry.set.outsider(config.members()).map(EntryRule::Outside)
+    let outsider = entry.set.outsider(config.members())?;
+    Some(EntryRule::Outside(outsider))
 }
