@@ -10,7 +10,6 @@ use crate::fault::Breach;
 use crate::member::{LEAST_MEMBERS, MOST_MEMBERS};
 use crate::trace::{MOST_EVENTS, Note, Start};
 use std::alloc::{AllocError, Allocator, Global};
-use std::fmt;
 use std::marker::Model;
 use thiserror::Error;
 
@@ -19,6 +18,7 @@ const MOST_STARTS: usize = 64;
 
 /// Why there is no configuration of these parameters. The refusals are tested in this order.
 #[derive(Clone, Copy, PartialEq, Eq, Debug, Error)]
+#[error("{:?}", self)]
 pub enum ConfigRefusal {
     /// There are not 2 to 16 members.
     BadMembers,
@@ -30,21 +30,12 @@ pub enum ConfigRefusal {
     TooManyStarts,
     /// The start at this place, the first such, has an end outside the group, goes from a member to itself, or has
     /// a content that no start may have: a `Note` with more than 15 hops.
+    #[error("BadStart {0}")]
     BadStart(usize),
     /// The trace may have fewer events than there are starts.
     LimitBelowStarts,
     /// There is no memory for a copy of the starts. It is answered only where no other refusal holds.
     Memory,
-}
-
-/// The variant's name, with a blank and the place behind it where it has one.
-impl fmt::Display for ConfigRefusal {
-    fn fmt<W: fmt::Write>(&self, f: &mut fmt::Formatter<W>) -> fmt::Result {
-        match self {
-            ConfigRefusal::BadStart(place) => write!(f, "BadStart {place}"),
-            _ => write!(f, "{self:?}"),
-        }
-    }
 }
 
 impl ConfigRefusal {

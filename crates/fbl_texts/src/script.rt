@@ -8,7 +8,7 @@ use std::fmt;
 use std::marker::Model;
 
 /// The version of a script, which says what commands it may have.
-#[derive(Clone, Copy, Debug, PartialEq, Eq)]
+#[derive(Clone, Copy, PartialEq, Eq)]
 pub(crate) enum Version {
     /// Version 1: every command but the checkpoint.
     First,

@@ -116,7 +116,7 @@ const EXPLAIN_DRAW: &str =
 const VERSION: &str = "1.0.0";
 
 /// What the words of a command line ask for.
-#[derive(Drop, Debug)]
+#[derive(Drop)]
 pub(crate) struct Request<'a> {
     pub(crate) order: Order,
     /// The names of the files that are read, in order. A script is in one.

@@ -38,7 +38,7 @@ const CHANNEL_FAULT: u8 = 3;
 const MEMORY_FAULT: u8 = 4;
 
 /// What is to be done with a script.
-#[derive(Clone, Copy, PartialEq, Eq, Debug)]
+#[derive(Clone, Copy)]
 enum ScriptTask {
     /// Play it.
     Play {
@@ -55,7 +55,7 @@ enum ScriptTask {
 }
 
 /// What is to be done with a dump.
-#[derive(Clone, Copy, PartialEq, Eq, Debug)]
+#[derive(Clone, Copy)]
 enum DumpTask {
     /// Audit it.
     Audit,
@@ -68,7 +68,7 @@ enum DumpTask {
 }
 
 /// What is to be done with the input.
-#[derive(Clone, Copy, PartialEq, Eq, Debug)]
+#[derive(Clone, Copy)]
 enum Task {
     Script(ScriptTask),
     /// The input is a dump as it stands.
@@ -78,7 +78,7 @@ enum Task {
 }
 
 /// What the command line asks for.
-#[derive(Clone, Copy, PartialEq, Eq, Debug)]
+#[derive(Clone, Copy)]
 struct Order {
     task: Task,
     /// Whether explanations are told on standard error. What is written and the exit status are the same with them.

@@ -18,7 +18,7 @@ use std::convert::From;
 use std::fmt;
 
 /// Why what several files record is no run together.
-#[derive(Drop, Debug)]
+#[derive(Drop)]
 pub(crate) enum MergeFault {
     /// The file with this number, the first such, is of another version than the first file.
     Version(usize),
