@@ -64,7 +64,7 @@ pub use Rattle.fbl_table.specs.Receipts.{IsByNumber, receipt_at}
 pub use Rattle.fbl_table.specs.Tables.{found, is_held, piggybacked}
 pub use Rattle.fbl_table.specs.declared.entry.Entry.{Entry}
 pub use Rattle.fbl_group.specs.Channels.{AreReplaced, each, first_message, front, front_message, room_in, rooms, rows, send_of_message, taken_and_sent, value_of, with_at, with_sent}
-pub use Rattle.fbl_group.specs.Deliveries.{Delivered, Delivers, IsDeliverRefusal, IsPlanned, deliver_refusal, of_commit, IsCurrent, IsFresh, IsTicket, MayCommit, RefusesCommit, is_full, sends_at, take_refusal}
+pub use Rattle.fbl_group.specs.Deliveries.{Delivered, Delivers, IsDeliverRefusal, IsPlanned, MayTakeIn, TakesIn, deliver_refusal, of_commit, IsCurrent, IsFresh, IsTicket, MayCommit, RefusesCommit, is_full, record_at, sends_at, take_refusal}
 pub use Rattle.fbl_group.specs.Strikes.{AreByNumber, AreReplaying, AreSentAgain, IsReady, Rounds, Tries, Recovers, messages_at, AreRecordsReplaced, is_lost_receipt_of, is_within, lost_receipts, strike_refusal}
 pub use Rattle.fbl_group.specs.declared.answers.Receipted.{Receipted}
 pub use Rattle.fbl_group.specs.declared.channels.Channels.{Channels}

@@ -2,30 +2,15 @@
 use Rattle.fbl_group.proofs.Common.{Some, None, ◌≡◌, ◌≢◌, ℕ, ◌+◌, ◌<◌, ◌≤◌, false, List, [], ◌∷◌, ◌++◌, length, map, refl, sym, subst, ap, ◌∙◌, append_assoc, arith, get_or}
 use Rattle.fbl_group.proofs.Common.{length-append, Fits, w32, slice_get, slice_set, All, nat_tests, Event, Outcome, Next, Entry, piggybacked, Message, MemberRecord, messages_from, IsUp}
 use Rattle.fbl_group.proofs.Common.{taken_off, between, GroupRecord, HasChannels, member, channel, channel_in, knowledge, IsSound, step_of, up_if_none, receipts_fit, flight_at, IsOnce}
-use Rattle.fbl_group.proofs.Common.{front_message, send_of_message, taken_and_sent, IsPlanned, set-get_or, Receipt, SendsAllowed, is_held, last_from, received_by, table_after}
-use Rattle.fbl_group.proofs.Common.{next_determinant, IsInFlight, delivery_events, IsDelivery, SendsWell, sends_fit, receipt_is_new, new_not_held, new_not_carried, front_is_later}
+use Rattle.fbl_group.proofs.Common.{front_message, send_of_message, taken_and_sent, IsPlanned, MayTakeIn, TakesIn, record_at, Receipt, SendsAllowed, received_by, table_after}
+use Rattle.fbl_group.proofs.Common.{IsInFlight, delivery_events, IsDelivery, SendsWell, sends_fit, receipt_is_new, new_not_held, new_not_carried, front_is_later}
 use Rattle.fbl_group.proofs.Common.{carried_fits, length-step_events, Delivered, cond, is_full, front, deliver_refusal, of_commit, IsDeliverRefusal, Delivers}
 use Rattle.fbl_group.proofs.Common.{Receipted, Ticket, CommitRefusal, take_refusal, IsTicket, IsCurrent, IsFresh, MayCommit, RefusesCommit, sends_at, flight_ends}
 use Rattle.fbl_law.specs.GroupSteps.{made as made_by}
 use Rattle.fbl_group.proofs.Queues.{first-is, messages-all, sends-messages, settled-in}
-use Rattle.fbl_group.proofs.Recovering.{read_at}
 use Rattle.std.specs.FinSet as set
 use Rattle.fbl_group.specs.declared.refusals.CommitRefusal.TheVariants as commit
 use Rattle.fbl_group.specs.declared.refusals.DeliverRefusal.TheVariants.{Full}
-
-module _ {S N : Type 0} where
-  -- what the receiver's step asks of the message that is read at the front, and of the record at the receiver's place
-  pub record Reads (next : Next S N) (n p : ℕ) (outcome : Outcome S N) (w : Message N) (x : MemberRecord S N) : Type 0 where
-    pub least : 2 ≤ n
-    pub most : n ≤ 16
-    pub member : p < n
-    pub to_me : w.to ≡ p
-    pub newer : last_from x w.from < w.ssn
-    pub not_held : is_held x.table (next_determinant p x w.from w.ssn) ≡ false
-    pub not_carried : is_held w.carried (next_determinant p x w.from w.ssn) ≡ false
-    pub step : outcome ≡ next.step p n x.state w.note
-    pub receipts : x.received < 8192
-    pub sends : length x.log + length outcome.sends.items ≤ 8192
 
 module _ {S N : Type 0} {next : Next S N} {r now : GroupRecord S N} {q p : ℕ} {outcome : Outcome S N} (well : SendsWell next) (sound : IsSound next r) (view : r ≡ now)
     {note : N} (planned : IsPlanned next note now q p outcome) where
@@ -66,9 +51,8 @@ module _ {S N : Type 0} {next : Next S N} {r now : GroupRecord S N} {q p : ℕ} 
   -- of channels that are still the group's: there is a front, what is read there is the message, and receivers are members
   module _ {cs : List (List (List (Message N)))} (same : cs ≡ r.channels) where
     -- where memory ran out, all is as it was
-    pub stays : (place : ℕ) {x before : MemberRecord S N} {trace : List (Event N)} → x ≡ before → before ≡ get_or r.members place before
-        → trace ≡ r.trace → record r { members = slice_set r.members place x; channels = cs; trace = trace } ≡ r
-    stays place {before = before} unchanged read kept = rw (kept, same, unchanged, read, set-get_or r.members place before) refl
+    pub stays : {members : List (MemberRecord S N)} {trace : List (Event N)} → members ≡ r.members → trace ≡ r.trace → record r { members = members; channels = cs; trace = trace } ≡ r
+    stays unchanged kept = rw (kept, same, unchanged) refl
 
     pub not_empty : slice_get (channel_in cs q p) 0 ≡ None → ⊥
     not_empty none = (let first = rw none at (rw (← same) at plan.first) in cc)
@@ -91,13 +75,13 @@ module _ {S N : Type 0} {next : Next S N} {r now : GroupRecord S N} {q p : ℕ} 
           let same : carried ≡ v.carried = is ∙ ap (λ (u : Message N). u.carried) is_v in
           omega (arith, ap length same, carried_fits next r sound v flies (subst IsOnce same once), sound.room, sound.config.limit.1)
 
-      -- and what is read at the member's place is its record
-      module _ {place : ℕ} {x : MemberRecord S N} (at_place : place ≡ p) (read : x ≡ get_or r.members place x) where
-        is_m : x ≡ m
-        is_m = read_at r.outside r.members at_place (omega (arith, plan.to_member, sound.members)) read
+      -- and the receiver may take it in
+      module _ (outside : r.outside ≡ next.initial 0 0) where
+        is_m : record_at next r.members p ≡ m
+        is_m = rw outside refl
 
-        pub reads : {n : ℕ} → n ≡ r.config.members → Reads next n p outcome w x
-        reads is =
+        pub may_take_in : {n : ℕ} → n ≡ r.config.members → MayTakeIn next n p outcome w (record_at next r.members p)
+        may_take_in is =
             let new = receipt_is_new next r sound p q v.ssn plan.to_member up in
             let newer = (rw (of_sender, to_receiver) at (front_is_later next r sound v (rw (of_sender, to_receiver) plan.first))) in
             let not_held = new_not_held next r sound p _ new in
@@ -107,30 +91,29 @@ module _ {S N : Type 0} {next : Next S N} {r now : GroupRecord S N} {q p : ℕ} 
             rw (is, is_m, is_v) grind (arith, sound.config, plan.to_member, of_sender, to_receiver, newer, not_held, not_carried, step, receipts, sends, room)
 
         -- the record after the delivery, from what each step of it made
-        module _ {after_rows : List (List (List (Message N)))} {f ssn rsn : ℕ} {after : MemberRecord S N} {made : List (Message N)} {reserved pushed trace : List (Event N)}
-            (received : after ≡ received_by p x w outcome) (sent : made ≡ messages_from p (length x.log) (piggybacked f after.table) outcome.sends.items)
-            (f_is : f ≡ r.config.f) (ssn_is : ssn ≡ w.ssn) (rsn_is : rsn ≡ after.received) (kept : reserved ≡ r.trace)
+        module _ {after_rows : List (List (List (Message N)))} {f ssn rsn : ℕ} {members : List (MemberRecord S N)} {made : List (Message N)} {reserved pushed trace : List (Event N)}
+            (taken : TakesIn next f p outcome w r.members members rsn made) (f_is : f ≡ r.config.f) (ssn_is : ssn ≡ w.ssn) (kept : reserved ≡ r.trace)
             (receipt : pushed ≡ reserved ++ Receipt p rsn q ssn ∷ []) (sends : trace ≡ pushed ++ map send_of_message made)
             (moved : after_rows ≡ taken_and_sent cs q p made) where
           abbrev new : GroupRecord S N
-          new = record r { members = slice_set r.members place after; channels = after_rows; trace = trace; receipts_ever = r.receipts_ever + 1 }
+          new = record r { members = members; channels = after_rows; trace = trace; receipts_ever = r.receipts_ever + 1 }
 
-          receives : after ≡ received_by p m v outcome
-          receives = rw (is_m, is_v) at received
+          receives : members ≡ slice_set r.members p (received_by p m v outcome)
+          receives = rw (is_m, is_v) at taken.members
 
           made_is : made ≡ messages_from p (length m.log) (piggybacked r.config.f (table_after p m v)) outcome.sends.items
-          made_is = rw (is_m, f_is, receives) at sent
+          made_is = rw (is_m, is_v, f_is) at taken.sent
 
           made_next : made ≡ made_by next r v
           made_next = made_is ∙ rw (plan.step, to_receiver) refl
 
           settled : HasChannels r.config.members after_rows × ((a b : ℕ) → channel new a b ≡ taken_off v a b (channel r a b) ++ between a b (made_by next r v))
           settled =
-              let ends : All (λ (u : Message N). (u.from ≡ p) × (u.to < r.config.members)) made = rw sent (messages-all (λ k. k < r.config.members) p _ _ outcome.sends.items receivers) in
+              let ends : All (λ (u : Message N). (u.from ≡ p) × (u.to < r.config.members)) made = rw taken.sent (messages-all (λ k. k < r.config.members) p _ _ outcome.sends.items receivers) in
               rw (moved, same, ← made_next) (settled-in v made sound.shape plan.from_member plan.to_member of_sender to_receiver ends)
 
           rsn_next : rsn ≡ m.received + 1
-          rsn_next = rsn_is ∙ ap (λ (y : MemberRecord S N). y.received) receives
+          rsn_next = rw is_m at taken.numbered
 
           trace_is : trace ≡ r.trace ++ delivery_events next r v
           trace_is = rw (sends, receipt, kept, made_is, append_assoc, sends-messages, rsn_next, ssn_is, is_v, plan.step, to_receiver, of_sender) refl
@@ -143,7 +126,7 @@ module _ {S N : Type 0} {next : Next S N} {r now : GroupRecord S N} {q p : ℕ} 
 
           is_delivery : IsDelivery next r new v
           is_delivery =
-              grind (arith, plan, of_sender, to_receiver, room, longer, trace_is, at_place, receives, settled)
+              grind (arith, plan, of_sender, to_receiver, room, longer, trace_is, receives, settled)
 
           -- what the delivery answers
           pub is_delivered : {carried : List Entry} → carried ≡ w.carried

@@ -4,7 +4,7 @@ use Rattle.fbl_group.proofs.Common.{[], length, Option, Some, get_or, refl, sym,
 use Rattle.fbl_group.proofs.Common.{blank, IsDown, recovery_table, GroupRecord, member_checkpoint, knowledge, IsSound, working, IsReplaying, found, receipt_at, logged_note, replayed_by}
 use Rattle.fbl_group.proofs.Common.{replay_begins, replaying-next, replay_is_right, replayed_in-step, replaying-tables, AreByNumber, Tries, Rounds, Made, cond, common_steps, Members}
 use Rattle.fbl_group.proofs.Common.{AreRecordsReplaced, ◌||◌, ◌⊎◌, ◌-◌, map, Fits, filter, get_or_past, Event, mark_of, Message, IsUp, channel_in, channel, member, marks, receipts}
-use Rattle.fbl_group.proofs.Common.{sent_again, sum_below-agree, Recovers, AreReplaced, AreSentAgain, IsReady, w32, w64, ◌^◌, messages_in, is_replayed, stays_by, recovered_trace, resent_to, IsRebuilt}
+use Rattle.fbl_group.proofs.Common.{sum_below-agree, Recovers, AreReplaced, AreSentAgain, IsReady, w32, w64, ◌^◌, messages_in, is_replayed, stays_by, recovered_trace, resent_to, IsRebuilt}
 use Rattle.fbl_group.proofs.Common.{cut-undone, recovered_trace-cut, sent_again-short, with-table, working-log, replayed_in-all, recovered_trace-rebuilt}
 use Rattle.fbl_group.proofs.Common.{rebuilt_is_recovered, messages_at, IsRecovery}
 use Rattle.std.specs.FinSet as set

@@ -1,8 +1,9 @@
 -- Steps that are taken apart from the record, and deliveries: when they are refused, and what they leave and answer.
-use Rattle.std.specs.Prelude.{◌≡◌, ◌≢◌, ℕ, List, codes, ◌+◌, ◌==◌, ◌&&◌, ◌||◌, not, nat_lt, Bool, true, false, length, Option, Some, None, if◌then◌else◌, ◌<◌, [], slice_index_or}
+use Rattle.std.specs.Prelude.{◌≡◌, ◌≢◌, ℕ, List, codes, ◌+◌, ◌==◌, ◌&&◌, ◌||◌, not, nat_lt, Bool, true, false, length, Option, Some, None, if◌then◌else◌, ◌<◌, ◌≤◌, [], slice_index_or, slice_set}
 use Rattle.std.specs.FinSet as set
 use Rattle.fbl_base.specs.Fold.{Next}
-use Rattle.fbl_member.specs.Members.{Message, MemberRecord}
+use Rattle.fbl_member.specs.Members.{Message, MemberRecord, blank, last_from, messages_from, next_determinant, received_by, table_after}
+use Rattle.fbl_table.specs.Tables.{is_held, piggybacked}
 use Rattle.fbl_law.specs.Groups.{GroupRecord, member}
 use Rattle.fbl_group.specs.declared.refusals.TakeRefusal.{TakeRefusal}
 use Rattle.fbl_group.specs.declared.refusals.TakeRefusal.TheVariants as take
@@ -130,6 +131,29 @@ pub record IsPlanned {S N : Type 0} (next : Next S N) (note : N) (r : GroupRecor
   pub first : front r q p ≡ Some (front_message note r q p)
   pub step : outcome ≡ step_of next r (front_message note r q p)
   pub room : is_full r (length outcome.sends.items) ≡ false
+
+-- the record at p of these, which are a group's
+abbrev pub record_at : {S N : Type 0} → Next S N → List (MemberRecord S N) → ℕ → MemberRecord S N
+record_at next members p = slice_index_or members p (blank (next.initial 0 0))
+
+-- what the receiver's step asks of the message and of the receiver's record
+pub record MayTakeIn {S N : Type 0} (next : Next S N) (n p : ℕ) (outcome : Outcome S N) (w : Message N) (x : MemberRecord S N) : Type 0 where
+  pub least : 2 ≤ n
+  pub most : n ≤ 16
+  pub member : p < n
+  pub to_me : w.to ≡ p
+  pub newer : last_from x w.from < w.ssn
+  pub not_held : is_held x.table (next_determinant p x w.from w.ssn) ≡ false
+  pub not_carried : is_held w.carried (next_determinant p x w.from w.ssn) ≡ false
+  pub step : outcome ≡ next.step p n x.state w.note
+  pub receipts : x.received < 8192
+  pub sends : length x.log + length outcome.sends.items ≤ 8192
+
+-- the receiver's record takes the message in, with its step, and no other changes: the number of the receipt, and the messages of the step
+pub record TakesIn {S N : Type 0} (next : Next S N) (f p : ℕ) (outcome : Outcome S N) (w : Message N) (old new : List (MemberRecord S N)) (rsn : ℕ) (made : List (Message N)) : Type 0 where
+  pub members : new ≡ slice_set old p (received_by p (record_at next old p) w outcome)
+  pub numbered : rsn ≡ (record_at next old p).received + 1
+  pub sent : made ≡ messages_from p (length (record_at next old p).log) (piggybacked f (table_after p (record_at next old p) w)) outcome.sends.items
 
 -- the word of a refusal, as it is printed
 abbrev pub deliver_name : DeliverRefusal → List ℕ

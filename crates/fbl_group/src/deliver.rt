@@ -1,14 +1,15 @@
 //! Deliveries.
 
-ghost use Rattle.std.specs.Prelude.{◌≡◌, IfOk, IfErr, OnErr, None};
+ghost use Rattle.std.specs.Prelude.{◌≡◌, ◌<◌, IfOk, IfErr, OnErr, None, vec_len};
 ghost use Rattle.fbl_group.specs.Channels.{front_message};
-ghost use Rattle.fbl_group.specs.Deliveries.{deliver_refusal, IsDeliverRefusal, IsPlanned, Delivers, Delivered, of_commit as of_commit_refusal};
+ghost use Rattle.fbl_group.specs.Deliveries.{deliver_refusal, IsDeliverRefusal, IsPlanned, Delivers, Delivered, MayTakeIn, TakesIn, of_commit as of_commit_refusal, record_at};
 
 use crate::answers::Receipted;
 use crate::group::Group;
 use crate::refusals::{CommitRefusal, DeliverRefusal};
 use crate::ticket::{Done, run_step};
-use fbl_base::{Behaviour, Event, Member};
+use fbl_base::{Behaviour, Event, Member, Outcome};
+use fbl_member::{MemberRec, Wire};
 use std::alloc::{AllocError, Allocator};
 
 impl<B: Behaviour, A: Allocator + Copy> Group<B, A> {
@@ -47,9 +48,7 @@ impl<B: Behaviour, A: Allocator + Copy> Group<B, A> {
         let carried = wire.carried().len() as u32;
         let n = self.config.members();
         let f = self.config.f();
-        let member = &mut self.members[usize::from(to.number())];
-        let made = member.receive::<B>(to, n, f, wire, &done.outcome)?;
-        let rsn = member.received();
+        let (rsn, made) = take_in::<B, A>(&mut self.members, to, n, f, wire, &done.outcome)?;
         self.trace
             .push_reserved(Event::Receipt { to, rsn, from, ssn });
         self.channels.take_and_send(from, to, made, &mut self.trace);
@@ -60,6 +59,26 @@ impl<B: Behaviour, A: Allocator + Copy> Group<B, A> {
             state: done.outcome.state,
         })
     }
+}
+
+/// Lets the receiver take the message in, in a group of `n` members of whom `f` may be lost. Answers the number of the receipt, and the
+/// messages of the step. Where memory runs out nothing changes.
+fn take_in<B: Behaviour, A: Allocator + Copy>(
+    members: &mut Vec<MemberRec<B::State, B::Note, A>, A>,
+    to: Member,
+    n: u8,
+    f: u8,
+    wire: &Wire<B::Note, A>,
+    outcome: &Outcome<B::State, B::Note>,
+) -> Result<(u32, Vec<Wire<B::Note, A>, A>), AllocError>
+    requires place { to < vec_len members.old }
+    requires may { MayTakeIn B.next n to outcome.now wire.now (record_at B.next members.old.items to) }
+    ensures taken { IfOk result (λ made. TakesIn B.next f to outcome.now wire.now members.old.items members.new.items made.0 made.1.items) }
+    ensures unchanged { OnErr result (members.new.items ≡ members.old.items) }
+{
+    let member = &mut members[usize::from(to.number())];
+    let made = member.receive::<B>(to, n, f, wire, outcome)?;
+    Ok((member.received(), made))
 }
 
 /// The refusal of the commit of a step whose ticket was just taken, as one of a delivery: what was just taken is not stale.

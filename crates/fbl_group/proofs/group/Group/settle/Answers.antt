@@ -1,4 +1,4 @@
-use Rattle.fbl_group.proofs.Common.{◌≡◌, length, arith, rules, refl, ap, subst, ◌∙◌, room_in, IsSound, group_delivery_keeps}
+use Rattle.fbl_group.proofs.Common.{◌<◌, ◌≡◌, length, vec_len, arith, rules, refl, ap, subst, ◌∙◌, room_in, IsSound, group_delivery_keeps}
 use Rattle.std.proofs.Common.{Option, Some, None, IfNone, IsSome}
 use Rattle.fbl_group.proofs.Queues.{length-messages, made-fits}
 use Rattle.fbl_group.proofs.Delivering as planning
@@ -21,39 +21,41 @@ overflow_cast-carried g c =
     planning.few_carried g.met.B.Behaviour.laws.sends c.self.invariant c.self.view_is c.requires c.reserve_from.ensures.same
     (rw c.unwrap-wire.ensures at c.front.ensures.some) c.carried.ensures.value c.carried.ensures.once
 
-pub receive-requires : goal.receive-requires
-receive-requires g c =
-    let reads = planning.reads g.met.B.Behaviour.laws.sends c.self.invariant c.self.view_is c.requires c.reserve_from.ensures.same
-    (rw c.unwrap-wire.ensures at c.front.ensures.some) (c.from.ensures ∙ c.number.ensures.value) c.index_mut-member.ensures.value c.members-n.ensures.value in
-    search (rules, reads)
+pub take_in-requires : goal.take_in-requires
+take_in-requires g c =
+    let to = rw (← c.self.view_is) at c.requires.to_member in
+    let place : c.args.done.now.ticket.to < vec_len c.self.inside.members = omega (arith, to, c.self.invariant.members, c.self.inside.members.ok.0) in
+    let may = planning.may_take_in g.met.B.Behaviour.laws.sends c.self.invariant c.self.view_is c.requires c.reserve_from.ensures.same
+    (rw c.unwrap-wire.ensures at c.front.ensures.some) refl c.members-n.ensures.value in
+    search (rules, place, may)
 
-pub invariant_of-self-in_err-made : goal.invariant_of-self-in_err-made
-invariant_of-self-in_err-made g c =
-    rw (planning.stays g.met.B.Behaviour.laws.sends c.self.invariant c.self.view_is c.requires c.reserve_from.ensures.same c.from.result
-    c.in_err-made.ensures.unchanged c.index_mut-member.ensures.value c.reserve.ensures.items) c.self.invariant
+pub invariant_of-self-in_err-rsn : goal.invariant_of-self-in_err-rsn
+invariant_of-self-in_err-rsn g c =
+    rw (planning.stays g.met.B.Behaviour.laws.sends c.self.invariant c.self.view_is c.requires c.reserve_from.ensures.same
+    c.in_err-rsn.ensures.unchanged c.reserve.ensures.items) c.self.invariant
 
-pub returns-in_err-made-clause-unchanged : goal.returns-in_err-made-clause-unchanged
-returns-in_err-made-clause-unchanged g c =
+pub returns-in_err-rsn-clause-unchanged : goal.returns-in_err-rsn-clause-unchanged
+returns-in_err-rsn-clause-unchanged g c =
     grind (
       arith,
-      planning.stays g.met.B.Behaviour.laws.sends c.self.invariant c.self.view_is c.requires c.reserve_from.ensures.same c.from.result
-          c.in_err-made.ensures.unchanged c.index_mut-member.ensures.value c.reserve.ensures.items ∙ c.self.view_is,
+      planning.stays g.met.B.Behaviour.laws.sends c.self.invariant c.self.view_is c.requires c.reserve_from.ensures.same
+          c.in_err-rsn.ensures.unchanged c.reserve.ensures.items ∙ c.self.view_is,
     )
 
 pub take_and_send-requires-clause-receivers : goal.take_and_send-requires-clause-receivers
 take_and_send-requires-clause-receivers g c =
-    planning.sent_in g.met.B.Behaviour.laws.sends c.self.invariant c.self.view_is c.requires c.reserve_from.ensures.same _ _ c.in_ok-made.ensures.sent
+    planning.sent_in g.met.B.Behaviour.laws.sends c.self.invariant c.self.view_is c.requires c.reserve_from.ensures.same _ _ c.in_ok-rsn.ensures.taken.sent
 
 pub take_and_send-requires-clause-room : goal.take_and_send-requires-clause-room
 take_and_send-requires-clause-room g c =
     made-fits (λ k. room_in c.reserve_from.new.self c.args.done.now.ticket.to k) c.args.done.now.ticket.to _ _
-    c.as_slice-sends.ensures.value c.in_ok-made.ensures.sent c.in_ok-reserve_from.ensures.room
+    c.as_slice-sends.ensures.value c.in_ok-rsn.ensures.taken.sent c.in_ok-reserve_from.ensures.room
 
 pub take_and_send-requires-clause-trace : goal.take_and_send-requires-clause-trace
 take_and_send-requires-clause-trace g c =
-    let count : length c.in_ok-made.made.items ≡ length c.args.done.now.outcome.sends.items = ap length c.in_ok-made.ensures.sent ∙ length-messages _ _ _ c.args.done.now.outcome.sends.items in
+    let count : length c.in_ok-rsn.made.items ≡ length c.args.done.now.outcome.sends.items = ap length c.in_ok-rsn.ensures.taken.sent ∙ length-messages _ _ _ c.args.done.now.outcome.sends.items in
     let given : length c.as_slice-sends.result.now ≡ length c.args.done.now.outcome.sends.items = ap length c.as_slice-sends.ensures.value in
-    omega (arith, c.in_ok-made.made.ok.0, count, given, c.push_reserved.ensures.len, c.push_reserved.ensures.capacity, c.in_ok-reserve.ensures.ok)
+    omega (arith, c.in_ok-rsn.made.ok.0, count, given, c.push_reserved.ensures.len, c.push_reserved.ensures.capacity, c.in_ok-reserve.ensures.ok)
 
 pub overflow_add-self : goal.overflow_add-self
 overflow_add-self g c =
@@ -64,9 +66,8 @@ overflow_add-self g c =
 pub returns-clause-delivered : goal.returns-clause-delivered
 returns-clause-delivered g c =
     planning.is_delivered g.met.B.Behaviour.laws.sends c.self.invariant c.self.view_is c.requires c.reserve_from.ensures.same
-    (rw c.unwrap-wire.ensures at c.front.ensures.some) (c.from.ensures ∙ c.number.ensures.value) c.index_mut-member.ensures.value
-    c.in_ok-made.ensures.received c.in_ok-made.ensures.sent c.f-f.ensures c.ssn-ssn.ensures c.received-rsn.ensures.value c.reserve.ensures.items
-    c.push_reserved.ensures.items c.take_and_send.ensures.trace c.take_and_send.ensures.channels c.carried.ensures.value
+    (rw c.unwrap-wire.ensures at c.front.ensures.some) refl c.in_ok-rsn.ensures.taken c.f-f.ensures c.ssn-ssn.ensures
+    c.reserve.ensures.items c.push_reserved.ensures.items c.take_and_send.ensures.trace c.take_and_send.ensures.channels c.carried.ensures.value
 
 pub invariant_of-self-2 : goal.invariant_of-self-2
 invariant_of-self-2 g c =
