@@ -16,17 +16,16 @@ use Rattle.fbl_base.specs.declared.refusal.DumpRefusal.TheVariants.{BadEvent, Ba
 use Rattle.fbl_moments.specs.declared.fault.LogBreach.TheVariants.{Trace}
 use Rattle.fbl_order.specs.Faults.{RefusesGroup, RefusesOrder}
 use Rattle.fbl_order.specs.LogFaults.{AreEventPlaces, RefusesAmong, RefusesInOrder, breach_given, place_given, refusal_given}
-use Rattle.fbl_order.specs.LogOrders.{IsOrderOfEntries, SameEntryLogs, SameLogAnswers, items_at, with_entries}
+use Rattle.fbl_order.specs.LogOrders.{ArePlaces, IsOrderOfEntries, SameEntryLogs, SameLogAnswers, items_at, with_entries}
 use Rattle.fbl_order.specs.Orders.{IsOrder}
 use Rattle.fbl_order.specs.declared.fault.LogOrderFault.TheVariants.{Log}
 use Rattle.fbl_order.specs.declared.fault.OrderFault.TheVariants.{Dump}
 use Rattle.fbl_order.proofs.Common.{At, Mark, slice_get-get_or}
 use Rattle.fbl_order.proofs.EventPlaces.{mark_at}
-use Rattle.std.proofs.Common.{Global}
+use Rattle.std.proofs.Common.{Global, sum_by}
 use Rattle.fbl_order.proofs.Own.{At-some, same_own-permutation}
 use Rattle.fbl_order.proofs.LogLaws.{filter-At}
 use Rattle.fbl_moments.specs.declared.entry.Entry.TheVariants.{Event, Hold, Store}
-use Rattle.std.proofs.Common.{sum_by}
 use Rattle.std.proofs.lemmas.List.Sorted.{sum_by-IsPermutation}
 use Rattle.fbl_order.proofs.Common.{[], ◌∷◌, ◌++◌, ◌==◌, zero, suc, add-one, At-filter, drop, sum_by-cons, eqb-self, filter_map-append, length-append, take-append-drop, take-more, take_all}
 
@@ -111,10 +110,10 @@ log_answers log entries is order = (log_same log entries is order, same_answers 
 
 -- ---- what an order of the entries of a log answers
 
-pub placed_order : (n : ℕ) (entries items : List Entry) (ordered : List Mark) (places : List ℕ) → IsOrder n (marks entries) ordered
-    → SameEntryLogs entries (items_at entries places) → marks (items_at entries places) ≡ ordered → items ≡ items_at entries places
-    → IsOrderOfEntries n entries items
-placed_order n entries items ordered places order logs is same = rw same (record { obeys = rw is order.obeys; logs = logs })
+pub placed_order : {n : ℕ} {entries given items : List Entry} {ordered now : List Mark} {places at : List ℕ} → given ≡ entries → now ≡ ordered → at ≡ places
+    → IsOrder n (marks given) ordered → SameEntryLogs given (items_at given places) → marks (items_at given places) ≡ now
+    → ArePlaces given (items_at given places) places → items ≡ items_at given at → IsOrderOfEntries n entries items × ArePlaces entries items places
+placed_order is now at order logs same places here = rw (here, at, ← is) (record { obeys = rw (same, now) order.obeys; logs = logs }, places)
 
 pub order_log_answers : (log d : LogParts) (ordered : List Entry) → d ≡ with_entries ordered log → IsOrderOfEntries log.members log.entries ordered
     → (entries : List Entry) → IsOrderOfEntries log.members log.entries entries → SameLogAnswers (with_entries entries log) d

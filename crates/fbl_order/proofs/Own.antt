@@ -1,9 +1,8 @@
 -- Laws of the members' own items in a list in which those of different members are mixed: events, or entries.
-use Rattle.fbl_order.proofs.Common.{Bool, List, ℕ, zero, suc, [], ◌∷◌, ◌++◌, ◌+◌, ◌==◌, ◌≡◌, ◌≢◌, ◌≤◌, ◌<◌, ◌∙◌, true, false, None, Option, Some}
-use Rattle.fbl_order.proofs.Common.{cond, refl, sym, ap, subst, length, length-set, take, arith, add-one, take-more, eqb-self, eqb-true, false≢true, get_or, nat_tests, append-nil}
+use Rattle.fbl_order.proofs.Common.{Bool, List, ℕ, zero, suc, [], ◌∷◌, ◌++◌, ◌+◌, ◌==◌, ◌≡◌, ◌≢◌, ◌≤◌, ◌<◌, ◌∙◌, true, false, None, Option, Some, cond, refl, sym, ap}
+use Rattle.fbl_order.proofs.Common.{subst, length, length-set, take, arith, add-one, take-more, eqb-self, eqb-true, false≢true, get_or, nat_tests, append-nil}
 use Rattle.fbl_order.proofs.Common.{filter-append, take-append-drop, drop, IsPermutation, IsPermutation-cons, IsPermutation-middle, IsPermutation-refl}
-use Rattle.fbl_order.proofs.Common.{IsPermutation-sym, IsPermutation-trans, slice_get, slice_get_within, inl, inr, cases_eq, cases_lt, Begins}
-use Rattle.fbl_order.proofs.Common.{length-append}
+use Rattle.fbl_order.proofs.Common.{IsPermutation-sym, IsPermutation-trans, slice_get, slice_get_within, inl, inr, cases_eq, cases_lt, Begins, length-append}
 use Rattle.std.proofs.Common.{get_or-set_other, get_or-set_same, set}
 use Rattle.std.proofs.lemmas.List.{take-take, get_or_default}
 use Rattle.std.proofs.lemmas.List.Sorted.{length_permutation}
@@ -91,14 +90,6 @@ module _ {X : Type 0} (of : X → ℕ) where
       omega (arith, length_permutation (s ++ r.0) t r.1, length-append s r.0)
 
   -- ---- where the members' next items stand
-
-  -- from the end on there is none
-  pub at_end : (items : List X) (q : ℕ) → IsFirstFrom of items (length items) q (length items)
-  at_end items q = record {
-    later = omega arith;
-    next = (omega arith, λ x at. absurd (omega (arith, slice_get_within items (length items) x at)));
-    skips = refl;
-  }
 
   -- the cursors with one more item in front
   pub in_front : (items : List X) (cursors : List ℕ) (place number : ℕ) (x : X) → slice_get items place ≡ Some x → of x ≡ number → number < length cursors
@@ -223,30 +214,6 @@ pub record IsLeastBelow (Gives : ℕ → Bool → Type 0) (cursors : List ℕ) (
   pub within : least ≤ end
   pub some : least < end → Gives least true × ((q : ℕ) × (get_or cursors q end ≡ least))
   pub each : (q : ℕ) → q < below → get_or cursors q end < least → Gives (get_or cursors q end) false
-
-pub least-kept : (Gives : ℕ → Bool → Type 0) (cursors : List ℕ) (end k least cursor : ℕ) → IsLeastBelow Gives cursors end k least → cursor ≡ get_or cursors k end
-    → (cursor < least → Gives cursor false) → IsLeastBelow Gives cursors end (k + 1) least
-least-kept Gives cursors end k least cursor is here kept = record {
-  within = is.within;
-  some = is.some;
-  each = λ q below less. elim (cases_eq q k) [
-    | inl same ↦
-        let there : get_or cursors q end ≡ cursor = ap (λ (i : ℕ). get_or cursors i end) same ∙ sym here in
-        subst (λ (p : ℕ). Gives p false) (sym there) (kept (rw there at less))
-    | inr other ↦ is.each q (omega (arith, below, other)) less
-  ];
-}
-
-pub least-found : (Gives : ℕ → Bool → Type 0) (cursors : List ℕ) (end k least cursor : ℕ) → IsLeastBelow Gives cursors end k least → cursor ≡ get_or cursors k end
-    → cursor < least → Gives cursor true → IsLeastBelow Gives cursors end (k + 1) cursor
-least-found Gives cursors end k least cursor is here less gives = record {
-  within = omega (arith, less, is.within);
-  some = λ within. (gives, (k, sym here));
-  each = λ q below lower. elim (cases_eq q k) [
-    | inl same ↦ absurd (omega (arith, ap (λ (i : ℕ). get_or cursors i end) same, here, lower))
-    | inr other ↦ is.each q (omega (arith, below, other)) (omega (arith, lower, less))
-  ];
-}
 
 -- where the answer is yes exactly at the places at which something may come, it is the least of these
 pub least_may : (Gives : ℕ → Bool → Type 0) (MayCome : ℕ → Type 0) (cursors : List ℕ) (end : ℕ) (r : Option ℕ) → IsLeastGiven Gives cursors end r

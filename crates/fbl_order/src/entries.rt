@@ -49,8 +49,8 @@ pub fn at_places<T: Copy>(
 {
     let mut chosen = Vec::new(alloc);
     for place in places {
-        if let Some(item) = items.get(*place) {
-            chosen.push(*item)?;
+        if *place < items.len() {
+            chosen.push(items[*place])?;
         }
     }
     Ok(chosen)
@@ -117,11 +117,12 @@ impl Placing {
         ensures placing { OnOk result (IsPlacing entries.now ordered.now self.new) }
         ensures longer { OnOk result (vec_len self.new.places ≡ vec_len self.old.places + 1) }
     {
+        let entry = &entries[place];
         self.places.push(place)?;
-        if entries[place].event().is_some() {
+        if entry.event().is_some() {
             self.events += 1;
         }
-        let member = entries[place].member();
+        let member = entry.member();
         self.cursors[member.number() as usize] = next_of(entries, member, place + 1);
         Ok(())
     }

@@ -68,9 +68,10 @@ pub fn order_log(alloc: Global, raw: RawLog) -> Result<OrderedLog, LogOrderFault
     if let Some((refusal, breach)) = refused_group(raw.members, raw.f) {
         return Err(LogOrderFault::Log(refusal, LogBreach::Trace(breach)));
     }
-    let ordered = order_events(alloc, raw.members, raw.entries.as_slice())?;
-    let places = placed(alloc, raw.entries.as_slice(), ordered.as_slice())?;
-    let entries = at_places(alloc, raw.entries.as_slice(), places.as_slice())?;
+    let given = raw.entries.as_slice();
+    let ordered = order_events(alloc, raw.members, given)?;
+    let places = placed(alloc, given, ordered.as_slice())?;
+    let entries = at_places(alloc, given, places.as_slice())?;
     match checked_log(alloc, RawLog { entries, ..raw }) {
         Ok(log) => Ok(OrderedLog { log, places }),
         Err((refusal, breach)) => Err(LogOrderFault::refused(refusal, breach, places.as_slice())),

@@ -1,10 +1,10 @@
 use Rattle.fbl_order.proofs.Common.{ℕ, List, Some, [], ◌∷◌, ◌++◌, ◌≡◌, ◌≤◌, ◌∙◌, add-one, ap, append-nil, filter_map-append, get_or, length, refl, slice_get, slice_get-get_or}
-use Rattle.fbl_order.proofs.Common.{slice_get_read, sym, take, take-more}
+use Rattle.fbl_order.proofs.Common.{slice_get_read, sym, take, take-more, take_all}
 use Rattle.std.proofs.lemmas.Option.{slice_get_past}
 use Rattle.fbl_order.proofs.PlacingLaws.{items_at-push}
 use Rattle.fbl_order.specs.LogOrders.{items_at}
 use Rattle.fbl_order.proofs.entries.at_places.Goals as goal
-use Rattle.fbl_order.proofs.entries.at_places.Goals.{in-Some+in_ok-push, in_default}
+use Rattle.fbl_order.proofs.entries.at_places.Goals.{then-place-items+in_ok-push, else-place-items}
 
 -- a place past the last adds nothing
 items_at-past : {X : Type 0} (items : List X) (places : List ℕ) (place : ℕ) → length items ≤ place
@@ -20,12 +20,13 @@ loop-place-preserved g c =
     let p : ℕ = get_or places k 0 in
     let kept = c.loop-place.invariant in
     let more = take-more places k p (slice_get-get_or places k 0 c.loop-place-test.true) in
-    elim c.match-get.branch [
-      | in-Some+in_ok-push w ↦
-          let found = w.in-Some.ensures.lookup in
-          let at : slice_get items p ≡ Some w.in-Some.item.now = slice_get_read items _ p _ refl found.3.0 found.1 in
+    elim c.if-place-items.branch [
+      | then-place-items+in_ok-push w ↦
+          let at : slice_get items p ≡ Some w.index-items-place.result = slice_get_read items _ p _ refl w.if-place-items.true w.index-items-place.is in
           ap (λ v. v.items) w.chosen-is ∙ w.in_ok-push.ensures.items ∙ (rw (kept, add-one, more) (sym (items_at-push items (take k places) p _ at)))
-      | in_default w ↦
-          let past : length items ≤ p = w.in_default.ensures.lookup.3 in
-          ap (λ v. v.items) w.chosen-is ∙ kept ∙ (rw (add-one, more) (sym (items_at-past items (take k places) p past)))
+      | else-place-items w ↦
+          ap (λ v. v.items) w.chosen-is ∙ kept ∙ (rw (add-one, more) (sym (items_at-past items (take k places) p w.if-place-items.false)))
     ]
+
+pub returns : goal.returns
+returns g c = rw (take_all c.loop-place.place-index c.args.places.now c.loop-place-test.false) at c.loop-place.invariant

@@ -1,4 +1,4 @@
-use Rattle.fbl_order.proofs.Common.{[], ◌∷◌, ◌<◌, ◌≡◌, ap, arith, At-push, inl, inr, length, length-append, refl, slice_get_read}
+use Rattle.fbl_order.proofs.Common.{[], ◌∷◌, ◌<◌, ◌≡◌, ap, arith, At-push, inl, inr, length, length-append, refl, slice_get_read, take_all}
 use Rattle.fbl_moments.specs.declared.log.EntryOrigin.{EntryOrigin}
 use Rattle.fbl_order.proofs.Own.{At-some}
 use Rattle.fbl_order.proofs.PartLaws.{origin_at}
@@ -23,3 +23,6 @@ loop-place-preserved c =
         | inr new ↦ rw (← new.1, new.0, kept.count) (origin_at parts log place c.index-parts-log.result entry.0 at entry.1)
       ];
     }
+
+pub returns : goal.returns
+returns c = record { count = rw (take_all c.loop-log.log c.args.parts.now c.loop-log-test.false) at c.loop-log.invariant.count; each = c.loop-log.invariant.each }

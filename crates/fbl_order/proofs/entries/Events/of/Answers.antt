@@ -1,4 +1,4 @@
-use Rattle.fbl_order.proofs.Common.{List, Mark, None, Some, [], ◌∷◌, ◌++◌, ◌+◌, ◌≡◌, ◌∙◌, add-one, ap, arith, length, refl, slice_get, slice_get_read, sym, take, take-more, ℕ}
+use Rattle.fbl_order.proofs.Common.{List, Mark, None, Some, [], ◌∷◌, ◌++◌, ◌+◌, ◌≡◌, ◌∙◌, add-one, ap, arith, length, refl, slice_get, slice_get_read, sym, take, take-more, take_all, ℕ}
 use Rattle.std.proofs.lemmas.List.{length-take-le}
 use Rattle.fbl_moments.specs.declared.entry.Entry.{Entry}
 use Rattle.fbl_moments.specs.Entries.{mark_in}
@@ -33,3 +33,6 @@ loop-place-preserved c =
             places = rw (longer, same) (places-record (take place entries) e c.loop-place.places.items is kept.places);
           }
     ]
+
+pub returns-clause-places : goal.returns-clause-places
+returns-clause-places c = rw (take_all c.loop-place.place c.args.entries.now c.loop-place-test.false) at c.loop-place.invariant.places

@@ -12,11 +12,9 @@ returns-clause-placing c =
     let place : ℕ = c.args.place in
     let entries : List Entry = c.args.entries.now in
     let within = slice_get_within entries place c.requires.least.0.0 c.requires.least.0.1 in
-    let e : Entry = c.index-entries-place-2.result in
-    let at : slice_get entries place ≡ Some e = slice_get_read entries _ place _ refl within c.index-entries-place-2.is in
-    let before : slice_get entries place ≡ Some c.index-entries-place.result = slice_get_read entries _ place _ refl within c.index-entries-place.is in
-    let same : c.index-entries-place.result ≡ e = (let both : Some c.index-entries-place.result ≡ Some e = sym before ∙ at in cc) in
-    let mark : c.event.result ≡ mark_in e = c.event.ensures ∙ ap mark_in same in
+    let e : Entry = c.index-entries-place.result in
+    let at : slice_get entries place ≡ Some e = slice_get_read entries _ place _ refl within c.index-entries-place.is in
+    let mark : c.event.result ≡ mark_in e = c.event.ensures in
     let mine : entry_member e ≡ c.number.result = sym c.member-member.ensures ∙ sym c.number.ensures.value in
     let first : IsFirstFrom entry_member entries (place + 1) c.number.result c.next_of.result = rw c.number.ensures.value c.next_of.ensures in
     let step = placed_more entries c.args.ordered.now c.args.self.now _ place c.number.result c.next_of.result e c.requires.placing c.requires.least at mine
@@ -33,3 +31,6 @@ returns-clause-placing c =
           (ap (λ s. s.events) w.self-is ∙ (let none = no_marks e is in omega (arith, none)))
           (ap (λ s. set s.cursors c.number.result c.next_of.result) w.self-is) first
     ]
+
+pub next_of-requires : goal.next_of-requires
+next_of-requires c = omega (arith, slice_get_within c.args.entries.now c.args.place c.requires.least.0.0 c.requires.least.0.1)
