@@ -9,10 +9,6 @@ use Rattle.fbl_moments.specs.Indexes.{EndsStep}
 use Rattle.fbl_moments.proofs.ClockLaws.{IsClock-none, first_there, last_there}
 use Rattle.fbl_moments.proofs.LeastMoments.{cut_of_step, least_moment, max_or}
 
--- the clock of nothing is that of no entries
-pub none_clock : (logs : Logs) (m : ℕ) (cut : Cut) → ((q : ℕ) → cut q ≡ 0) → IsClock logs m 0 cut
-none_clock logs m cut none = (let nothing : (λ (q : ℕ). 0) ≡ cut = λ i q. sym (none q) i in subst (λ (cut : Cut). IsClock logs m 0 cut) nothing (IsClock-none logs m))
-
 -- an entry precedes one of the member's first ones where it has come by their clock
 pub precedes_iff : (logs : Logs) (source k m count n : ℕ) (cut : Cut) → IsClock logs m count cut → n ≡ cut source → (nat_lt k n ≡ true) ↔ PrecedesSome logs (at source k) m count
 precedes_iff logs source k m count n cut clock is = (
@@ -29,13 +25,6 @@ first_after logs i m k none some = record {
   ];
   first = λ l earlier precedes. none (l, earlier, precedes);
 }
-
--- where it precedes none of the member's entries that there are it precedes none
-pub none_after : (logs : Logs) (i : Position) (m k : ℕ) → ¬ (PrecedesSome logs i m k) → length (logs m) ≤ k → (l : ℕ) → ¬ (Precedes logs i (at m l))
-none_after logs i m k none all l precedes =
-    let there = last_there precedes in
-    let below = slice_get_within (logs m) l there.0 there.1 in
-    none (l, omega (arith, below, all), precedes)
 
 -- a clock has no more entries than there are
 pub clock_within : (logs : Logs) (m count : ℕ) (cut : Cut) → IsClock logs m count cut → (q : ℕ) → cut q ≤ length (logs q)

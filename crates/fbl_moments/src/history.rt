@@ -51,12 +51,12 @@ impl<'a> History<'a> {
         ensures { IfOk result (λ history. history ≡ log.now) }
     {
         let entries = log.entries();
-        let index = Index::of(alloc, entries)?;
         let mut pass = Clocks::new(alloc);
         let mut advances = Vec::new(alloc);
         for place in 0..entries.len() {
             advances.push(pass.add(entries, place)?)?;
         }
+        let index = Index::of(alloc, entries)?;
         Ok(History {
             log,
             index,
