@@ -1,5 +1,5 @@
 -- The names that proofs of this crate take from outside: of the standard library, of the crates below, and of the definitions here.
-pub use Rattle.std.proofs.Common.{Bool, List, None, Option, Some, [], ap, append-nil, arith, cond, eq-eqb, eqb, false, filter, find, get_or, get_or-set_other, get_or-set_same, inl, inr}
+pub use Rattle.std.proofs.Common.{Bool, List, None, Option, Some, [], ap, append-nil, arith, below_more, cond, eq-eqb, eqb, false, filter, find, get_or, get_or-set_other, get_or-set_same, inl, inr}
 pub use Rattle.std.proofs.Common.{length-append, not, ◌≢◌, ◌==◌, ◌||◌, ◌↔◌, ◌∙◌, ◌∷◌, ◌≡◌, ◌≤◌, ◌⊎◌}
 pub use Rattle.std.proofs.Common.{length, length-set, map, ne_eqb, option_map, refl, rules, set, slice_index, subst, suc, sum, sym, take, true, true≢false, zero, ℕ, ◌++◌, ◌+◌, ◌<◌}
 pub use Rattle.std.proofs.Math.ListN.{replicate}
