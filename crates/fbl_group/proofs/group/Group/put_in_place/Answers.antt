@@ -36,9 +36,8 @@ replace-requires g c =
 
 pub overflow_add-self : goal.overflow_add-self
 overflow_add-self g c =
-    let ranges = c.self.ranges in
     undone-fits c.self.invariant c.self.view_is c.requires.ready c.requires.down c.cut.ensures
-    c.receipt_count-before.ensures c.count_receipts.ensures c.as_slice-2.ensures.value ranges.1.1.1.1.1.1.0.1
+    c.receipt_count-before.ensures c.count_receipts.ensures c.as_slice-2.ensures.value c.self.ranges.1.1.1.1.1.1.0.1
 
 pub overflow_cast-result : goal.overflow_cast-result
 overflow_cast-result g c =

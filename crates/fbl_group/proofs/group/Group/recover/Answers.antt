@@ -1,3 +1,4 @@
+use Rattle.std.specs.FinSet as set
 use Rattle.fbl_group.proofs.Common.{arith, cut-undone, group_recovery_gains_holders}
 use Rattle.fbl_group.proofs.Striking.{restores}
 use Rattle.fbl_group.proofs.group.Group.recover.Goals as goal
@@ -10,3 +11,9 @@ returns-in-Ok-clause-undone g c = omega (arith, cut-undone c.promises.ensures.so
 
 pub returns-in-Ok-clause-holders : goal.returns-in-Ok-clause-holders
 returns-in-Ok-clause-holders g c = group_recovery_gains_holders _ _ g.B.Behaviour.next _ _ c.in-Ok.ensures.recovered.recovery c.promises.ensures.sound
+
+pub returns-in-Err-clause-refused : goal.returns-in-Err-clause-refused
+returns-in-Err-clause-refused g c none = c.if-count-eq0.false (rw (c.count.ensures, c.down.ensures.down, none) (set.len-empty _))
+
+pub returns-in-Ok-clause-recovered : goal.returns-in-Ok-clause-recovered
+returns-in-Ok-clause-recovered g c = (λ none. c.if-count-eq0.false (rw (c.count.ensures, c.down.ensures.down, none) (set.len-empty _)), c.in-Ok.ensures.recovered)
