@@ -1,11 +1,10 @@
 -- The first event of each member that others precede, and the paths back from it.
-use Rattle.fbl_audit.proofs.Common.{ℕ, true, false, ◌≡◌, ◌≢◌, ◌<◌, ◌+◌, ◌⊎◌, ◌↔◌, inl, inr, List, [], ◌∷◌, ◌++◌, length, Option, Some, None, refl, sym, ap, ◌∙◌, arith, get_or}
-use Rattle.fbl_audit.proofs.Common.{reverse, reverse-append, length-set, cases_eq, Mark, At, At-below, member_of, send_of, Parts, WellFormed, PlaceLeads, PlacePrecedes}
-use Rattle.fbl_audit.proofs.Common.{IsReached, IsSendOf, IsBefore, IsEndBy, IsEndFound, IsFirstDependent, AreEnds, IsPath, Reaches, path_step, last_step, same_event, is_some}
-use Rattle.fbl_audit.proofs.Common.{AreCauses, IsOrphaned, IsOrphanStart, orphan_by_cause, Precedes-joined, false≢true, one_place}
+use Rattle.fbl_audit.proofs.Common.{ℕ, true, false, ◌≡◌, ◌≢◌, ◌<◌, ◌+◌, ◌⊎◌, ◌↔◌, inl, inr, List, [], ◌∷◌, ◌++◌, length, Option, Some, None, refl, sym, ap, ◌∙◌, arith, get_or, reverse, reverse-append}
+use Rattle.fbl_audit.proofs.Common.{length-set, cases_eq, Mark, At, At-below, member_of, send_of, Parts, WellFormed, PlaceLeads, PlacePrecedes, IsReached, IsSendOf, IsBefore, IsEndBy, IsEndFound}
+use Rattle.fbl_audit.proofs.Common.{IsFirstDependent, AreEnds, IsPath, Reaches, path_step, last_step, same_event, is_some, AreCauses, IsOrphaned, IsOrphanStart, orphan_by_cause, Precedes-joined}
+use Rattle.fbl_audit.proofs.Common.{false≢true, one_place, set_same, set_other}
 use Rattle.std.specs.FinSet as set
 use Rattle.std.proofs.Common.{set as set_at}
-use Rattle.fbl_audit.proofs.Common.{set_same, set_other}
 
 -- ---- ends
 

@@ -1,9 +1,8 @@
 -- A pass over the events finds, by vector clocks, which precede which.
-use Rattle.fbl_base.proofs.Common.{ℕ, ◌≡◌, ◌≢◌, ◌<◌, ◌≤◌, ◌+◌, ◌⊎◌, ◌↔◌, inl, inr, List, [], ◌∷◌, ◌++◌, length, Option, Some, None, refl, sym, ap, ◌∙◌, arith, cond}
-use Rattle.fbl_base.proofs.Common.{get_or, get_or-set_other, get_or-set_same, get_or_from_slice_get, slice_get, slice_get-get_or, slice_get_read, slice_get_within, replicate}
-use Rattle.fbl_base.proofs.Common.{length-set, length-append, length-take, take, max, cases_eq, nat_tests, Decides, MessageName, same_message, Mark, Send}
-use Rattle.fbl_base.proofs.Common.{Receipt, At, member_of, send_of, PlaceLeads, PlacePrecedes, same_place, place_step, DependsOnPlace, DependsBy, Clock, CountsPlaces, IsClock}
-use Rattle.fbl_base.proofs.Common.{IsSendOf, IsSentBy, Seen, Sees, WellFormed}
+use Rattle.fbl_base.proofs.Common.{ℕ, ◌≡◌, ◌≢◌, ◌<◌, ◌≤◌, ◌+◌, ◌⊎◌, ◌↔◌, inl, inr, List, [], ◌∷◌, ◌++◌, length, Option, Some, None, refl, sym, ap, ◌∙◌, arith, cond, get_or, get_or-set_other}
+use Rattle.fbl_base.proofs.Common.{get_or-set_same, get_or_from_slice_get, slice_get, slice_get-get_or, slice_get_read, slice_get_within, replicate, length-set, length-append, length-take, take, max}
+use Rattle.fbl_base.proofs.Common.{cases_eq, nat_tests, Decides, MessageName, same_message, Mark, Send, Receipt, At, member_of, send_of, PlaceLeads, PlacePrecedes, same_place, place_step}
+use Rattle.fbl_base.proofs.Common.{DependsOnPlace, DependsBy, Clock, CountsPlaces, IsClock, IsSendOf, IsSentBy, Seen, Sees, WellFormed}
 use Rattle.std.proofs.Common.{set as set_at}
 use Rattle.std.specs.HashMap as hash_map
 use Rattle.fbl_base.proofs.RulesLaws.{room, sent-before}

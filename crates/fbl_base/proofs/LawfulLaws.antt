@@ -1,9 +1,8 @@
 -- Folds over notes, and that a delivery keeps a trace lawful.
-use Rattle.fbl_base.proofs.Common.{refl, ◌≡◌, ℕ, List, [], ◌∷◌, ◌++◌, map, fold, Start, Next, responses, took, sent, append_assoc, append-nil, Progress, advanced, begun}
-use Rattle.fbl_base.proofs.Common.{after_notes, ◌≢◌, zero, suc, ◌+◌, ◌<◌, ◌≤◌, ◌==◌, ◌&&◌, inl, inr, true, false, cond, length, take, Some, slice_get, sym, ap, ◌∙◌, arith}
-use Rattle.fbl_base.proofs.Common.{filter_map, cases_eq, nat_tests, take-append-le, filter_map-append, Mark, At, sends_of, is_send_of, MayFollow, WellFormed, length-append}
-use Rattle.fbl_base.proofs.Common.{length-take, All, map-append, length-map, sum_by-append, All-head, All-tail, slice_get-map, Event, mark_of, Action, action_of, actions_of}
-use Rattle.fbl_base.proofs.Common.{notes_of, note_of, start_of, starts_of, step_events}
+use Rattle.fbl_base.proofs.Common.{refl, ◌≡◌, ℕ, List, [], ◌∷◌, ◌++◌, map, fold, Start, Next, responses, took, sent, append_assoc, append-nil, Progress, advanced, begun, after_notes, ◌≢◌, zero, suc}
+use Rattle.fbl_base.proofs.Common.{◌+◌, ◌<◌, ◌≤◌, ◌==◌, ◌&&◌, inl, inr, true, false, cond, length, take, Some, slice_get, sym, ap, ◌∙◌, arith, filter_map, cases_eq, nat_tests, take-append-le}
+use Rattle.fbl_base.proofs.Common.{filter_map-append, Mark, At, sends_of, is_send_of, MayFollow, WellFormed, length-append, length-take, All, map-append, length-map, sum_by-append, All-head, All-tail}
+use Rattle.fbl_base.proofs.Common.{slice_get-map, Event, mark_of, Action, action_of, actions_of, notes_of, note_of, start_of, starts_of, step_events}
 use Rattle.fbl_base.specs.declared.trace.Mark.TheVariants as mark
 use Rattle.fbl_base.specs.declared.trace.Event.TheVariants.{Send, Receipt}
 use Rattle.fbl_base.specs.Laws.{LawfulDeliveryLaw}

@@ -1,9 +1,8 @@
 -- How many members sets have, and operations on bits as operations on sets.
-use Rattle.fbl_base.proofs.Common.{ℕ, zero, suc, ◌+◌, ◌-◌, ◌<◌, ◌≤◌, ◌≡◌, true, false, cond, ◌||◌, List, [], ◌∷◌, refl, sym, ap, ◌∙◌, arith, inl, inr, cases_eq, false≢true}
-use Rattle.fbl_base.proofs.Common.{list_any, nat_cmp, unsigned_tied, nat_cmp_total, same_from_contains, eq-eqb, eq_by_cmp, ◌*◌, nat_tests, contains-insert_other, ◌/◌, ◌%◌, ◌^◌}
-use Rattle.fbl_base.proofs.Common.{eqb, bit_and, bit_or, w16, bit_at-lt, bit_at_or, bit_at_and, bit_at_not, bit_at_above, bit_at_set_same, bit_at_set_other, shr_and_one}
-use Rattle.fbl_base.proofs.Common.{bit_at-zero, mod-lt, or_lt, and_le_l, bit_at, ones_step, contains-insert_same, contains-members_where, contains-set_of, has_one, bit_at-suc}
-use Rattle.fbl_base.proofs.Common.{bit_at_lowest, Bool}
+use Rattle.fbl_base.proofs.Common.{ℕ, zero, suc, ◌+◌, ◌-◌, ◌<◌, ◌≤◌, ◌≡◌, true, false, cond, ◌||◌, List, [], ◌∷◌, refl, sym, ap, ◌∙◌, arith, inl, inr, cases_eq, false≢true, list_any, nat_cmp}
+use Rattle.fbl_base.proofs.Common.{unsigned_tied, nat_cmp_total, same_from_contains, eq-eqb, eq_by_cmp, ◌*◌, nat_tests, contains-insert_other, ◌/◌, ◌%◌, ◌^◌, eqb, bit_and, bit_or, w16, bit_at-lt}
+use Rattle.fbl_base.proofs.Common.{bit_at_or, bit_at_and, bit_at_not, bit_at_above, bit_at_set_same, bit_at_set_other, shr_and_one, bit_at-zero, mod-lt, or_lt, and_le_l, bit_at, ones_step}
+use Rattle.fbl_base.proofs.Common.{contains-insert_same, contains-members_where, contains-set_of, has_one, bit_at-suc, bit_at_lowest, Bool}
 use Rattle.std.specs.FinSet as set
 use Rattle.std.specs.Int.Count.{ones, ones_in}
 use Rattle.fbl_base.specs.MemberSets.{members_where, set_of}

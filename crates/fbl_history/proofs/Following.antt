@@ -1,10 +1,9 @@
 -- Members that replay a trace come to its states.
-use Rattle.fbl_history.proofs.Common.{◌≡◌, ℕ, ◌<◌, ◌≤◌, true, cond, List, length, take, get_or, Some, refl, sym, ap, ◌∙◌, arith, nat_tests, mark_of, Next, MemberRecord, blank}
-use Rattle.fbl_history.proofs.Common.{logged_note, GroupRecord, marks, IsSound, mark-at, HaveReplayed, ◌+◌, length-append, slice_get, slice_set, slice_index_or, take-take, length-set}
-use Rattle.fbl_history.proofs.Common.{get_or-set_same, get_or-set_other, get_or_default, length-map, count_by-le-length, sum_by-take-le, get_or_from_slice_get, Determinant, Note, Mark, At}
-use Rattle.fbl_history.proofs.Common.{is_receipt_of, is_send_of, receipts_of, MayFollow, Progress, note_of, numbered, after_notes-state, receipts-step, sent-before, take-next, replayed_by}
-use Rattle.fbl_history.proofs.Common.{length-numbered, received_notes, IsReplayed, range_with_len, Members, send-at, filter-passes, some-at, logged-by, logged-noted, log-short, Has-receipts_at}
-use Rattle.fbl_history.proofs.Common.{replayed-step, state_after_receipt}
+use Rattle.fbl_history.proofs.Common.{◌≡◌, ℕ, ◌<◌, ◌≤◌, true, cond, List, length, take, get_or, Some, refl, sym, ap, ◌∙◌, arith, nat_tests, mark_of, Next, MemberRecord, blank, logged_note}
+use Rattle.fbl_history.proofs.Common.{GroupRecord, marks, IsSound, mark-at, HaveReplayed, ◌+◌, length-append, slice_get, slice_set, slice_index_or, take-take, length-set, get_or-set_same}
+use Rattle.fbl_history.proofs.Common.{get_or-set_other, get_or_default, length-map, count_by-le-length, sum_by-take-le, get_or_from_slice_get, Determinant, Note, Mark, At, is_receipt_of, is_send_of}
+use Rattle.fbl_history.proofs.Common.{receipts_of, MayFollow, Progress, note_of, numbered, after_notes-state, receipts-step, sent-before, take-next, replayed_by, length-numbered, received_notes}
+use Rattle.fbl_history.proofs.Common.{IsReplayed, range_with_len, Members, send-at, filter-passes, some-at, logged-by, logged-noted, log-short, Has-receipts_at, replayed-step, state_after_receipt}
 use Rattle.fbl_base.specs.declared.trace.Event.TheVariants as event
 use Rattle.std.specs.FinSet as set
 use Rattle.fbl_base.specs.declared.trace.Mark.TheVariants.{Send, Receipt}

@@ -2,11 +2,10 @@
 use Rattle.fbl_base.specs.declared.trace.Event.TheVariants as event
 use Rattle.fbl_base.specs.declared.trace.Note.{Note}
 use Rattle.fbl_base.specs.declared.trace.Mark.TheVariants as mark
-use Rattle.fbl_history.proofs.Common.{◌≡◌, ℕ, ◌<◌, Bool, Settings, false, not, inl, inr, List, [], ◌∷◌, length, map, Some, slice_get, refl, sym, ap, ◌∙◌, arith, nat_tests}
-use Rattle.fbl_history.proofs.Common.{Column, Event, GroupRecord, IsAfterRecovery, IsHistoryOf, IsRecovery, IsRecoveryColumn, IsSound, Members, Next, Recovery}
-use Rattle.fbl_history.proofs.Common.{cut-one, cut-was, cut-obeys, cut-causes, down_or_up, event_column, filter, filter-agree, fold-received, fold-replayed, go_on, go_on_to, group_recovery_keeps, is_beyond, is_receipt, is_standing}
-use Rattle.fbl_history.proofs.Common.{log_counted, mark-at, mark_of, marks, member, note-was, receipt-number, received_counted, receipts_at, receipts_made, sent-number, stays_by, stays_by-cut}
-use Rattle.fbl_history.proofs.Common.{trace_columns, undone_beyond}
+use Rattle.fbl_history.proofs.Common.{◌≡◌, ℕ, ◌<◌, Bool, Settings, false, not, inl, inr, List, [], ◌∷◌, length, map, Some, slice_get, refl, sym, ap, ◌∙◌, arith, nat_tests, Column, Event, GroupRecord}
+use Rattle.fbl_history.proofs.Common.{IsAfterRecovery, IsHistoryOf, IsRecovery, IsRecoveryColumn, IsSound, Members, Next, Recovery, cut-one, cut-was, cut-obeys, cut-causes, down_or_up, event_column}
+use Rattle.fbl_history.proofs.Common.{filter, filter-agree, fold-received, fold-replayed, go_on, go_on_to, group_recovery_keeps, is_beyond, is_receipt, is_standing, log_counted, mark-at, mark_of}
+use Rattle.fbl_history.proofs.Common.{marks, member, note-was, receipt-number, received_counted, receipts_at, receipts_made, sent-number, stays_by, stays_by-cut, trace_columns, undone_beyond}
 use Rattle.fbl_history.proofs.Counting.{counted_from, made-changed, undo-receipt}
 use Rattle.fbl_history.proofs.Cutting.{cut}
 use Rattle.fbl_history.proofs.Parts.{IsPart, same_columns}

@@ -1,7 +1,7 @@
 -- The names that proofs of this crate take from outside: of the standard library, of the crates below, and of the definitions here.
 pub use Rattle.std.proofs.Common.{Err, IfErr, IfSome, List, None, Ok, OnErr, OnOk, Option, Result, Some, String, [], add-one, ap, append_assoc, arith, below_more, cond, drop, drop-cons, false, get_or}
-pub use Rattle.std.proofs.Common.{inl, inr, length, length-drop, length-take, map, option_and_then, option_map, refl, slice_get, string_bytes, subst, suc, sym, take, true, vec_len, ℕ, ◌++◌}
-pub use Rattle.std.proofs.Common.{◌+◌, ◌-◌, ◌<◌, ◌∙◌, ◌∷◌, ◌≡◌, ◌≤◌, ◌⊎◌}
+pub use Rattle.std.proofs.Common.{inl, inr, length, length-drop, length-take, map, option_and_then, option_map, refl, slice_get, string_bytes, subst, suc, sym, take, true, vec_len, ℕ, ◌++◌, ◌+◌, ◌-◌}
+pub use Rattle.std.proofs.Common.{◌<◌, ◌∙◌, ◌∷◌, ◌≡◌, ◌≤◌, ◌⊎◌, rules}
 pub use Rattle.std.proofs.Math.Seq.{take-add}
 pub use Rattle.std.proofs.lemmas.Bool.{lt-ltb}
 pub use Rattle.std.proofs.lemmas.Grind.{common_steps}
@@ -12,7 +12,7 @@ pub use Rattle.std.specs.Cmp.{nat_cmp_total}
 pub use Rattle.std.specs.Io.KnownBytes.{Appends, Consumes, IsAtEnd, Keeps}
 pub use Rattle.std.specs.List.{find}
 pub use Rattle.std.specs.Ordering.{nat_cmp}
-pub use Rattle.std.specs.Prelude.{is_some, not}
+pub use Rattle.std.specs.Prelude.{is_some, not, IfOk}
 pub use Rattle.std.specs.Result.{IsErrAnd}
 pub use Rattle.std.specs.Str.{IsUtf8}
 pub use Rattle.std.specs.declared.alloc.Global.{Global}
@@ -36,5 +36,3 @@ pub use Rattle.json.proofs.Numbered.{HasNumbers-at, HasNumbers-get}
 pub use Rattle.json.specs.Json.{Json}
 pub use Rattle.json.specs.Tree.{HasNumbers}
 pub use Rattle.json.specs.Value.{value_view}
-pub use Rattle.std.specs.Prelude.{IfOk}
-pub use Rattle.std.proofs.Common.{rules}

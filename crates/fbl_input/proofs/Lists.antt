@@ -1,9 +1,8 @@
 -- The items of a value as a list, its keys, and the bytes that it is read from.
-use Rattle.fbl_input.proofs.Common.{arith, ◌≡◌, List, [], ◌∷◌, refl, ap, ◌∙◌, map, String, string_bytes, find, IsUtf8, not, IsUtf8-from_is_utf8, is_utf8-from_IsUtf8, read, Global}
-use Rattle.fbl_input.proofs.Common.{Value, Data, items_of, members_view, Key, elements, is_key_of, other_key, json_of}
+use Rattle.fbl_input.proofs.Common.{arith, ◌≡◌, List, [], ◌∷◌, refl, ap, ◌∙◌, map, String, string_bytes, find, IsUtf8, not, IsUtf8-from_is_utf8, is_utf8-from_IsUtf8, read, Global, Value, Data}
+use Rattle.fbl_input.proofs.Common.{items_of, members_view, Key, elements, is_key_of, other_key, json_of, InputKind}
 use Rattle.serde_json.specs.Find.{as_object}
 use Rattle.fbl_input.specs.Items.{known_keys, unknown_key}
-use Rattle.fbl_input.proofs.Common.{InputKind}
 use Rattle.std.specs.Prelude.{ℕ, Some, None, option_map, cond}
 
 pub elements_of : (ds : List Data) → elements (items_of ds) ≡ ds

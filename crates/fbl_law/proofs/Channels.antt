@@ -1,11 +1,10 @@
 -- Channels and the trace: each channel is first in, first out, and how channels are made again from their sender's log.
-use Rattle.fbl_law.proofs.Common.{◌≡◌, ℕ, suc, ◌<◌, ◌≤◌, nat_lt, false, List, [], ◌∷◌, ◌++◌, Some, slice_get, refl, ap, ◌∙◌, arith, append_assoc, filter, filter_map, fold}
-use Rattle.fbl_law.proofs.Common.{nat_tests, filter_map-append, Mark, taken_on, sent_on, in_flight, MayFollow, WellFormed, At-front, At-filter_map, WellFormed-keeps, is_sent}
-use Rattle.fbl_law.proofs.Common.{in_flight-send, in_flight-receipt, last_taken, append-nil, Send, Receipt, Apart, Apart-later, filter_all, sent-rises, ◌≢◌, ◌+◌, length, map}
-use Rattle.fbl_law.proofs.Common.{option_map, sym, map-append, slice_get-map, Has, receipts_of, map-At, WellFormed-front, in_flight-sent, Message, Knowledge, IsSoundKnowledge}
-use Rattle.fbl_law.proofs.Common.{send_mark, IsInFlight, IsUp, between, taken_off, drop-map, ◌==◌, ◌&&◌, ◌⊎◌, inl, inr, subst, Contains, Event, mark_of, Next, Progress, Logged}
-use Rattle.fbl_law.proofs.Common.{Lawful, note_of, At-filter, Entry, last_from, GroupRecord, member, channel, marks, IsFold, IsMadeAgain, resent_to, logged_beyond}
-use Rattle.fbl_law.proofs.Common.{resent, get_or, get_or_past, HasChannels, destination_of, cases_lt}
+use Rattle.fbl_law.proofs.Common.{◌≡◌, ℕ, suc, ◌<◌, ◌≤◌, nat_lt, false, List, [], ◌∷◌, ◌++◌, Some, slice_get, refl, ap, ◌∙◌, arith, append_assoc, filter, filter_map, fold, nat_tests}
+use Rattle.fbl_law.proofs.Common.{filter_map-append, Mark, taken_on, sent_on, in_flight, MayFollow, WellFormed, At-front, At-filter_map, WellFormed-keeps, is_sent, in_flight-send, in_flight-receipt}
+use Rattle.fbl_law.proofs.Common.{last_taken, append-nil, Send, Receipt, Apart, Apart-later, filter_all, sent-rises, ◌≢◌, ◌+◌, length, map, option_map, sym, map-append, slice_get-map, Has}
+use Rattle.fbl_law.proofs.Common.{receipts_of, map-At, WellFormed-front, in_flight-sent, Message, Knowledge, IsSoundKnowledge, send_mark, IsInFlight, IsUp, between, taken_off, drop-map, ◌==◌, ◌&&◌}
+use Rattle.fbl_law.proofs.Common.{◌⊎◌, inl, inr, subst, Contains, Event, mark_of, Next, Progress, Logged, Lawful, note_of, At-filter, Entry, last_from, GroupRecord, member, channel, marks, IsFold}
+use Rattle.fbl_law.proofs.Common.{IsMadeAgain, resent_to, logged_beyond, resent, get_or, get_or_past, HasChannels, destination_of, cases_lt}
 use Rattle.fbl_base.specs.declared.trace.Event.TheVariants as event
 use Rattle.fbl_law.proofs.Lists.{filter-passes, Contains-at, Contains-place, Contains-changed, Contains-none}
 use Rattle.fbl_law.proofs.Receipts.{MayFollow-seam}

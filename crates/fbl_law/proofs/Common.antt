@@ -8,9 +8,8 @@ pub use Rattle.std.proofs.lemmas.Bool.{and_parts, false≢true, cases_Bool, case
 pub use Rattle.std.proofs.lemmas.Bool.Decides.{Decides-like, Decides-or, leb_tells, nat_tests, same_from_decides}
 pub use Rattle.std.proofs.lemmas.List.{append-nil, drop-map, drop_all, get_or-set_other, get_or-set_same, get_or_default, get_or_past, length-map}
 pub use Rattle.std.proofs.lemmas.List.{length-set, map-append, nil_from_length, take-append-drop, take-map, take_all}
-pub use Rattle.std.proofs.lemmas.List.Elements.{All-append, All-cons, All-contains, All-contains_itself, All-from_get_or, All-head, All-map, All-nil, All-push, All-tail, All-take}
-pub use Rattle.std.proofs.lemmas.List.Elements.{All-weaker, Contains-append_cases, Contains-append_left, Contains-append_right, Contains-get_or, filter-append, filter_map-append}
-pub use Rattle.std.proofs.lemmas.List.Elements.{filter_passes}
+pub use Rattle.std.proofs.lemmas.List.Elements.{All-append, All-cons, All-contains, All-contains_itself, All-from_get_or, All-head, All-map, All-nil, All-push, All-tail, All-take, All-weaker}
+pub use Rattle.std.proofs.lemmas.List.Elements.{Contains-append_cases, Contains-append_left, Contains-append_right, Contains-get_or, filter-append, filter_map-append, filter_passes}
 pub use Rattle.std.proofs.lemmas.List.Filters.{length-filter_both}
 pub use Rattle.std.proofs.lemmas.List.Folds.{Any-from_list_any, find_at, fold-map, fold_along, list_any-append, list_any-from_Any, list_any_at}
 pub use Rattle.std.proofs.lemmas.List.Sums.{count_by-le-length, fails_before_first, fold-append, passes_at_first, sum_by-append, sum_by-cons, sum_by-drop_more, sum_by_push}
@@ -28,8 +27,7 @@ pub use Rattle.fbl_base.proofs.Gets.{Apart, At-seam, Apart-later, At-below, At-f
 pub use Rattle.fbl_base.proofs.Gets.{split-at, take-more, length-filter_map, length-left}
 pub use Rattle.fbl_base.proofs.RulesLaws.{receipt-number, filter_all, in_flight-receipt, in_flight-send, sent-rises, MayFollow-last, WellFormed-front, WellFormed-keeps}
 pub use Rattle.fbl_base.proofs.RulesLaws.{WellFormed-none, WellFormed-push, WellFormed-take, eqb-self, in_flight-sent, is_sent, receipts-step, sends-step, sent-before}
-pub use Rattle.fbl_base.proofs.PrecedenceLaws.{one_place, one_send, Earlier-front, Has-append, Has-filter, Has-first, Has-last, Precedes-entered, Precedes-filter, Precedes-front}
-pub use Rattle.fbl_base.proofs.PrecedenceLaws.{Precedes-within}
+pub use Rattle.fbl_base.proofs.PrecedenceLaws.{one_place, one_send, Earlier-front, Has-append, Has-filter, Has-first, Has-last, Precedes-entered, Precedes-filter, Precedes-front, Precedes-within}
 pub use Rattle.fbl_base.proofs.AuditLaws.{is_receipt, Decides-same_determinant}
 pub use Rattle.fbl_base.proofs.Sets.{len-within, some_member, some_outside}
 pub use Rattle.fbl_base.specs.Audit.{HeldAt}
@@ -53,14 +51,12 @@ pub use Rattle.fbl_member.specs.Members.{MemberRecord, Message, blank, fresh, la
 pub use Rattle.fbl_table.proofs.Adding.{added_new, fold_next, held-carried, held-gathered, not_held_learned}
 pub use Rattle.fbl_table.specs.Tables.{found, gathered, held_by, is_held, is_of_receipt, learned, noted, piggybacked}
 pub use Rattle.fbl_table.specs.declared.entry.Entry.{Entry}
-pub use Rattle.fbl_law.specs.Promises.{dump_of, held_pairs, pairs_from, pairs_of, GainsHolders, HoldsEachReceipt, IsHeldBy, LeavesRecorded, RecordsCauses, RecordsFirst}
-pub use Rattle.fbl_law.specs.Promises.{SurvivorsHold}
+pub use Rattle.fbl_law.specs.Promises.{dump_of, held_pairs, pairs_from, pairs_of, GainsHolders, HoldsEachReceipt, IsHeldBy, LeavesRecorded, RecordsCauses, RecordsFirst, SurvivorsHold}
 pub use Rattle.fbl_law.specs.GroupLaws.{CheckpointIsRecorded, GainsTheDown, GroupCheckpointKeeps, OfRecovery, RecordedTest, RunIsSound, StaysIsRecorded, checkpoints, delivers}
 pub use Rattle.fbl_law.specs.GroupLaws.{recovers, starts, strikes}
-pub use Rattle.fbl_law.specs.GroupSteps.{IsCheckpoint, IsDelivery, IsGroupStart, IsMadeAgain, IsRecovery, IsStrike, delivery_events, made, message_of_send, receiver, start_events}
-pub use Rattle.fbl_law.specs.GroupSteps.{step_of, IsEventCut, Stays, UpTo, between, gathered_all, is_on, recovery_table, saved_tables, taken_off, IsNextReplay, IsRebuilt}
-pub use Rattle.fbl_law.specs.GroupSteps.{IsReplaying, IsWaiting, count_in, before_lost, is_lost, is_replayed, recovered_trace, replayed_in, resent, resent_to, sent_again, stays_by}
-pub use Rattle.fbl_law.specs.GroupSteps.{stays_in, working}
+pub use Rattle.fbl_law.specs.GroupSteps.{IsCheckpoint, IsDelivery, IsGroupStart, IsMadeAgain, IsRecovery, IsStrike, delivery_events, made, message_of_send, receiver, start_events, step_of, IsEventCut}
+pub use Rattle.fbl_law.specs.GroupSteps.{Stays, UpTo, between, gathered_all, is_on, recovery_table, saved_tables, taken_off, IsNextReplay, IsRebuilt, IsReplaying, IsWaiting, count_in, before_lost}
+pub use Rattle.fbl_law.specs.GroupSteps.{is_lost, is_replayed, recovered_trace, replayed_in, resent, resent_to, sent_again, stays_by, stays_in, working}
 pub use Rattle.fbl_law.specs.Groups.{GroupRecord, HasChannels, channel, is_recorded, is_recorded_among, knowledge, marks, member, member_checkpoint, messages_in_flight, receipts}
 pub use Rattle.fbl_law.specs.Groups.{sum_below, IsFold, IsReplayed, IsSound, OfSound, last_taken, receipts_at, received_notes}
 pub use Rattle.fbl_law.specs.Knowledge.{Holds, Includes, IsAlwaysHeld, IsBeforeCheckpoint, IsCheckpointKept, IsClosed, IsDown, IsDownEmpty, IsHolder, IsInFlight, IsOrphan}

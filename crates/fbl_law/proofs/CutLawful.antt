@@ -1,11 +1,10 @@
 -- What is left of a lawful trace is lawful, with its notes.
-use Rattle.fbl_law.proofs.Common.{◌≡◌, ℕ, zero, suc, ◌<◌, ◌≤◌, nat_lt, inl, inr, ◌⊎◌, Bool, true, false, cond, List, [], ◌∷◌, ◌++◌, length, take, map, Option, Some, slice_get}
-use Rattle.fbl_law.proofs.Common.{refl, sym, ap, ◌∙◌, arith, count_by, length-take, filter, filter_map, fold, nat_tests, filter-append, sum_by-cons, length-filter_map, length-left}
-use Rattle.fbl_law.proofs.Common.{Start, Event, Mark, mark_of, member_of, send_of, Has, Leads, Precedes, itself, step, is_receipt_of, receipts_of, sent_on}
-use Rattle.fbl_law.proofs.Common.{taken_on, in_flight, MayFollow, WellFormed, At-front, At-below, WellFormed-keeps, WellFormed-none, WellFormed-push, is_sent, in_flight-sent}
-use Rattle.fbl_law.proofs.Common.{last_taken, Next, note_of, Action, took, sent, action_of, actions_of, notes_of, responses, start_of, starts_of, Lawful, At-filter, receipts-noted}
-use Rattle.fbl_law.proofs.Common.{eqb-self, append-nil, filter_map-agree, Earlier-front, cases_lt, drop, drop_all, drop_next, filter_map-append, slice_get_within, subst, take_all}
-use Rattle.fbl_law.proofs.Common.{None, At-seam, take-append-drop, At}
+use Rattle.fbl_law.proofs.Common.{◌≡◌, ℕ, zero, suc, ◌<◌, ◌≤◌, nat_lt, inl, inr, ◌⊎◌, Bool, true, false, cond, List, [], ◌∷◌, ◌++◌, length, take, map, Option, Some, slice_get, refl, sym, ap, ◌∙◌}
+use Rattle.fbl_law.proofs.Common.{arith, count_by, length-take, filter, filter_map, fold, nat_tests, filter-append, sum_by-cons, length-filter_map, length-left, Start, Event, Mark, mark_of, member_of}
+use Rattle.fbl_law.proofs.Common.{send_of, Has, Leads, Precedes, itself, step, is_receipt_of, receipts_of, sent_on, taken_on, in_flight, MayFollow, WellFormed, At-front, At-below, WellFormed-keeps}
+use Rattle.fbl_law.proofs.Common.{WellFormed-none, WellFormed-push, is_sent, in_flight-sent, last_taken, Next, note_of, Action, took, sent, action_of, actions_of, notes_of, responses, start_of}
+use Rattle.fbl_law.proofs.Common.{starts_of, Lawful, At-filter, receipts-noted, eqb-self, append-nil, filter_map-agree, Earlier-front, cases_lt, drop, drop_all, drop_next, filter_map-append}
+use Rattle.fbl_law.proofs.Common.{slice_get_within, subst, take_all, None, At-seam, take-append-drop, At}
 use Rattle.fbl_base.specs.declared.trace.Mark.TheVariants as mark
 use Rattle.fbl_base.specs.declared.trace.Event.TheVariants.{Send, Receipt}
 use Rattle.fbl_law.proofs.Channels.{in_flight-beyond}

@@ -1,13 +1,12 @@
 -- A delivery keeps a group sound.
-use Rattle.fbl_law.proofs.Common.{◌≡◌, ◌≢◌, ℕ, suc, ◌+◌, ◌<◌, ◌≤◌, ◌==◌, cond, List, [], ◌∷◌, ◌++◌, length, map, inl, inr, Some, slice_get, refl, sym, ap, ◌∙◌, arith}
-use Rattle.fbl_law.proofs.Common.{length-append, length-map, filter_map, cases_eq, map-append, length-set, get_or-set_same, get_or-set_other, filter-append, filter_map-append, All}
-use Rattle.fbl_law.proofs.Common.{Contains-append_cases, Determinant, Event, mark_of, determinant_of, receipt_of, Next, Lawful, note_of, At-front, eqb-self, piggybacked, Message}
-use Rattle.fbl_law.proofs.Common.{receipts_of, MemberRecord, blank, IsInFlight, IsUp, next_determinant, is_on, between, taken_off, GroupRecord, member, member_checkpoint, channel}
-use Rattle.fbl_law.proofs.Common.{marks, knowledge, receipts, IsFold, IsReplayed, IsSound, receipts_at, step_events, lawful_deliver, Has-append, Precedes-within, Precedes-entered}
-use Rattle.fbl_law.proofs.Common.{At-seam, contains-union, note_of-front, IsDelivery, sends_of, messages_from, step_of, receiver, made, delivery_events, SendsWell, nat_tests}
-use Rattle.fbl_law.proofs.Common.{IsOnce, ◌⊎◌, subst, zero, ◌&&◌, Contains, cases_Bool, contains-insert_same, Mark, member_of, send_of, Has, Precedes, Has-last, Entry, Includes}
-use Rattle.fbl_law.proofs.Common.{Store, in_table, in_message, in_checkpoint, owner, IsThere, Owes, send_mark, Names, Holds, IsHolder, IsTrueEntry, NamesCauses, IsSoundKnowledge}
-use Rattle.fbl_law.proofs.Common.{learned, Precedes-front, ◌↔◌, held_by, All-contains, All-push, map-At, Send, WellFormed, fresh}
+use Rattle.fbl_law.proofs.Common.{◌≡◌, ◌≢◌, ℕ, suc, ◌+◌, ◌<◌, ◌≤◌, ◌==◌, cond, List, [], ◌∷◌, ◌++◌, length, map, inl, inr, Some, slice_get, refl, sym, ap, ◌∙◌, arith, length-append, length-map}
+use Rattle.fbl_law.proofs.Common.{filter_map, cases_eq, map-append, length-set, get_or-set_same, get_or-set_other, filter-append, filter_map-append, All, Contains-append_cases, Determinant, Event}
+use Rattle.fbl_law.proofs.Common.{mark_of, determinant_of, receipt_of, Next, Lawful, note_of, At-front, eqb-self, piggybacked, Message, receipts_of, MemberRecord, blank, IsInFlight, IsUp}
+use Rattle.fbl_law.proofs.Common.{next_determinant, is_on, between, taken_off, GroupRecord, member, member_checkpoint, channel, marks, knowledge, receipts, IsFold, IsReplayed, IsSound, receipts_at}
+use Rattle.fbl_law.proofs.Common.{step_events, lawful_deliver, Has-append, Precedes-within, Precedes-entered, At-seam, contains-union, note_of-front, IsDelivery, sends_of, messages_from, step_of}
+use Rattle.fbl_law.proofs.Common.{receiver, made, delivery_events, SendsWell, nat_tests, IsOnce, ◌⊎◌, subst, zero, ◌&&◌, Contains, cases_Bool, contains-insert_same, Mark, member_of, send_of, Has}
+use Rattle.fbl_law.proofs.Common.{Precedes, Has-last, Entry, Includes, Store, in_table, in_message, in_checkpoint, owner, IsThere, Owes, send_mark, Names, Holds, IsHolder, IsTrueEntry, NamesCauses}
+use Rattle.fbl_law.proofs.Common.{IsSoundKnowledge, learned, Precedes-front, ◌↔◌, held_by, All-contains, All-push, map-At, Send, WellFormed, fresh}
 use Rattle.std.specs.FinSet as sets
 use Rattle.fbl_base.specs.declared.trace.Event.TheVariants as event
 use Rattle.std.proofs.Common.{append-nil}

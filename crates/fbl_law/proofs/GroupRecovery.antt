@@ -1,17 +1,15 @@
 -- What stays in a recovery, the events before their member's first lost receipt; what is left is lawful, the group stays sound, and which
 -- receipts are undone.
-use Rattle.fbl_law.proofs.Common.{receipt-number, ◌≡◌, ℕ, ◌<◌, ◌≤◌, inl, inr, List, length, map, Some, refl, ap, ◌∙◌, arith, true, sym, Determinant, Event, mark_of, receipt_of}
-use Rattle.fbl_law.proofs.Common.{Has, itself, Next, Lawful, MemberRecord, IsUp, Stays, IsEventCut, GroupRecord, member, member_checkpoint, marks, knowledge, receipts_at, IsFold}
-use Rattle.fbl_law.proofs.Common.{IsReplayed, IsSound, IsRecovery, length-left, Mark, ◌+◌, not, slice_get, filter, determinant_of, receipts, is_receipt, recovered_trace, nat_tests}
-use Rattle.fbl_law.proofs.Common.{sends_of, Progress, IsDown, stays_by, Send, Receipt, is_recorded, length-filter_both, same_from_decides, At, Bool, Entry, UpTo, before_lost}
-use Rattle.fbl_law.proofs.Common.{cases_eq, cond, count_by, eqb-self, fails_before_first, false, false≢true, get_or_from_slice_get, is_held, is_lost, is_receipt_of, is_send_of}
-use Rattle.fbl_law.proofs.Common.{member_of, nat_lt, passes_at_first, position_or_len, recovery_table, slice_get_within, stays_in, GainsHolders, GainsTheDown, LeavesRecorded}
-use Rattle.fbl_law.proofs.Common.{OfRecovery}
+use Rattle.fbl_law.proofs.Common.{receipt-number, ◌≡◌, ℕ, ◌<◌, ◌≤◌, inl, inr, List, length, map, Some, refl, ap, ◌∙◌, arith, true, sym, Determinant, Event, mark_of, receipt_of, Has, itself, Next}
+use Rattle.fbl_law.proofs.Common.{Lawful, MemberRecord, IsUp, Stays, IsEventCut, GroupRecord, member, member_checkpoint, marks, knowledge, receipts_at, IsFold, IsReplayed, IsSound, IsRecovery}
+use Rattle.fbl_law.proofs.Common.{length-left, Mark, ◌+◌, not, slice_get, filter, determinant_of, receipts, is_receipt, recovered_trace, nat_tests, sends_of, Progress, IsDown, stays_by, Send, Receipt}
+use Rattle.fbl_law.proofs.Common.{is_recorded, length-filter_both, same_from_decides, At, Bool, Entry, UpTo, before_lost, cases_eq, cond, count_by, eqb-self, fails_before_first, false, false≢true}
+use Rattle.fbl_law.proofs.Common.{get_or_from_slice_get, is_held, is_lost, is_receipt_of, is_send_of, member_of, nat_lt, passes_at_first, position_or_len, recovery_table, slice_get_within, stays_in}
+use Rattle.fbl_law.proofs.Common.{GainsHolders, GainsTheDown, LeavesRecorded, OfRecovery}
 use Rattle.std.specs.FinSet as set
 use Rattle.fbl_base.specs.declared.trace.Event.TheVariants as event
 use Rattle.fbl_law.proofs.ReplayedRecords.{log-length, all-taken, replayed-kept, fold-replayed, replayed-fold, mark-at, number-front}
-use Rattle.fbl_law.proofs.Safe.{down_or_up, down_or_both_up, never_both, up_if_none, IsRecorded-reached, Names-held, held-Names, once_recovery_table, gathered_recorded}
-use Rattle.fbl_law.proofs.Safe.{recorded_gathered}
+use Rattle.fbl_law.proofs.Safe.{down_or_up, down_or_both_up, never_both, up_if_none, IsRecorded-reached, Names-held, held-Names, once_recovery_table, gathered_recorded, recorded_gathered}
 use Rattle.fbl_law.proofs.Recovery.{recovery_keeps, cut-recorded, cut_is_recorded, recovery_gains_holders, cut-causes, cut-was, cut-left, cut-obeys, cut-keeps_up, recorded-cut, cut-marks}
 use Rattle.fbl_law.proofs.Receipts.{at-most, length-receipts_at}
 use Rattle.fbl_law.proofs.Promises.{received_counted}

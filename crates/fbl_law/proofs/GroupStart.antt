@@ -1,11 +1,10 @@
 -- A group in which nothing is received yet is sound.
-use Rattle.fbl_law.proofs.Common.{Bool, ◌≡◌, ℕ, suc, ◌+◌, ◌<◌, ◌≤◌, ◌==◌, List, [], ◌∷◌, ◌++◌, length, get_or, map, Option, Some, None, slice_get, refl, sym, ap, ◌∙◌, arith}
-use Rattle.fbl_law.proofs.Common.{append_assoc, length-append, Contains, filter, filter_map, length-map, map-append, take_all, get_or_past, filter_map-append, Start}
-use Rattle.fbl_law.proofs.Common.{Event, Mark, mark_of, determinant_of, receipt_of, in_flight, sent_on, taken_on, sends_of, WellFormed, MayFollow, Next, Lawful, sent, action_of}
-use Rattle.fbl_law.proofs.Common.{actions_of, notes_of, start_of, starts_of, filter_map-At, WellFormed-none, WellFormed-push, fresh, Message, MemberRecord, blank, send_mark, is_on}
-use Rattle.fbl_law.proofs.Common.{GroupRecord, channel, knowledge, receipts, IsSound, if◌then◌else◌, Send, Settings, IsConfig, StartAllowed, notes_of-sent, IsGroupStart}
-use Rattle.fbl_law.proofs.Common.{start_events, message_of_send, At-filter_map, nat_tests, IsOnce-none, Entry, Has, Has-first, IsSoundKnowledge, IsThere, NamesCauses, Store}
-use Rattle.fbl_law.proofs.Common.{entries, in_checkpoint, in_message, in_table}
+use Rattle.fbl_law.proofs.Common.{Bool, ◌≡◌, ℕ, suc, ◌+◌, ◌<◌, ◌≤◌, ◌==◌, List, [], ◌∷◌, ◌++◌, length, get_or, map, Option, Some, None, slice_get, refl, sym, ap, ◌∙◌, arith, append_assoc}
+use Rattle.fbl_law.proofs.Common.{length-append, Contains, filter, filter_map, length-map, map-append, take_all, get_or_past, filter_map-append, Start, Event, Mark, mark_of, determinant_of}
+use Rattle.fbl_law.proofs.Common.{receipt_of, in_flight, sent_on, taken_on, sends_of, WellFormed, MayFollow, Next, Lawful, sent, action_of, actions_of, notes_of, start_of, starts_of, filter_map-At}
+use Rattle.fbl_law.proofs.Common.{WellFormed-none, WellFormed-push, fresh, Message, MemberRecord, blank, send_mark, is_on, GroupRecord, channel, knowledge, receipts, IsSound, if◌then◌else◌, Send}
+use Rattle.fbl_law.proofs.Common.{Settings, IsConfig, StartAllowed, notes_of-sent, IsGroupStart, start_events, message_of_send, At-filter_map, nat_tests, IsOnce-none, Entry, Has, Has-first}
+use Rattle.fbl_law.proofs.Common.{IsSoundKnowledge, IsThere, NamesCauses, Store, entries, in_checkpoint, in_message, in_table}
 use Rattle.fbl_base.specs.declared.trace.Event.TheVariants as event
 use Rattle.std.proofs.Common.{append-nil}
 use Rattle.fbl_law.proofs.Channels.{fifo}

@@ -1,12 +1,10 @@
 -- What every step keeps that leaves up members what they were holders of, and that a strike and a checkpoint keep a group sound.
-use Rattle.fbl_law.proofs.Common.{◌≡◌, ℕ, List, inl, inr, arith, subst, refl, Contains, Determinant, Mark, member_of, receipt_of, Has, Precedes, Has-last, some_outside, Entry}
-use Rattle.fbl_law.proofs.Common.{piggybacked, Message, Includes, Knowledge, Store, in_table, in_message, in_checkpoint, owner, entries, table, checkpoint, IsThere, Owes, IsUp}
-use Rattle.fbl_law.proofs.Common.{Names, Holds, IsRecorded, IsHolder, IsStable, IsTrueEntry, NamesCauses, IsDownEmpty, IsCheckpointKept, IsSoundKnowledge, MatchesTrace, WellFormed}
-use Rattle.fbl_law.proofs.Common.{◌≤◌, ap, ◌∙◌, AllBelow, Members, Next, MemberRecord, blank, GroupRecord, knowledge, IsFold, IsSound, IsStrike, RecordedTest, contains-union}
-use Rattle.fbl_law.proofs.Common.{IsOnce-none, false, ◌≢◌, ◌<◌, sym, slice_set, cases_eq, length-set, get_or-set_same, get_or-set_other, itself, member, member_checkpoint}
-use Rattle.fbl_law.proofs.Common.{IsReplayed, IsCheckpoint, CheckpointIsRecorded, GroupCheckpointKeeps, nat_tests}
-use Rattle.fbl_law.proofs.Safe.{down_or_up, up_at_ends, IsRecorded-before, Contains-piggybacked, passed_or_known, never_both, Decides-recorded, up_if_none}
-use Rattle.fbl_law.proofs.Safe.{IsRecorded-reached}
+use Rattle.fbl_law.proofs.Common.{◌≡◌, ℕ, List, inl, inr, arith, subst, refl, Contains, Determinant, Mark, member_of, receipt_of, Has, Precedes, Has-last, some_outside, Entry, piggybacked, Message}
+use Rattle.fbl_law.proofs.Common.{Includes, Knowledge, Store, in_table, in_message, in_checkpoint, owner, entries, table, checkpoint, IsThere, Owes, IsUp, Names, Holds, IsRecorded, IsHolder, IsStable}
+use Rattle.fbl_law.proofs.Common.{IsTrueEntry, NamesCauses, IsDownEmpty, IsCheckpointKept, IsSoundKnowledge, MatchesTrace, WellFormed, ◌≤◌, ap, ◌∙◌, AllBelow, Members, Next, MemberRecord, blank}
+use Rattle.fbl_law.proofs.Common.{GroupRecord, knowledge, IsFold, IsSound, IsStrike, RecordedTest, contains-union, IsOnce-none, false, ◌≢◌, ◌<◌, sym, slice_set, cases_eq, length-set, get_or-set_same}
+use Rattle.fbl_law.proofs.Common.{get_or-set_other, itself, member, member_checkpoint, IsReplayed, IsCheckpoint, CheckpointIsRecorded, GroupCheckpointKeeps, nat_tests}
+use Rattle.fbl_law.proofs.Safe.{down_or_up, up_at_ends, IsRecorded-before, Contains-piggybacked, passed_or_known, never_both, Decides-recorded, up_if_none, IsRecorded-reached}
 use Rattle.std.specs.FinSet as sets
 use Rattle.fbl_law.proofs.ReplayedRecords.{fold-replayed}
 

@@ -1,12 +1,11 @@
 -- What holds in a sound group, and what soundness promises, also of dumps.
-use Rattle.fbl_law.proofs.Common.{receipt-number, ◌≡◌, ℕ, ◌<◌, ◌≤◌, false, length, Some, slice_get, ap, ◌∙◌, arith, fold, length-map, count_by-le-length, Determinant, mark_of}
-use Rattle.fbl_law.proofs.Common.{receipt_of, Has, is_send_of, is_receipt_of, sends_of, receipts_of, Next, Progress, after_notes-state, is_held, Message, last_from, in_table}
-use Rattle.fbl_law.proofs.Common.{in_message, IsInFlight, IsUp, Names, GroupRecord, member, channel, marks, knowledge, IsSound, received_notes, next_determinant, inl, inr, take}
-use Rattle.fbl_law.proofs.Common.{cases_order, itself, step, some_outside, IsHolder, IsHeldBy, Includes, IsDown, IsSoundKnowledge, Knowledge, Members, SurvivorsHold}
-use Rattle.fbl_law.proofs.Common.{HoldsEachReceipt, OfSound, RecordsCauses, RecordsFirst, eqb-self, nat_tests, ◌+◌, zero, suc, List, [], ◌∷◌, map, get_or, refl, length-append}
-use Rattle.fbl_law.proofs.Common.{Contains, zero-add, Contains-append_left, Contains-append_right, length-filter_map, determinant_of, same_determinant, filter_map-At, At-below}
-use Rattle.fbl_law.proofs.Common.{Decides-same_determinant, Entry, MemberRecord, blank, receipts, ◌*◌, IsOnce, decided, add-zero, All-append, All-contains, All-map, All-nil, All}
-use Rattle.fbl_law.proofs.Common.{length-le_from_is_member, is_member-Decides, Send, Receipt, HeldAt, pairs_of, pairs_from, held_pairs, dump_of}
+use Rattle.fbl_law.proofs.Common.{receipt-number, ◌≡◌, ℕ, ◌<◌, ◌≤◌, false, length, Some, slice_get, ap, ◌∙◌, arith, fold, length-map, count_by-le-length, Determinant, mark_of, receipt_of, Has}
+use Rattle.fbl_law.proofs.Common.{is_send_of, is_receipt_of, sends_of, receipts_of, Next, Progress, after_notes-state, is_held, Message, last_from, in_table, in_message, IsInFlight, IsUp, Names}
+use Rattle.fbl_law.proofs.Common.{GroupRecord, member, channel, marks, knowledge, IsSound, received_notes, next_determinant, inl, inr, take, cases_order, itself, step, some_outside, IsHolder}
+use Rattle.fbl_law.proofs.Common.{IsHeldBy, Includes, IsDown, IsSoundKnowledge, Knowledge, Members, SurvivorsHold, HoldsEachReceipt, OfSound, RecordsCauses, RecordsFirst, eqb-self, nat_tests, ◌+◌}
+use Rattle.fbl_law.proofs.Common.{zero, suc, List, [], ◌∷◌, map, get_or, refl, length-append, Contains, zero-add, Contains-append_left, Contains-append_right, length-filter_map, determinant_of}
+use Rattle.fbl_law.proofs.Common.{same_determinant, filter_map-At, At-below, Decides-same_determinant, Entry, MemberRecord, blank, receipts, ◌*◌, IsOnce, decided, add-zero, All-append, All-contains}
+use Rattle.fbl_law.proofs.Common.{All-map, All-nil, All, length-le_from_is_member, is_member-Decides, Send, Receipt, HeldAt, pairs_of, pairs_from, held_pairs, dump_of}
 use Rattle.fbl_law.proofs.Lists.{Contains-at, Contains-map, Contains-changed, Contains-none}
 use Rattle.fbl_law.proofs.Safe.{Has-named, up_if_named, Names-held, held-Names, down_or_up, never_both, up_if_none, IsRecorded-before, Has-recorded, IsAlwaysHeld-closed, All-from}
 use Rattle.fbl_law.proofs.Channels.{channel-at, flight_ends, in_flight-later}

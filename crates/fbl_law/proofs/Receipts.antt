@@ -1,10 +1,9 @@
 -- A member's receipts in a trace, in order, and the numbers of its events; that events that are appended are new.
-use Rattle.fbl_law.proofs.Common.{append_assoc, ◌≡◌, ℕ, List, [], ◌∷◌, ◌++◌, arith, Some, Mark, Has, MayFollow, WellFormed, At-front, At-below, one_place, WellFormed-front}
-use Rattle.fbl_law.proofs.Common.{MayFollow-last, suc, ◌+◌, ◌≤◌, ◌==◌, cond, length, map, Option, slice_get, refl, ap, take, drop, ◌<◌, length-take, filter_map, fold}
-use Rattle.fbl_law.proofs.Common.{nat_tests, length-map, take-append-drop, sum_by-cons, slice_get-map, Determinant, Event, At, mark_of, determinant_of, receipt_of, is_receipt_of}
-use Rattle.fbl_law.proofs.Common.{receipts_of, taken_on, action_of, notes_of, note_of, filter_map-At, At-filter, At-filter_map, WellFormed-take, receipts-noted, received_notes}
-use Rattle.fbl_law.proofs.Common.{receipts_at, is_receipt, WellFormed-keeps, filter-append, filter_map-append, Send, Receipt, At-push, append-nil, Bool, count_by, sum_by-append}
-use Rattle.fbl_law.proofs.Common.{is_send_of, sends_of, Knowledge, IsBeforeCheckpoint, take-append-add, checkpoint, noted}
+use Rattle.fbl_law.proofs.Common.{append_assoc, ◌≡◌, ℕ, List, [], ◌∷◌, ◌++◌, arith, Some, Mark, Has, MayFollow, WellFormed, At-front, At-below, one_place, WellFormed-front, MayFollow-last, suc, ◌+◌}
+use Rattle.fbl_law.proofs.Common.{◌≤◌, ◌==◌, cond, length, map, Option, slice_get, refl, ap, take, drop, ◌<◌, length-take, filter_map, fold, nat_tests, length-map, take-append-drop, sum_by-cons}
+use Rattle.fbl_law.proofs.Common.{slice_get-map, Determinant, Event, At, mark_of, determinant_of, receipt_of, is_receipt_of, receipts_of, taken_on, action_of, notes_of, note_of, filter_map-At}
+use Rattle.fbl_law.proofs.Common.{At-filter, At-filter_map, WellFormed-take, receipts-noted, received_notes, receipts_at, is_receipt, WellFormed-keeps, filter-append, filter_map-append, Send, Receipt}
+use Rattle.fbl_law.proofs.Common.{At-push, append-nil, Bool, count_by, sum_by-append, is_send_of, sends_of, Knowledge, IsBeforeCheckpoint, take-append-add, checkpoint, noted}
 use Rattle.fbl_base.specs.declared.trace.Event.TheVariants as event
 use Rattle.fbl_law.proofs.Lists.{At-behind, some-at, filter-At, filter-passes}
 

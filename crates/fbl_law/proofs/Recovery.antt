@@ -1,9 +1,8 @@
 -- A recovery keeps knowledge sound.
-use Rattle.fbl_law.proofs.Common.{one_place, List, ◌≡◌, ℕ, ◌↔◌, Bool, true, inl, inr, refl, sym, ap, ◌∙◌, Some, filter, Determinant, Mark, member_of, send_of, receipt_of, Has}
-use Rattle.fbl_law.proofs.Common.{Earlier, Precedes, itself, step, WellFormed, sent_on, taken_on, Has-first, Knowledge, Store, in_table, in_message, in_checkpoint, IsThere, table}
-use Rattle.fbl_law.proofs.Common.{IsDown, IsUp, Names, Holds, IsRecorded, IsHolder, IsClosed, IsSoundKnowledge, NamesCauses, Stays, Send, Receipt, Has-filter, Precedes-filter}
-use Rattle.fbl_law.proofs.Common.{nat_tests, arith, Event, GainsHolders, GroupRecord, IsEventCut, IsRecovery, IsSound, MemberRecord, Next, StaysIsRecorded, knowledge, map, mark_of}
-use Rattle.fbl_law.proofs.Common.{marks, recovery_table}
+use Rattle.fbl_law.proofs.Common.{one_place, List, ◌≡◌, ℕ, ◌↔◌, Bool, true, inl, inr, refl, sym, ap, ◌∙◌, Some, filter, Determinant, Mark, member_of, send_of, receipt_of, Has, Earlier, Precedes}
+use Rattle.fbl_law.proofs.Common.{itself, step, WellFormed, sent_on, taken_on, Has-first, Knowledge, Store, in_table, in_message, in_checkpoint, IsThere, table, IsDown, IsUp, Names, Holds, IsRecorded}
+use Rattle.fbl_law.proofs.Common.{IsHolder, IsClosed, IsSoundKnowledge, NamesCauses, Stays, Send, Receipt, Has-filter, Precedes-filter, nat_tests, arith, Event, GainsHolders, GroupRecord, IsEventCut}
+use Rattle.fbl_law.proofs.Common.{IsRecovery, IsSound, MemberRecord, Next, StaysIsRecorded, knowledge, map, mark_of, marks, recovery_table}
 use Rattle.fbl_law.proofs.CutLawful.{KeepsCauses, Has-before, WellFormed-kept, map-kept, marks-filter}
 use Rattle.fbl_law.proofs.Lists.{filter-passes, filter-At}
 use Rattle.fbl_law.proofs.Safe.{entries_gathered, gathered_recorded, recorded_gathered, down_or_up, down_or_both_up, never_both, nobody_down_empty, up_if_none, IsRecorded-depended}

@@ -1,13 +1,12 @@
 -- How the members that are down replay what the survivors have recorded, why they never get stuck, how many receipts they replay, and from there to a recovery.
-use Rattle.fbl_law.proofs.Common.{Receipt, receipts_of, receipts-step, WellFormed-keeps, MayFollow, ◌++◌, filter-append, filter_map-append, append-nil, ℕ, zero, suc, ◌<◌, ◌≤◌}
-use Rattle.fbl_law.proofs.Common.{List, arith, subst, Determinant, Mark, At, receipt_of, WellFormed, sent-before, one_place, Send, ◌≡◌, ◌+◌, Earlier, Has, ◌≢◌, ◌-◌, ◌&&◌, Some}
-use Rattle.fbl_law.proofs.Common.{slice_get, Bool, true, [], ◌∷◌, length, map, refl, sym, ap, ◌∙◌, nat_lt, filter, nat_tests, length-map, Event, mark_of, determinant_of, AllBelow}
-use Rattle.fbl_law.proofs.Common.{Members, Next, MemberRecord, Stays, IsEventCut, GroupRecord, knowledge, receipts, receipts_at, IsReplayed, IsSound, length-left}
-use Rattle.fbl_law.proofs.Common.{length-filter_map, count_in, cond, ◌⊎◌, inl, inr, slice_set, length-append, cases_Bool, cases_eq, length-set, get_or-set_same, get_or-set_other}
-use Rattle.fbl_law.proofs.Common.{count_by-le-length, slice_get_within, slice_index_or, is_send_of, Lawful, Entry, found, blank, logged_note, replayed_by}
-use Rattle.fbl_law.proofs.Common.{length-numbered, Names, IsDown, recovery_table, member_checkpoint, IsFold, IsRecovery, IsMadeAgain, IsNextReplay, recovered_trace, stays_by}
-use Rattle.fbl_law.proofs.Common.{is_of_receipt, is_replayed, working, IsReplaying, IsWaiting, replayed_in, IsRebuilt, position_or_len, fails_before_first, find_at, get_or}
-use Rattle.fbl_law.proofs.Common.{slice_get-get_or, option_map}
+use Rattle.fbl_law.proofs.Common.{Receipt, receipts_of, receipts-step, WellFormed-keeps, MayFollow, ◌++◌, filter-append, filter_map-append, append-nil, ℕ, zero, suc, ◌<◌, ◌≤◌, List, arith, subst}
+use Rattle.fbl_law.proofs.Common.{Determinant, Mark, At, receipt_of, WellFormed, sent-before, one_place, Send, ◌≡◌, ◌+◌, Earlier, Has, ◌≢◌, ◌-◌, ◌&&◌, Some, slice_get, Bool, true, [], ◌∷◌, length}
+use Rattle.fbl_law.proofs.Common.{map, refl, sym, ap, ◌∙◌, nat_lt, filter, nat_tests, length-map, Event, mark_of, determinant_of, AllBelow, Members, Next, MemberRecord, Stays, IsEventCut, GroupRecord}
+use Rattle.fbl_law.proofs.Common.{knowledge, receipts, receipts_at, IsReplayed, IsSound, length-left, length-filter_map, count_in, cond, ◌⊎◌, inl, inr, slice_set, length-append, cases_Bool, cases_eq}
+use Rattle.fbl_law.proofs.Common.{length-set, get_or-set_same, get_or-set_other, count_by-le-length, slice_get_within, slice_index_or, is_send_of, Lawful, Entry, found, blank, logged_note}
+use Rattle.fbl_law.proofs.Common.{replayed_by, length-numbered, Names, IsDown, recovery_table, member_checkpoint, IsFold, IsRecovery, IsMadeAgain, IsNextReplay, recovered_trace, stays_by}
+use Rattle.fbl_law.proofs.Common.{is_of_receipt, is_replayed, working, IsReplaying, IsWaiting, replayed_in, IsRebuilt, position_or_len, fails_before_first, find_at, get_or, slice_get-get_or}
+use Rattle.fbl_law.proofs.Common.{option_map}
 use Rattle.std.specs.FinSet as set
 use Rattle.fbl_law.proofs.Receipts.{at-most-before, receipts_at-Has, at-most, Has-receipts_at, length-receipts_at}
 use Rattle.fbl_law.proofs.Lists.{sum_below-agree, sum_below-none, sum_below-at, Contains-here, Contains-there}

@@ -1,12 +1,11 @@
 -- The notes of a trace's messages, what the log of a fold has, and a member that replays its receipts one after the other.
-use Rattle.fbl_law.proofs.Common.{one_send, ◌≡◌, ℕ, suc, ◌==◌, ◌&&◌, inl, inr, List, [], ◌∷◌, take, map, Some, slice_get, refl, ◌∙◌, arith, cases_Bool, nat_tests, slice_get-map}
-use Rattle.fbl_law.proofs.Common.{Event, Mark, At, mark_of, Has, WellFormed, note_of, map-At, sent-note, ap, Bool, cond, count_by, eqb-self, is_send_of, nat_le, nat_lt}
-use Rattle.fbl_law.proofs.Common.{sum_by-cons, true, zero, ◌+◌, ◌<◌, ◌≤◌, ◌++◌, length, drop, Option, None, sym, append_assoc, length-append, filter_map, fold, zero-add, cases_eq}
-use Rattle.fbl_law.proofs.Common.{map-append, take-append-drop, filter_map-append, Start, is_receipt_of, sends_of, receipts_of, Next, Logged, Progress, Action, took, sent}
-use Rattle.fbl_law.proofs.Common.{numbered, starts_of, begun, advanced, after_notes, action_of, actions_of, notes_of, responses, Lawful, sends-step, receipts-step, logged_note}
-use Rattle.fbl_law.proofs.Common.{length-numbered, received_notes, MemberRecord, IsReplayed, append-nil, fold-append, numbered-append, take-more, progress_of, take-map, take_all}
-use Rattle.fbl_law.proofs.Common.{length-set, get_or-set_same, get_or-set_other, slice_get_within, Determinant, receipt_of, receipts-noted, fresh, replayed_by, GroupRecord, member}
-use Rattle.fbl_law.proofs.Common.{marks, IsFold, receipts_at, fold_next}
+use Rattle.fbl_law.proofs.Common.{one_send, ◌≡◌, ℕ, suc, ◌==◌, ◌&&◌, inl, inr, List, [], ◌∷◌, take, map, Some, slice_get, refl, ◌∙◌, arith, cases_Bool, nat_tests, slice_get-map, Event, Mark, At}
+use Rattle.fbl_law.proofs.Common.{mark_of, Has, WellFormed, note_of, map-At, sent-note, ap, Bool, cond, count_by, eqb-self, is_send_of, nat_le, nat_lt, sum_by-cons, true, zero, ◌+◌, ◌<◌, ◌≤◌, ◌++◌}
+use Rattle.fbl_law.proofs.Common.{length, drop, Option, None, sym, append_assoc, length-append, filter_map, fold, zero-add, cases_eq, map-append, take-append-drop, filter_map-append, Start}
+use Rattle.fbl_law.proofs.Common.{is_receipt_of, sends_of, receipts_of, Next, Logged, Progress, Action, took, sent, numbered, starts_of, begun, advanced, after_notes, action_of, actions_of, notes_of}
+use Rattle.fbl_law.proofs.Common.{responses, Lawful, sends-step, receipts-step, logged_note, length-numbered, received_notes, MemberRecord, IsReplayed, append-nil, fold-append, numbered-append}
+use Rattle.fbl_law.proofs.Common.{take-more, progress_of, take-map, take_all, length-set, get_or-set_same, get_or-set_other, slice_get_within, Determinant, receipt_of, receipts-noted, fresh}
+use Rattle.fbl_law.proofs.Common.{replayed_by, GroupRecord, member, marks, IsFold, receipts_at, fold_next}
 use Rattle.fbl_base.specs.declared.trace.Mark.TheVariants as mark
 use Rattle.fbl_base.specs.declared.trace.Event.TheVariants.{Send, Receipt}
 use Rattle.fbl_law.proofs.Receipts.{MayFollow-seam, receipts_at-Has, Has-receipts_at, length-received_notes, note-at, last-from}

@@ -1,14 +1,13 @@
 -- What tables name, also after they have learned or are gathered, and what a closed record promises.
-use Rattle.fbl_law.proofs.Common.{List, ◌≡◌, ℕ, false, [], inl, inr, ◌⊎◌, arith, subst, refl, nat_cmp, Contains, cases_Bool, Members, Determinant, Mark, Has, Precedes, Depends}
-use Rattle.fbl_law.proofs.Common.{member_of, receipt_of, some_member, IsTrueEntry, in_table, in_checkpoint, IsHolder, Includes, Knowledge, table, checkpoint, IsUp, IsDown, Names}
-use Rattle.fbl_law.proofs.Common.{IsRecorded, IsStable, KnowsTruth, IsBeforeCheckpoint, IsClosed, IsDownEmpty, Message, Entry, IsOrphan, RecordsCauses, ◌<◌, ◌||◌, length, get_or}
-use Rattle.fbl_law.proofs.Common.{true, ◌∷◌, map, sym, ◌∙◌, nat_le, false_from_ne_true, cases_eq, get_or_past, Any-from_list_any, same_determinant, contains-insert_other}
-use Rattle.fbl_law.proofs.Common.{Decides-same_determinant, MemberRecord, blank, is_held, gathered, learned, piggybacked, ◌↔◌, All, All-head, All-tail, leb_tells, list_any-append}
-use Rattle.fbl_law.proofs.Common.{list_any-from_Any, All-cons, All-contains_itself, All-map, All-weaker, held-carried, held-gathered, held_by, noted, Decides, Decides-like}
-use Rattle.fbl_law.proofs.Common.{Decides-or, ◌≤◌, and_parts, cases_lt, members_where, contains-members_where, contains-union, list_any, list_any_at, get_or_default}
-use Rattle.fbl_law.proofs.Common.{is_recorded_among, false≢true, nat_tests, len-within, IsAlwaysHeld, ◌≢◌, ◌++◌, map-append, map-map, all_pairs_push, IsOnce}
-use Rattle.fbl_law.proofs.Common.{AllPairs-from_IsDistinct, IsDistinct-from_AllPairs, gathered_all, recovery_table, saved_tables, added_new, not_held_learned, IsOnce-none, zero}
-use Rattle.fbl_law.proofs.Common.{suc, fold_along, Contains-append_left, Contains-append_right, All-append, All-contains, All-from_get_or, All-nil, Contains-get_or, IsSoundKnowledge}
+use Rattle.fbl_law.proofs.Common.{List, ◌≡◌, ℕ, false, [], inl, inr, ◌⊎◌, arith, subst, refl, nat_cmp, Contains, cases_Bool, Members, Determinant, Mark, Has, Precedes, Depends, member_of, receipt_of}
+use Rattle.fbl_law.proofs.Common.{some_member, IsTrueEntry, in_table, in_checkpoint, IsHolder, Includes, Knowledge, table, checkpoint, IsUp, IsDown, Names, IsRecorded, IsStable, KnowsTruth}
+use Rattle.fbl_law.proofs.Common.{IsBeforeCheckpoint, IsClosed, IsDownEmpty, Message, Entry, IsOrphan, RecordsCauses, ◌<◌, ◌||◌, length, get_or, true, ◌∷◌, map, sym, ◌∙◌, nat_le, false_from_ne_true}
+use Rattle.fbl_law.proofs.Common.{cases_eq, get_or_past, Any-from_list_any, same_determinant, contains-insert_other, Decides-same_determinant, MemberRecord, blank, is_held, gathered, learned}
+use Rattle.fbl_law.proofs.Common.{piggybacked, ◌↔◌, All, All-head, All-tail, leb_tells, list_any-append, list_any-from_Any, All-cons, All-contains_itself, All-map, All-weaker, held-carried}
+use Rattle.fbl_law.proofs.Common.{held-gathered, held_by, noted, Decides, Decides-like, Decides-or, ◌≤◌, and_parts, cases_lt, members_where, contains-members_where, contains-union, list_any}
+use Rattle.fbl_law.proofs.Common.{list_any_at, get_or_default, is_recorded_among, false≢true, nat_tests, len-within, IsAlwaysHeld, ◌≢◌, ◌++◌, map-append, map-map, all_pairs_push, IsOnce}
+use Rattle.fbl_law.proofs.Common.{AllPairs-from_IsDistinct, IsDistinct-from_AllPairs, gathered_all, recovery_table, saved_tables, added_new, not_held_learned, IsOnce-none, zero, suc, fold_along}
+use Rattle.fbl_law.proofs.Common.{Contains-append_left, Contains-append_right, All-append, All-contains, All-from_get_or, All-nil, Contains-get_or, IsSoundKnowledge}
 use Rattle.std.specs.FinSet as set
 use Rattle.fbl_law.proofs.Lists.{Contains-none, Contains-filter, Contains-from_filter, Contains-changed, Contains-map, Contains-here}
 use Rattle.fbl_table.specs.Tables.{added}

@@ -1,12 +1,11 @@
 -- What each step keeps, of predicates and of a weight, the whole group keeps.
-use Rattle.fbl_law.proofs.Common.{one_send, ◌≡◌, ℕ, zero, suc, ◌<◌, ◌==◌, inl, inr, List, [], ◌∷◌, ◌++◌, take, drop, map, Some, slice_get, subst, refl, sym, ap, ◌∙◌, arith}
-use Rattle.fbl_law.proofs.Common.{length-take, All, filter_map, fold, cases_eq, eq-eqb, ne_eqb, take-append-drop, All-head, All-tail, filter_map-append, Start, Event, mark_of}
-use Rattle.fbl_law.proofs.Common.{WellFormed, Next, Progress, Action, took, sent, Lawful, action_of, actions_of, notes_of, note_of, responses, starts_of, At-front, At-below}
-use Rattle.fbl_law.proofs.Common.{split-at, after_notes-state, eqb-self, sent-before, StepKeeps, HoldsFirst, GroupRecord, member_checkpoint, marks, IsSound, received_notes}
-use Rattle.fbl_law.proofs.Common.{All-cons, All-nil, All-take, HoldsOf, At-filter_map, All-contains, Option, None, cond, nat_tests, ◌+◌, ◌≤◌, sum_by-cons, sum_by-append, Mark}
-use Rattle.fbl_law.proofs.Common.{MayFollow, in_flight, in_flight-send, in_flight-receipt, receipts-noted, WellFormed-keeps, Message, send_mark, IsUp, member, channel, knowledge}
-use Rattle.fbl_law.proofs.Common.{sum_below, sum_by, option_map_or, fold-map, sum_by_push, sum_by-drop_more, get_or_from_slice_get, slice_get_within, StepMakesNone, StepLosesNone}
-use Rattle.fbl_law.proofs.Common.{StepConserves, weight_after, weight_flying, weight_of, weight_at_first, weight_of_starts, WeighsNoMore, WeighsNoLess, WeighsTheSame}
+use Rattle.fbl_law.proofs.Common.{one_send, ◌≡◌, ℕ, zero, suc, ◌<◌, ◌==◌, inl, inr, List, [], ◌∷◌, ◌++◌, take, drop, map, Some, slice_get, subst, refl, sym, ap, ◌∙◌, arith, length-take, All}
+use Rattle.fbl_law.proofs.Common.{filter_map, fold, cases_eq, eq-eqb, ne_eqb, take-append-drop, All-head, All-tail, filter_map-append, Start, Event, mark_of, WellFormed, Next, Progress, Action, took}
+use Rattle.fbl_law.proofs.Common.{sent, Lawful, action_of, actions_of, notes_of, note_of, responses, starts_of, At-front, At-below, split-at, after_notes-state, eqb-self, sent-before, StepKeeps}
+use Rattle.fbl_law.proofs.Common.{HoldsFirst, GroupRecord, member_checkpoint, marks, IsSound, received_notes, All-cons, All-nil, All-take, HoldsOf, At-filter_map, All-contains, Option, None, cond}
+use Rattle.fbl_law.proofs.Common.{nat_tests, ◌+◌, ◌≤◌, sum_by-cons, sum_by-append, Mark, MayFollow, in_flight, in_flight-send, in_flight-receipt, receipts-noted, WellFormed-keeps, Message, send_mark}
+use Rattle.fbl_law.proofs.Common.{IsUp, member, channel, knowledge, sum_below, sum_by, option_map_or, fold-map, sum_by_push, sum_by-drop_more, get_or_from_slice_get, slice_get_within, StepMakesNone}
+use Rattle.fbl_law.proofs.Common.{StepLosesNone, StepConserves, weight_after, weight_flying, weight_of, weight_at_first, weight_of_starts, WeighsNoMore, WeighsNoLess, WeighsTheSame}
 use Rattle.fbl_law.proofs.Common.{messages_in_flight, nil_from_length}
 use Rattle.fbl_base.specs.declared.trace.Mark.TheVariants as mark
 use Rattle.std.specs.FinSet as set

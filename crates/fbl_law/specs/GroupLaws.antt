@@ -8,8 +8,7 @@ use Rattle.fbl_base.specs.Fold.{Next}
 use Rattle.fbl_base.specs.MemberSets.{AllBelow, Members}
 use Rattle.fbl_member.specs.Members.{Message, MemberRecord, blank, logged_note, replayed_by}
 use Rattle.fbl_law.specs.Groups.{GroupRecord, member_checkpoint, marks, knowledge, is_recorded, receipts, receipts_at, IsSound, OfSound}
-use Rattle.fbl_law.specs.GroupSteps.{IsGroupStart, IsDelivery, IsStrike, IsCheckpoint, IsRecovery, Stays, recovery_table, recovered_trace, working, IsReplaying, IsWaiting}
-use Rattle.fbl_law.specs.GroupSteps.{IsRebuilt}
+use Rattle.fbl_law.specs.GroupSteps.{IsGroupStart, IsDelivery, IsStrike, IsCheckpoint, IsRecovery, Stays, recovery_table, recovered_trace, working, IsReplaying, IsWaiting, IsRebuilt}
 use Rattle.fbl_base.specs.declared.trace.Determinant.{Determinant}
 use Rattle.fbl_base.specs.Events.{receipt_of, mark_of}
 use Rattle.fbl_base.specs.Precedence.{Has, Precedes}

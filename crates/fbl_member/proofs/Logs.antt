@@ -1,7 +1,6 @@
 -- Logs of sends, which are numbered from 1.
-use Rattle.fbl_member.proofs.Common.{◌≡◌, ℕ, ◌+◌, ◌<◌, ◌≤◌, ◌==◌, List, [], ◌∷◌, ◌++◌, map, Some, refl, sym, ap, ◌∙◌, arith, length, nat_tests, numbered}
-use Rattle.fbl_member.proofs.Common.{starts_of, zero, suc, if◌then◌else◌, None, slice_get, slice_set, length-append, length-set, option_map, length-filter_map, Start, MemberRecord}
-use Rattle.fbl_member.proofs.Common.{logged_note, without_number, IsKept}
+use Rattle.fbl_member.proofs.Common.{◌≡◌, ℕ, ◌+◌, ◌<◌, ◌≤◌, ◌==◌, List, [], ◌∷◌, ◌++◌, map, Some, refl, sym, ap, ◌∙◌, arith, length, nat_tests, numbered, starts_of, zero, suc, if◌then◌else◌, None}
+use Rattle.fbl_member.proofs.Common.{slice_get, slice_set, length-append, length-set, option_map, length-filter_map, Start, MemberRecord, logged_note, without_number, IsKept}
 
 module _ {N : Type 0} where
   pub length-numbered : (before : ℕ) (sends : List (ℕ × N)) → length (numbered before sends) ≡ length sends

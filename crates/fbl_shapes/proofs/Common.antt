@@ -17,8 +17,7 @@ pub use Rattle.fbl_history.specs.declared.column.Column.{Column}
 pub use Rattle.fbl_shapes.specs.HistoryMarks.{column_marks, recovery_mark, strike_mark}
 pub use Rattle.fbl_shapes.specs.HistoryMembers.{brings_back, history_member_shapes, is_back, is_down_after, line_parts, members_shapes, strikes}
 pub use Rattle.fbl_shapes.specs.HistoryMessages.{arrow_from, back_before, has_standing_receipt, last_before, last_sent, later, receipt_arrow, sent_before, stub, stub_where, arrow_between, arrow_kind, is_comeback, sends}
-pub use Rattle.fbl_shapes.specs.Shapes.{drawn}
-pub use Rattle.fbl_shapes.specs.Shapes.{line_kind_of}
+pub use Rattle.fbl_shapes.specs.Shapes.{drawn, line_kind_of}
 pub use Rattle.fbl_shapes.specs.declared.shape.Shape.{Shape}
 pub use Rattle.std.proofs.lemmas.List.Elements.{filter-append}
 pub use Rattle.fbl_base.proofs.RulesLaws.{eqb-self}

@@ -2,7 +2,7 @@
 use Rattle.std.proofs.Common.{◌≡◌, ℕ, ◌+◌, ◌<◌, ◌≤◌, ◌==◌, ◌⊎◌, ◌∙◌, Bool, true, false, List, [], ◌∷◌, length, slice_index, sum, sum_by, ap, inl, inr, refl, replicate, arith}
 use Rattle.std.proofs.lemmas.Bool.{cases_lt, eqb-true, false≢true}
 use Rattle.std.proofs.lemmas.Bool.Decides.{nat_tests}
-use Rattle.std.proofs.lemmas.List.{get_or-set_other, set_past}
+use Rattle.std.proofs.lemmas.List.{get_or-set_other, set_past, get_or-set_same, length-set}
 use Rattle.std.proofs.lemmas.List.Sums.{sum_by-set}
 use Rattle.fbl_base.specs.Configs.{Settings, IsConfig}
 use Rattle.fbl_base.proofs.Gets.{get_or-same}
@@ -11,7 +11,6 @@ use Rattle.fbl_law.specs.StepLaws.{AnyNote, HoldsFirst, StepKeeps, StepMakesNone
 use Rattle.fbl_base.specs.Fold.{state_after}
 use Rattle.fbl_store.specs.Commands.{amount_of, changed, changed_at, key_of, made_of}
 use Rattle.std.specs.List.{fold}
-use Rattle.std.proofs.lemmas.List.{get_or-set_same, length-set}
 use Rattle.fbl_store.specs.Shards.{HoldsItsOwn, applied, key_owner, shard_next, shard_step}
 use Rattle.fbl_store.specs.declared.command.Command.{Command}
 use Rattle.fbl_store.specs.declared.command.Command.TheVariants.{Put, Add}

@@ -1,9 +1,8 @@
 -- The places of the open entries, how many entries are passed on, and what steps keep.
-use Rattle.fbl_table.proofs.Common.{zero, values_of, set_value_at, ◌≡◌, ℕ, suc, ◌+◌, ◌<◌, Bool, true, false, cond, ◌||◌, List, [], ◌∷◌, ◌++◌, map, Option, Some, refl, sym, ap, ◌∙◌, arith}
-use Rattle.fbl_table.proofs.Common.{length, slice_get, get_or, false≢true, nat_tests, filter, filter_map, slice_get_cases, nat_cmp, nat_cmp_total, Entry, is_open, piggybacked}
-use Rattle.fbl_table.proofs.Common.{entry_of, open_at, IsIndex, nat_le, All-get_or, AllZip-push, filter_passes, length_all_zip, AllZip, option_map_or, len-within, KeepsIndex}
-use Rattle.fbl_table.proofs.Common.{IndexedEntries, drop, drop_next, ◌≤◌, count_by, length-map, filter-append, sum_by-cons, Determinant, length-left, gathered, learned, held_by}
-use Rattle.fbl_table.proofs.Common.{length-append, length-filter, length-filter_map, noted}
+use Rattle.fbl_table.proofs.Common.{zero, values_of, set_value_at, ◌≡◌, ℕ, suc, ◌+◌, ◌<◌, Bool, true, false, cond, ◌||◌, List, [], ◌∷◌, ◌++◌, map, Option, Some, refl, sym, ap, ◌∙◌, arith, length}
+use Rattle.fbl_table.proofs.Common.{slice_get, get_or, false≢true, nat_tests, filter, filter_map, slice_get_cases, nat_cmp, nat_cmp_total, Entry, is_open, piggybacked, entry_of, open_at, IsIndex}
+use Rattle.fbl_table.proofs.Common.{nat_le, All-get_or, AllZip-push, filter_passes, length_all_zip, AllZip, option_map_or, len-within, KeepsIndex, IndexedEntries, drop, drop_next, ◌≤◌, count_by}
+use Rattle.fbl_table.proofs.Common.{length-map, filter-append, sum_by-cons, Determinant, length-left, gathered, learned, held_by, length-append, length-filter, length-filter_map, noted}
 use Rattle.std.specs.FinSet as set
 use Rattle.fbl_table.specs.Indexed.{places_of_open}
 use Rattle.fbl_table.proofs.Adding.{Pairs}

@@ -1,8 +1,7 @@
 -- Each step of the claims keeps their rule, and the rule says what a step does to the words.
-use Rattle.fbl_threads.proofs.Common.{◌≡◌, ◌<◌, ◌↔◌, ℕ, suc, ◌⊎◌, inl, inr, List, [], ◌∷◌, ◌++◌, Some, None, cond, sym, refl, ap, ◌∙◌, arith, zero, Option, eqb}
-use Rattle.fbl_threads.proofs.Common.{get_or, set, length-set, eq-eqb, ne_eqb, get_or-set_same, get_or-set_other, set-get_or, ext_get_or, dite, some, some-ne-none, ℕ_discrete, get_elem?, either}
-use Rattle.fbl_threads.proofs.Common.{State, keeps, Allows, Splits, Joins, at_set, set_else, set_again, at_longer, at_snoc, ViewHolds, IsFree, IsClaimed, IsExclusive, HasOneHolder, IsSaidBy}
-use Rattle.fbl_threads.proofs.Common.{WordsFollowViews}
+use Rattle.fbl_threads.proofs.Common.{◌≡◌, ◌<◌, ◌↔◌, ℕ, suc, ◌⊎◌, inl, inr, List, [], ◌∷◌, ◌++◌, Some, None, cond, sym, refl, ap, ◌∙◌, arith, zero, Option, eqb, get_or, set, length-set, eq-eqb}
+use Rattle.fbl_threads.proofs.Common.{ne_eqb, get_or-set_same, get_or-set_other, set-get_or, ext_get_or, dite, some, some-ne-none, ℕ_discrete, get_elem?, either, State, keeps, Allows, Splits, Joins}
+use Rattle.fbl_threads.proofs.Common.{at_set, set_else, set_again, at_longer, at_snoc, ViewHolds, IsFree, IsClaimed, IsExclusive, HasOneHolder, IsSaidBy, WordsFollowViews}
 
 abbrev St : Type 0
 St = State (Unit {0}) (Option ℕ)

@@ -1,9 +1,8 @@
 -- Turns that are recorded.
-use Rattle.fbl_threads.proofs.Common.{◌≡◌, ℕ, ◌<◌, ◌∙◌, ◌∷◌, [], Bool, true, false, List, Option, Some, None, refl, sym, subst, ap, inl, inr, cond, length, append-nil}
-use Rattle.fbl_threads.proofs.Common.{is_none, is_some, not, ∥∥₁_map, Next, Members, Strike, GroupRecord, member}
-use Rattle.fbl_threads.proofs.Common.{Ticket, CommitRefusal, Full, Memory, Stale, Down, RefusesCommit, struck_at, Counts, Commits, more_at, commits_one, undoes}
-use Rattle.fbl_threads.proofs.Common.{Turn, commits, crashes, strikes, is_full, wants, is_late, Reached, starts, turns, nothing_done}
-use Rattle.fbl_threads.proofs.Common.{TurnRecord, CrashRecord, RecoveryRecord, IsReceiptRecord, IsRecordedAs, ReachedBy, begins, goes_on, ReachedAs, TurnAs, IsAdded, CountsRefusal, CrashesAs, with_record}
+use Rattle.fbl_threads.proofs.Common.{◌≡◌, ℕ, ◌<◌, ◌∙◌, ◌∷◌, [], Bool, true, false, List, Option, Some, None, refl, sym, subst, ap, inl, inr, cond, length, append-nil, is_none, is_some, not, ∥∥₁_map}
+use Rattle.fbl_threads.proofs.Common.{Next, Members, Strike, GroupRecord, member, Ticket, CommitRefusal, Full, Memory, Stale, Down, RefusesCommit, struck_at, Counts, Commits, more_at, commits_one}
+use Rattle.fbl_threads.proofs.Common.{undoes, Turn, commits, crashes, strikes, is_full, wants, is_late, Reached, starts, turns, nothing_done, TurnRecord, CrashRecord, RecoveryRecord, IsReceiptRecord}
+use Rattle.fbl_threads.proofs.Common.{IsRecordedAs, ReachedBy, begins, goes_on, ReachedAs, TurnAs, IsAdded, CountsRefusal, CrashesAs, with_record}
 
 -- ---- runs
 

@@ -1,12 +1,11 @@
 -- What the parser of command lines makes of the program's command lines.
-use Rattle.fblrun.proofs.Common.{◌≡◌, ℕ, zero, suc, ◌+◌, ◌<◌, ◌&&◌, Bool, true, false, List, [], ◌∷◌, ◌++◌, Option, Some, None, option_map, Result, Ok, Err}
-use Rattle.fblrun.proofs.Common.{IfErr, refl, sym, ap, ◌∙◌, arith, codes, decimal, drop, subst, unwrap_or, decimal_digit, parse-decimal, Box, box_value}
-use Rattle.fblrun.proofs.Common.{IsErrAnd, ParsesUnsigned, built, entered, is_simple, Bor, Misuse, Words, AreNames, IsRefusedFor, Names, Request, IsRequestAt}
-use Rattle.fblrun.proofs.Common.{IsRequestOf, all_given_in, all_of, is_merge, merge_line, given_in, texts_in, first_of, option_and_then, subcommand_of, names_of, built_takes, takes, nothing_held, stop_after, App}
-use Rattle.fblrun.proofs.Common.{HasMatchesOf, ReadsOne, Row, Text, kind_of, one_of, subcommand_name_of, subcommand_rows, subcommand_rows_of, Error}
-use Rattle.fblrun.proofs.Common.{OutOfMemory, ArgMatches, out-ArgMatches, out-SubCommand, SubCommand, WorkersAllowed, Order, IsCommandLine, is_audit}
-use Rattle.fblrun.proofs.Common.{is_check, is_draw, is_play, is_show, is_show_workers, is_workers, IsOrderAt, audit_line, check_line, draw_line, flag_text}
-use Rattle.fblrun.proofs.Common.{order_for, play_line, program, show_line, with_explain, with_strict}
+use Rattle.fblrun.proofs.Common.{◌≡◌, ℕ, zero, suc, ◌+◌, ◌<◌, ◌&&◌, Bool, true, false, List, [], ◌∷◌, ◌++◌, Option, Some, None, option_map, Result, Ok, Err, IfErr, refl, sym, ap, ◌∙◌, arith, codes}
+use Rattle.fblrun.proofs.Common.{decimal, drop, subst, unwrap_or, decimal_digit, parse-decimal, Box, box_value, IsErrAnd, ParsesUnsigned, built, entered, is_simple, Bor, Misuse, Words, AreNames}
+use Rattle.fblrun.proofs.Common.{IsRefusedFor, Names, Request, IsRequestAt, IsRequestOf, all_given_in, all_of, is_merge, merge_line, given_in, texts_in, first_of, option_and_then, subcommand_of}
+use Rattle.fblrun.proofs.Common.{names_of, built_takes, takes, nothing_held, stop_after, App, HasMatchesOf, ReadsOne, Row, Text, kind_of, one_of, subcommand_name_of, subcommand_rows}
+use Rattle.fblrun.proofs.Common.{subcommand_rows_of, Error, OutOfMemory, ArgMatches, out-ArgMatches, out-SubCommand, SubCommand, WorkersAllowed, Order, IsCommandLine, is_audit, is_check, is_draw}
+use Rattle.fblrun.proofs.Common.{is_play, is_show, is_show_workers, is_workers, IsOrderAt, audit_line, check_line, draw_line, flag_text, order_for, play_line, program, show_line, with_explain}
+use Rattle.fblrun.proofs.Common.{with_strict}
 use Rattle.clap.proofs.OnLiterals.{clap_on_literals}
 
 -- the subcommand that the words behind the program's name give, with what was found of it

@@ -1,5 +1,4 @@
-use Rattle.fbl_history.proofs.Common.{List, ◌++◌, drop, sym, ap, ◌∙◌, Column, go_on, Ok, YieldsList-at, YieldsList-from_skip, YieldsList-from_vec, items_from_extend}
-use Rattle.fbl_history.proofs.Common.{AllocError}
+use Rattle.fbl_history.proofs.Common.{List, ◌++◌, drop, sym, ap, ◌∙◌, Column, go_on, Ok, YieldsList-at, YieldsList-from_skip, YieldsList-from_vec, items_from_extend, AllocError}
 use Rattle.fbl_history.proofs.history.follow_trace.Goals as goal
 
 pub returns : goal.returns

@@ -1,11 +1,10 @@
 -- It asks the gate, and then either answers `Err` or hands on what the inner allocator answers. Assumes `Logic`.
-use Rattle.fbl_fixtures.proofs.Steps.{Val, token, ◌≡◌, Bool, true, false, [], ◌∷◌, Ok, Err, refl, w64, proved, Al, seen, Takes, at_takes, Answered, Takes-goes, Takes-gives}
-use Rattle.fbl_fixtures.proofs.Steps.{answers, Answer, answer_val, Answer-typed, Answer-Ok, Answer-err, ftrue, flft, Fn, inst_fn, vbool, size, align, capped, ◌⊑◌, ⊑_trans}
-use Rattle.fbl_fixtures.proofs.Steps.{fact, tables, ‵, raw, ◌⊛◌, some, later, given, at_ret, ◌$◌, ◌∵◌, !, qed, done, move, keep, use0, use1, use2, split, join}
-use Rattle.fbl_fixtures.proofs.Steps.{fsplit, fjoin, learn, pick, await, suffices, enter, lit, addr, stop, fld, no_more, and_then, first, branches, skips, exec, returns}
-use Rattle.fbl_fixtures.proofs.Steps.{returns_within, agg, alloc_all, pass_all, free_all, look_at, get, through, sets, lands_as, env, usize, yes, uint_vals, uint_Tells, owns}
-use Rattle.fbl_fixtures.proofs.Steps.{block_ptr, shr_vals, plain, types_at, heard, nothing, calls_at, Ended, framed, Stays, stay_dropped, walk_of, ends_at, Goes-dropped, after, Env}
-use Rattle.fbl_fixtures.proofs.Steps.{hidden_shr, Sq, prop}
+use Rattle.fbl_fixtures.proofs.Steps.{Val, token, ◌≡◌, Bool, true, false, [], ◌∷◌, Ok, Err, refl, w64, proved, Al, seen, Takes, at_takes, Answered, Takes-goes, Takes-gives, answers, Answer}
+use Rattle.fbl_fixtures.proofs.Steps.{answer_val, Answer-typed, Answer-Ok, Answer-err, ftrue, flft, Fn, inst_fn, vbool, size, align, capped, ◌⊑◌, ⊑_trans, fact, tables, ‵, raw, ◌⊛◌, some, later}
+use Rattle.fbl_fixtures.proofs.Steps.{given, at_ret, ◌$◌, ◌∵◌, !, qed, done, move, keep, use0, use1, use2, split, join, fsplit, fjoin, learn, pick, await, suffices, enter, lit, addr, stop, fld}
+use Rattle.fbl_fixtures.proofs.Steps.{no_more, and_then, first, branches, skips, exec, returns, returns_within, agg, alloc_all, pass_all, free_all, look_at, get, through, sets, lands_as, env, usize}
+use Rattle.fbl_fixtures.proofs.Steps.{yes, uint_vals, uint_Tells, owns, block_ptr, shr_vals, plain, types_at, heard, nothing, calls_at, Ended, framed, Stays, stay_dropped, walk_of, ends_at}
+use Rattle.fbl_fixtures.proofs.Steps.{Goes-dropped, after, Env, hidden_shr, Sq, prop}
 use Rattle.fbl_fixtures.proofs.Asks.{Asks, asked, asks, told}
 use Rattle.fbl_fixtures.proofs.refusing_allocator.Gate.refuses_next.Met as gate_met
 use Rattle.std.specs.Allocator.{block_if_ok}

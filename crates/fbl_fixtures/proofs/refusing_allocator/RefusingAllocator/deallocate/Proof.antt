@@ -1,10 +1,9 @@
 -- It gives the block back to the inner allocator, and asks no gate. Assumes `Logic`.
-use Rattle.fbl_fixtures.proofs.Steps.{◌≡◌, List, [], ◌∷◌, refl, w64, proved, Al, seen, token, Gives, at_gives, Gives-goes, Gives-Gives, fst∗, never, ftrue, fsep, flft}
-use Rattle.fbl_fixtures.proofs.Steps.{sem, Fn, inst_fn, Val, vunit, size, align, capped, ◌⊑◌, ⊑_trans, fact, tables, ‵, raw, prop, ◌⊛◌, later, given, ◌$◌}
-use Rattle.fbl_fixtures.proofs.Steps.{◌∵◌, !, qed, done, move, keep, group, use1, split, split3, join, fsplit, fjoin, feq_i, learn, await, regoal, suffices, enter, of_opd}
-use Rattle.fbl_fixtures.proofs.Steps.{unit_lit, addr, stop, fld, no_more, and_then, returns, alloc_all, pass_all, free_all, look_at, get, through, sets, lands_as, usize, RawPtr, yes}
-use Rattle.fbl_fixtures.proofs.Steps.{uint_vals, uint_Tells, owns, flat, Ptr, block_ptr, null_ptr, room_for, in_a_block, rawptr_vals, rawptr_Tells, shr_vals, plain, types_at, heard}
-use Rattle.fbl_fixtures.proofs.Steps.{nothing, calls_at, Ended, framed, Stays, stay_dropped, walk_of, ends_at, Goes-dropped, WpFn, hidden_shr}
+use Rattle.fbl_fixtures.proofs.Steps.{◌≡◌, List, [], ◌∷◌, refl, w64, proved, Al, seen, token, Gives, at_gives, Gives-goes, Gives-Gives, fst∗, never, ftrue, fsep, flft, sem, Fn, inst_fn, Val, vunit}
+use Rattle.fbl_fixtures.proofs.Steps.{size, align, capped, ◌⊑◌, ⊑_trans, fact, tables, ‵, raw, prop, ◌⊛◌, later, given, ◌$◌, ◌∵◌, !, qed, done, move, keep, group, use1, split, split3, join, fsplit}
+use Rattle.fbl_fixtures.proofs.Steps.{fjoin, feq_i, learn, await, regoal, suffices, enter, of_opd, unit_lit, addr, stop, fld, no_more, and_then, returns, alloc_all, pass_all, free_all, look_at, get}
+use Rattle.fbl_fixtures.proofs.Steps.{through, sets, lands_as, usize, RawPtr, yes, uint_vals, uint_Tells, owns, flat, Ptr, block_ptr, null_ptr, room_for, in_a_block, rawptr_vals, rawptr_Tells}
+use Rattle.fbl_fixtures.proofs.Steps.{shr_vals, plain, types_at, heard, nothing, calls_at, Ended, framed, Stays, stay_dropped, walk_of, ends_at, Goes-dropped, WpFn, hidden_shr}
 use Rattle.fbl_fixtures.proofs.Parts.{over, receiver, inner_of, gate_of, parts}
 use Rattle.fbl_fixtures.specs.contracts.refusing_allocator.Gate as gate
 use Rattle.fbl_fixtures.specs.contracts.refusing_allocator.RefusingAllocator.deallocate as F

@@ -1,5 +1,4 @@
-use Rattle.fbl_table.proofs.Common.{◌≡◌, ◌∷◌, ◌++◌, ◌+◌, ◌∙◌, ap, arith, drop, drop_next, length, slice_get, filter_map, listed, append_assoc}
-use Rattle.fbl_table.proofs.Common.{length-append, piggybacked, slice_get-get_or, nat_tests}
+use Rattle.fbl_table.proofs.Common.{◌≡◌, ◌∷◌, ◌++◌, ◌+◌, ◌∙◌, ap, arith, drop, drop_next, length, slice_get, filter_map, listed, append_assoc, length-append, piggybacked, slice_get-get_or, nat_tests}
 use Rattle.fbl_table.proofs.Indexing.{open-piggybacked, open-within}
 use Rattle.fbl_table.proofs.indexed.IndexedEntries.push_open.Goals as goal
 use Rattle.fbl_table.proofs.indexed.IndexedEntries.push_open.Goals.{After-entry_at}
