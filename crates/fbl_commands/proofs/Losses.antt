@@ -115,8 +115,3 @@ is_same before passed d e more is same = same_at before passed d e more is ∙ (
 pub is_other : (before : List Determinant) (passed : ℕ) (d e : Determinant) → e ≡ get_or before passed e → same_determinant e d ≡ false → passed < length before → get_or before passed d ≡ d → ⊥
 is_other before passed d e is other more same =
     false≢true (sym other ∙ (Decides-same_determinant e d).1 (sym (same_at before passed d e more is) ∙ same))
-
--- all receipts after were looked at
-pub parted_all : (before after lost : List Determinant) (passed i : ℕ) → length after ≤ i → IsParted before after lost passed i
-    → (recorded : Determinant → Bool) → before ≡ filter (λ d. not (recorded d)) after → lost ≡ filter recorded after
-parted_all before after lost passed i all so_far recorded others = (so_far.1 recorded others).0 ∙ ap (filter recorded) (take_all i after all)

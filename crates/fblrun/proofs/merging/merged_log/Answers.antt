@@ -2,7 +2,6 @@ use Rattle.fblrun.proofs.Common.{◌≡◌, Err, IfErr, IsErrAnd, List, LogParts
 use Rattle.fbl_order.specs.Parts.{IsUnitedLog}
 use Rattle.fbl_order.specs.declared.parts.PartsFault.TheVariants as parts
 use Rattle.fblrun.specs.declared.merging.MergeFault.TheVariants as faults
-use Rattle.fblrun.specs.Merging.{IsOrderedFrom}
 use Rattle.fblrun.proofs.merging.merged_log.Goals as goal
 
 -- the fault of the whole is one of the logs that it unites
