@@ -225,9 +225,25 @@ fn output<'a>(alloc: Global) -> Arg<'a>
         .help(OUTPUT)
 }
 
-/// The program with this subcommand, which has what each has too: what is read, which is this, the file to write, and the flag
-/// `--explain`, which does this.
+/// The subcommand with what each has too: what is read, which is this, the file to write, and the flag `--explain`, which does this.
 fn with_shared_args<'a>(
+    alloc: Global,
+    sub: Command<'a>,
+    read: Arg<'a>,
+    explained: &'a str,
+) -> Result<Command<'a>, AllocError>
+    requires globals { (fields_of sub).has_globals ≡ false }
+    requires local { read.global ≡ false }
+    ensures app { IfOk result (λ c. app_of c ≡ with_shared (rule_of read.entry) (app_of sub.entry)) }
+    ensures no_globals { IfOk result (λ c. (fields_of c).has_globals ≡ false) }
+{
+    let sub = sub.arg(read)?;
+    let sub = sub.arg(output(alloc))?;
+    sub.arg(explain(alloc, explained))
+}
+
+/// The program with this subcommand, which gets what each has.
+fn with_shared_subcommand<'a>(
     alloc: Global,
     command: Command<'a>,
     sub: Command<'a>,
@@ -238,9 +254,7 @@ fn with_shared_args<'a>(
     requires local { read.global ≡ false }
     ensures { IfOk result (λ c. app_of c ≡ with_subcommand (app_of command.entry) (with_shared (rule_of read.entry) (app_of sub.entry)).top) }
 {
-    let sub = sub.arg(read)?;
-    let sub = sub.arg(output(alloc))?;
-    let sub = sub.arg(explain(alloc, explained))?;
+    let sub = with_shared_args(alloc, sub, read, explained)?;
     command.subcommand(sub)
 }
 
@@ -253,7 +267,7 @@ fn with_play<'a>(alloc: Global, command: Command<'a>) -> Result<Command<'a>, All
         .after_help(PLAY_EXAMPLE);
     let play = play.arg(workers(alloc))?;
     let play = play.arg(strict(alloc))?;
-    with_shared_args(alloc, command, play, input(alloc, SCRIPT), EXPLAIN_PLAY)
+    with_shared_subcommand(alloc, command, play, input(alloc, SCRIPT), EXPLAIN_PLAY)
 }
 
 /// The program with the subcommand `show`, which has a number of workers.
@@ -264,7 +278,7 @@ fn with_show<'a>(alloc: Global, command: Command<'a>) -> Result<Command<'a>, All
         .about(SHOW)
         .after_help(SHOW_EXAMPLE);
     let show = show.arg(workers(alloc))?;
-    with_shared_args(alloc, command, show, input(alloc, SCRIPT), EXPLAIN_PLAY)
+    with_shared_subcommand(alloc, command, show, input(alloc, SCRIPT), EXPLAIN_PLAY)
 }
 
 /// The program with a subcommand of this name that reads dumps.
@@ -279,7 +293,7 @@ fn with_reader<'a>(
     ensures { IfOk result (λ c. app_of c ≡ with_subcommand (app_of command.entry) (shared_app name.now).top) }
 {
     let reader = Command::new(alloc, name).about(about).after_help(example);
-    with_shared_args(alloc, command, reader, inputs(alloc, DUMP), explained)
+    with_shared_subcommand(alloc, command, reader, inputs(alloc, DUMP), explained)
 }
 
 /// The program above its subcommands.
