@@ -6,10 +6,10 @@ ghost use Rattle.fbl_audit.specs.Checking.{IsSafe, SaysUnsafe};
 ghost use Rattle.fbl_base.specs.Events.{receipts};
 ghost use Rattle.fbl_input.specs.Faults.{PutsOut};
 ghost use Rattle.fbl_texts.specs.Auditing.{Audits, IsAuditText, IsChecked, check_lines, unsafe_lines, verdict_of};
-ghost use Rattle.fbl_texts.specs.Lines.{audit_lines, determinant_line, determinant_words, outcome_line, unsafe_line};
+ghost use Rattle.fbl_texts.specs.Lines.{audit_lines, determinant_line, determinant_words, orphans_line, outcome_line, unsafe_line};
 
 use crate::reading::read_dump;
-use crate::sets::{push_set, set_text};
+use crate::sets::push_set;
 use fbl_audit::{UnsafeReceipt, unsafe_receipts};
 use fbl_base::audit::{Audit, Dump};
 use fbl_base::{Determinant, MemberSet};
@@ -56,6 +56,15 @@ fn push_determinants(text: &mut String, lost: &[Determinant]) -> Result<(), Allo
     Ok(())
 }
 
+/// Writes the line of the orphans.
+fn push_orphans(text: &mut String, alloc: Global, orphans: MemberSet) -> Result<(), AllocError>
+    ensures { OnOk result (string_bytes text.new ≡ string_bytes text.old ++ orphans_line orphans) }
+{
+    text.push_str("orphans ")?;
+    push_set(text, alloc, orphans)?;
+    Ok(text.push_str("\n")?)
+}
+
 /// The lines of an audit: how many receipts are lost, the determinant of each, and the orphans.
 pub(crate) fn lines_text(
     alloc: Global,
@@ -67,8 +76,7 @@ pub(crate) fn lines_text(
     let count = lost.len();
     let mut text = format!(in alloc; "lost {count}\n")?;
     push_determinants(&mut text, lost)?;
-    let set = set_text(alloc, orphans)?;
-    write!(text, "orphans {set}\n")?;
+    push_orphans(&mut text, alloc, orphans)?;
     Ok(text)
 }
 

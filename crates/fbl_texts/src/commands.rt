@@ -1,10 +1,11 @@
 //! Commands as JSON.
 
-ghost use Rattle.std.specs.Prelude.{◌≡◌, ◌≤◌, map, IfOk, IfErr};
+ghost use Rattle.std.specs.Prelude.{◌≡◌, ◌≤◌, map, None, codes, option_map, IfOk, IfErr, if◌then◌else◌};
 ghost use Rattle.serde_json.specs.View.{view};
 ghost use Rattle.fbl_input.specs.Misfits.{Gives, IsOfShape, form_of, wanted_form};
-ghost use Rattle.fbl_input.specs.Shapes.{list_of};
-ghost use Rattle.fbl_texts.specs.Scripts.{IsBadAmong, checkpoint_from, command_from, command_on, commands_from, delivery, lone_command, planned_shape, versioned_from, versioned_shape};
+ghost use Rattle.fbl_input.specs.Shapes.{is_text, list_of};
+ghost use Rattle.fbl_texts.specs.Scripts.{IsBadAmong, checkpoint_from, command_from, command_on, commands_from, delivery, lone_command, planned_from, planned_shape, versioned_from, versioned_shape};
+ghost use Rattle.fbl_texts.specs.declared.script.Command.TheVariants.{Run};
 
 use crate::script::{Command, Plan, Version};
 use fbl_base::Strike;
@@ -12,6 +13,19 @@ use fbl_input::shapes::{JsonShape, all_in, count_in, is_named, list_in, member_i
 use fbl_input::{CommandForm, MOST_COMMANDS, Misfit};
 use serde_json::Value;
 use std::alloc::{AllocError, Global};
+
+fn planned_of(list: &[Value]) -> Option<Strike>
+    ensures { result ≡ planned_from (map view list.now) }
+{
+    match list {
+        [at, members] => {
+            let at = u64::from(count_in(at)?);
+            let set = set_in(members)?;
+            Some(Strike { at, set })
+        }
+        _ => None,
+    }
+}
 
 /// A strike of a plan: a list of the count at which it comes and its members.
 struct PlannedShape;
@@ -22,14 +36,7 @@ impl JsonShape<Strike> for PlannedShape {
     ghost shape = { planned_shape };
 
     fn in_value(value: &Value) -> Option<Strike> {
-        match list_in(value)? {
-            [at, members] => {
-                let at = u64::from(count_in(at)?);
-                let set = set_in(members)?;
-                Some(Strike { at, set })
-            }
-            _ => None,
-        }
+        planned_of(list_in(value)?)
     }
 }
 
@@ -61,6 +68,15 @@ fn lone_command_in(name: &Value) -> Option<Command>
     None
 }
 
+fn run_in(alloc: Global, name: &Value, value: &Value) -> Result<Option<Command>, AllocError>
+    ensures { IfOk result (λ c. c ≡ (if is_text (codes "run") (view name.now) then option_map Run (list_of planned_shape (view value.now)) else None)) }
+{
+    if !is_named(name, "run") {
+        return Ok(None);
+    }
+    Ok(plan_in(alloc, value)?.map(Command::Run))
+}
+
 fn command_on_in(alloc: Global, name: &Value, value: &Value) -> Result<Option<Command>, AllocError>
     ensures { IfOk result (λ c. c ≡ command_on (view name.now) (view value.now)) }
 {
@@ -70,10 +86,7 @@ fn command_on_in(alloc: Global, name: &Value, value: &Value) -> Result<Option<Co
     if is_named(name, "dump") {
         return Ok(set_in(value).map(Command::Dump));
     }
-    if is_named(name, "run") {
-        return Ok(plan_in(alloc, value)?.map(Command::Run));
-    }
-    Ok(None)
+    run_in(alloc, name, value)
 }
 
 fn delivery_in(name: &Value, to: &Value, from: &Value) -> Option<Command>

@@ -51,7 +51,8 @@ fn entry_of(list: &[Value]) -> Option<Entry>
 {
     match list {
         [name, member, from, ssn, to, rsn] => record_in(name, member, from, ssn, to, rsn),
-        _ => event_of(list).map(Entry::Event),
+        [_, _, _, _] | [_, _, _, _, _] => event_of(list).map(Entry::Event),
+        _ => None,
     }
 }
 

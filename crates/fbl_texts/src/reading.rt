@@ -88,6 +88,15 @@ pub(crate) fn pair_in(
     Some((holder, Determinant { from, ssn, to, rsn }))
 }
 
+fn pair_of(list: &[Value]) -> Option<(Member, Determinant)>
+    ensures { result ≡ pair_from (map view list.now) }
+{
+    match list {
+        [holder, from, ssn, to, rsn] => pair_in(holder, from, ssn, to, rsn),
+        _ => None,
+    }
+}
+
 /// A held pair: a list of the holder and the parts of the determinant.
 struct PairShape;
 
@@ -97,10 +106,7 @@ impl JsonShape<(Member, Determinant)> for PairShape {
     ghost shape = { pair_shape };
 
     fn in_value(value: &Value) -> Option<(Member, Determinant)> {
-        match list_in(value)? {
-            [holder, from, ssn, to, rsn] => pair_in(holder, from, ssn, to, rsn),
-            _ => None,
-        }
+        pair_of(list_in(value)?)
     }
 }
 

@@ -73,15 +73,23 @@ impl Plan {
     }
 }
 
+/// Writes a strike of a plan, behind this.
+fn write_strike<W: fmt::Write>(
+    f: &mut fmt::Formatter<W>,
+    before: &str,
+    at: u64,
+    members: MemberSet,
+) -> fmt::Result {
+    write!(f, "{before}[{at},{members}]")
+}
+
 /// As a script has it, as in `[[2,[1]],[5,[0,3]]]`.
 impl fmt::Display for Plan {
     fn fmt<W: fmt::Write>(&self, f: &mut fmt::Formatter<W>) -> fmt::Result {
         f.write_str("[")?;
         let mut end = "";
         for strike in &self.strikes {
-            let at = strike.at;
-            let members = strike.set;
-            write!(f, "{end}[{at},{members}]")?;
+            write_strike(f, end, strike.at, strike.set)?;
             end = ",";
         }
         f.write_str("]")
@@ -109,6 +117,15 @@ pub enum Command {
     Checkpoint(Member),
 }
 
+/// Writes the name of a command with its argument.
+fn write_on<W: fmt::Write, T: fmt::Display>(
+    f: &mut fmt::Formatter<W>,
+    name: &str,
+    argument: &T,
+) -> fmt::Result {
+    write!(f, "{name} {argument}")
+}
+
 /// Its name with its arguments as a script has them, as in `deliver to 1 from 2` and `strike [1,2]`.
 impl fmt::Display for Command {
     fn fmt<W: fmt::Write>(&self, f: &mut fmt::Formatter<W>) -> fmt::Result {
@@ -116,11 +133,11 @@ impl fmt::Display for Command {
             Command::Deliver { to, from } => write!(f, "deliver to {to} from {from}"),
             Command::States => f.write_str("states"),
             Command::Report => f.write_str("report"),
-            Command::Strike(set) => write!(f, "strike {set}"),
+            Command::Strike(set) => write_on(f, "strike", set),
             Command::Recover => f.write_str("recover"),
-            Command::Dump(set) => write!(f, "dump {set}"),
-            Command::Run(plan) => write!(f, "run {plan}"),
-            Command::Checkpoint(member) => write!(f, "checkpoint {member}"),
+            Command::Dump(set) => write_on(f, "dump", set),
+            Command::Run(plan) => write_on(f, "run", plan),
+            Command::Checkpoint(member) => write_on(f, "checkpoint", member),
         }
     }
 }

@@ -6,6 +6,7 @@ ghost use Rattle.serde_json.specs.View.{view};
 ghost use Rattle.serde_json.specs.Find.{get};
 ghost use Rattle.fbl_base.specs.Configs.{IsConfig};
 ghost use Rattle.fbl_base.specs.Steps.{has_few_hops};
+ghost use Rattle.fbl_input.specs.Items.{start_from};
 ghost use Rattle.fbl_input.specs.Misfits.{Gives, IsMisfit, IsOfShape};
 ghost use Rattle.fbl_input.specs.Shapes.{count_shape, field, field_or, name_of};
 ghost use Rattle.fbl_input.specs.declared.fault.Key.TheVariants as keys;
@@ -36,6 +37,22 @@ pub(crate) struct Request {
     commands: Vec<Command>,
 }
 
+fn start_of(list: &[Value]) -> Option<Start>
+    ensures { result ≡ start_from (map view list.now) }
+{
+    match list {
+        [from, to, value, hops] => {
+            let from = member_in(from)?;
+            let to = member_in(to)?;
+            let value = count_in(value)?;
+            let hops = ByteShape::in_value(hops)?;
+            let note = Note { value, hops };
+            Some(Start { from, to, note })
+        }
+        _ => None,
+    }
+}
+
 /// A start: a list of its sender, its receiver, its value and its hops.
 struct StartShape;
 
@@ -45,17 +62,7 @@ impl JsonShape<Start> for StartShape {
     ghost shape = { start_shape };
 
     fn in_value(value: &Value) -> Option<Start> {
-        match list_in(value)? {
-            [from, to, value, hops] => {
-                let from = member_in(from)?;
-                let to = member_in(to)?;
-                let value = count_in(value)?;
-                let hops = ByteShape::in_value(hops)?;
-                let note = Note { value, hops };
-                Some(Start { from, to, note })
-            }
-            _ => None,
-        }
+        start_of(list_in(value)?)
     }
 }
 

@@ -112,15 +112,22 @@ pub(crate) fn loss_reasons(
     Ok(reasons)
 }
 
+/// Why each lost receipt of the dump is lost.
+fn lost_reasons(alloc: Global, dump: &Dump) -> Result<Vec<LossReason>, AllocError>
+    ensures { IfOk result (λ reasons. TellsLost dump.now reasons.items) }
+{
+    let audit = Audit::of(alloc, dump)?;
+    let lost = audit.lost(alloc)?;
+    loss_reasons(alloc, &audit, lost.as_slice(), dump.strike())
+}
+
 /// Why each lost receipt of the dump is lost, and a path from it to each orphan that depends on it. The time taken is that of
 /// a pass over the events for each lost receipt. `Err` comes only where there is no memory for the paths.
 pub fn why_lost<'a>(alloc: Global, dump: &'a Dump) -> Result<Why<'a>, AllocError>
     ensures dump { IfOk result (λ why. why.dump.now ≡ dump.now) }
     ensures lost { IfOk result (λ why. TellsLost dump.now why.receipts.items) }
 {
-    let audit = Audit::of(alloc, dump)?;
-    let lost = audit.lost(alloc)?;
-    let receipts = loss_reasons(alloc, &audit, lost.as_slice(), dump.strike())?;
+    let receipts = lost_reasons(alloc, dump)?;
     Ok(Why { dump, receipts })
 }
 
@@ -140,6 +147,14 @@ pub fn why_unsafe<'a>(alloc: Global, dump: &'a Dump) -> Result<Why<'a>, AllocErr
     Ok(Why { dump, receipts })
 }
 
+/// Writes the numbers, each behind a space.
+fn write_numbers<W: fmt::Write>(f: &mut fmt::Formatter<W>, numbers: &[u32]) -> fmt::Result {
+    for number in numbers {
+        write!(f, " {number}")?;
+    }
+    Ok(())
+}
+
 /// Writes who holds the receipt, and when, where that is said.
 pub(crate) fn write_holders<W: fmt::Write>(
     f: &mut fmt::Formatter<W>,
@@ -148,12 +163,17 @@ pub(crate) fn write_holders<W: fmt::Write>(
     strike: MemberSet,
     when: &str,
 ) -> fmt::Result {
-    let Determinant { from, ssn, to, rsn } = *determinant;
-    write!(f, "determinant {from} {ssn} {to} {rsn} is held by ")?;
+    let from = u32::from(determinant.from.number());
+    let to = u32::from(determinant.to.number());
+    f.write_str("determinant")?;
+    write_numbers(f, &[from, determinant.ssn, to, determinant.rsn])?;
     if holders.is_empty() {
-        return write!(f, "nobody{when}");
+        return write!(f, " is held by nobody{when}");
     }
-    write!(f, "{holders}{when}, and a strike of {strike} loses it")
+    write!(
+        f,
+        " is held by {holders}{when}, and a strike of {strike} loses it"
+    )
 }
 
 /// What a list has at a place of a path.
@@ -195,6 +215,18 @@ pub(crate) fn write_path<W: fmt::Write, E: OnPath>(
     f.write_str("\n")
 }
 
+/// Writes the path to each orphan.
+fn write_paths<W: fmt::Write>(
+    f: &mut fmt::Formatter<W>,
+    events: &[Mark],
+    orphans: &[OrphanPath],
+) -> fmt::Result {
+    for path in orphans {
+        write_path(f, path.orphan, events, path.places.as_slice())?;
+    }
+    Ok(())
+}
+
 /// Writes the reasons, where these are the events of the dump.
 pub(crate) fn write_losses<W: fmt::Write>(
     f: &mut fmt::Formatter<W>,
@@ -203,13 +235,12 @@ pub(crate) fn write_losses<W: fmt::Write>(
 ) -> fmt::Result {
     for reason in reasons {
         write_holders(f, &reason.determinant, reason.holders, reason.strike, "")?;
-        if reason.orphans.is_empty() {
-            f.write_str("; nobody else depends on it")?;
-        }
-        f.write_str("\n")?;
-        for path in &reason.orphans {
-            write_path(f, path.orphan, events, path.places.as_slice())?;
-        }
+        f.write_str(if reason.orphans.is_empty() {
+            "; nobody else depends on it\n"
+        } else {
+            "\n"
+        })?;
+        write_paths(f, events, reason.orphans.as_slice())?;
     }
     Ok(())
 }

@@ -10,12 +10,14 @@ moved : (front : List Command) (c : Command) (rest : Result (List Command) RunFa
 moved front c (Err e) = refl
 moved front c (Ok cs) = ap Ok (append_assoc front (c ∷ []) cs)
 
+here : (list : List Value) (i : ℕ) (v : Value) → i < length list → v ≡ get_or list i v → drop i list ≡ v ∷ drop (i + 1) list
+here list i v within is = rw add-one (drop-cons list i v within ∙ ap (λ x. x ∷ drop (suc i) list) (sym is))
+
 one_more : (shape : Data → Option Command) (place : ℕ) (front : List Command) (list : List Value) (i : ℕ) (v : Value) (c : Command) → i < length list → v ≡ get_or list i v → ¬ (place ≡ 1024)
     → Some c ≡ shape (view v) → with_front (front ++ c ∷ []) (commands_from shape (place + 1) (map view (drop (i + 1) list))) ≡ with_front front (commands_from shape place (map view (drop i list)))
 one_more shape place front list i v c within is few given =
-    let here : drop i list ≡ v ∷ drop (i + 1) list = rw add-one (drop-cons list i v within ∙ ap (λ x. x ∷ drop (suc i) list) (sym is)) in
     let other : nat_eq place 1024 ≡ false = ne_eqb place 1024 few in
-    rw (here, other, ← given) (moved front c (commands_from shape (place + 1) (map view (drop (i + 1) list))))
+    rw (here list i v within is, other, ← given) (moved front c (commands_from shape (place + 1) (map view (drop (i + 1) list))))
 
 pub loop-value-preserved : goal.loop-value-preserved
 loop-value-preserved c =
@@ -29,3 +31,9 @@ loop-value-preserved c =
           ∙ one_more shape place c.loop-value.commands.items c.args.list.now i c.value-item.result c.in-Some.command c.loop-value-test.true c.value-item.is c.if-place-eq-MOST_COMMANDS.false (sym c.in-Some.is ∙ c.in_ok-command.ensures)
           ∙ c.loop-value.invariant.told;
     }
+
+pub returns-then-place-eq-MOST_COMMANDS-clause-exact : goal.returns-then-place-eq-MOST_COMMANDS-clause-exact
+returns-then-place-eq-MOST_COMMANDS-clause-exact c = sym c.loop-value.invariant.told ∙ rw (here _ _ _ c.loop-value-test.true c.value-item.is, c.if-place-eq-MOST_COMMANDS.true) refl
+
+pub returns-in-None-clause-exact : goal.returns-in-None-clause-exact
+returns-in-None-clause-exact c = sym c.loop-value.invariant.told ∙ rw (here _ _ _ c.loop-value-test.true c.value-item.is, ne_eqb _ _ c.if-place-eq-MOST_COMMANDS.false, ← (sym c.in-None.is ∙ c.in_ok-command.ensures)) refl
