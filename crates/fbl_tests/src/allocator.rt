@@ -26,17 +26,3 @@ fn refuses_each_request_in_turn(rt: HostRuntime) {
         }
     }
 }
-
-/// Whether a block for the number is had, which is then given back.
-fn is_served(heap: &Refusing<Global>, number: u32) -> bool {
-    Box::new(heap, number).is_ok_and(|kept| *kept == number)
-}
-
-// The request after the refused one is served.
-#[test]
-fn refuses_one_request_alone(rt: HostRuntime) {
-    let heap = Refusing::new(rt.alloc(), 2);
-    assert!(rt; is_served(&heap, 1) && !heap.has_refused());
-    assert!(rt; !is_served(&heap, 2) && heap.has_refused());
-    assert!(rt; is_served(&heap, 3) && heap.requests() == 3);
-}

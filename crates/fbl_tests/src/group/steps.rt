@@ -32,7 +32,7 @@ pub(crate) enum Step<'a> {
 }
 
 /// What became of a call.
-#[derive(Clone, Copy, PartialEq, Eq, Debug)]
+#[derive(Clone, Copy, PartialEq, Eq)]
 pub(crate) enum Verdict {
     AsExpected,
     Unexpected,
