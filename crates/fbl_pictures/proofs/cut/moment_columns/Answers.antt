@@ -31,7 +31,6 @@ returns c =
     let entries = c.args.entries.now in
     let cut = cut_in c.args.cut.now in
     let pass = c.loop-place.pass in
-    let columns = c.loop-number.columns in
     let all : c.loop-place.place ≡ length entries = omega arith in
     let passed = subst (λ (p : ℕ). HasPassed entries cut p pass) all c.loop-place.invariant in
     let each = c.loop-number.invariant in (

@@ -1,5 +1,4 @@
 use Rattle.fbl_pictures.proofs.Common.{ℕ, List, ◌≡◌, ◌∙◌, ap, length, refl, subst, sym, range_with_len, ArePaths, IsStart, column_in, placed_from}
-use Rattle.fbl_base.specs.Audit.{IsDump}
 use Rattle.fbl_base.specs.Events.{At, receipt_of}
 use Rattle.fbl_base.proofs.PrecedenceLaws.{places-from_depends}
 use Rattle.fbl_audit.specs.Paths.{Origin}
@@ -12,9 +11,8 @@ pub starts_of-requires-clause-depend : goal.starts_of-requires-clause-depend
 starts_of-requires-clause-depend c q orphan =
     let dump = c.args.audit.now in
     let d = c.args.found.now.determinant in
-    let rules : IsDump dump = c.dump-dump.ensures.rules in
     let at : At dump.events c.place_of.result (receipt_of d) = rw (c.events.ensures.events, c.dump-dump.ensures.dump) at c.place_of.ensures in
-    rw c.of-paths.ensures (places-from_depends dump.members dump.events rules.events q c.place_of.result (receipt_of d) at (c.requires.orphans q orphan))
+    rw c.of-paths.ensures (places-from_depends dump.members dump.events c.dump-dump.ensures.rules.events q c.place_of.result (receipt_of d) at (c.requires.orphans q orphan))
 
 pub starts_of-requires-clause-events : goal.starts_of-requires-clause-events
 starts_of-requires-clause-events c =
@@ -25,9 +23,8 @@ pub push_paths_to-requires-clause-depend : goal.push_paths_to-requires-clause-de
 push_paths_to-requires-clause-depend c q orphan =
     let dump = c.args.audit.now in
     let d = c.args.found.now.determinant in
-    let rules : IsDump dump = c.dump-dump.ensures.rules in
     let at : At dump.events c.place_of.result (receipt_of d) = rw (c.events.ensures.events, c.dump-dump.ensures.dump) at c.place_of.ensures in
-    rw c.of-paths.ensures (places-from_depends dump.members dump.events rules.events q c.place_of.result (receipt_of d) at (c.requires.orphans q orphan))
+    rw c.of-paths.ensures (places-from_depends dump.members dump.events c.dump-dump.ensures.rules.events q c.place_of.result (receipt_of d) at (c.requires.orphans q orphan))
 
 pub returns : goal.returns
 unfolding run_shapes

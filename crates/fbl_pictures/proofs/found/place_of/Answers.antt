@@ -14,5 +14,4 @@ loop-place-preserved c =
 pub unreachable-requires : goal.unreachable-requires
 unreachable-requires c =
     let has = c.requires in
-    let within = slice_get_within c.args.events.now has.0 (receipt_of c.args.determinant.now) has.1 in
-    c.loop-place.invariant has.0 (omega arith) has.1
+    c.loop-place.invariant has.0 (omega (arith, slice_get_within c.args.events.now has.0 (receipt_of c.args.determinant.now) has.1)) has.1

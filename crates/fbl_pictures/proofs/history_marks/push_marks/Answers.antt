@@ -1,8 +1,5 @@
-use Rattle.fbl_pictures.proofs.Common.{arith, column_marks}
-use Rattle.fbl_pictures.proofs.Steps.{drawn_on}
+use Rattle.fbl_pictures.proofs.Common.{arith, common_steps}
 use Rattle.fbl_pictures.proofs.history_marks.push_marks.Goals as goal
 
 pub loop-place-preserved : goal.loop-place-preserved
-loop-place-preserved c =
-    rw c.in_ok-push_mark.ensures
-    (drawn_on c.args.columns.now c.loop-place.place c.index-columns-place.result (omega arith) c.index-columns-place.is column_marks c.loop-place.shapes.items _ c.loop-place.invariant)
+loop-place-preserved c = grind (arith, common_steps)

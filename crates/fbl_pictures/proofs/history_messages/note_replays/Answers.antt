@@ -9,6 +9,4 @@ loop-replay-preserved c q =
     let rest = drop (i + 1) replays in
     let here : is_back q (drop i replays) ≡ (x.member == q || is_back q rest) =
     at_drop_more (λ l. is_back q l) replays i x (omega arith) ∙ ap (λ y. is_back q (y ∷ rest)) (sym c.replay-item.is) in
-    let was = c.loop-replay.invariant q in
-    let now = c.in_ok-insert.ensures.updates.0 q in
-    grind (arith, here, was, now)
+    grind (arith, here, c.loop-replay.invariant q, c.in_ok-insert.ensures.updates.0 q)

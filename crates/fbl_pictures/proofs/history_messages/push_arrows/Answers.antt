@@ -1,4 +1,4 @@
-use Rattle.fbl_pictures.proofs.Common.{◌≡◌, ◌<◌, ◌++◌, ◌+◌, drop, ◌∙◌, ap, arith, length, arrow_from, option_to_list, receipt_arrow, drawn}
+use Rattle.fbl_pictures.proofs.Common.{◌≡◌, ◌++◌, ◌+◌, drop, ◌∙◌, ap, arith, arrow_from, option_to_list, receipt_arrow, drawn}
 use Rattle.fbl_pictures.proofs.Steps.{drawn_on}
 use Rattle.fbl_pictures.proofs.history_messages.push_arrows.Goals as goal
 
@@ -7,7 +7,6 @@ loop-place-preserved c =
     let columns = c.args.columns.now in
     let i = c.loop-place.place in
     let x = c.index-columns-place.result in
-    let within : i < length columns = omega arith in
     let known = c.loop-place.invariant in
     let pushed : c.push_any.new.shapes.items ≡ c.loop-place.shapes.items ++ receipt_arrow columns i x =
     c.in_ok-push_any.ensures
@@ -15,5 +14,5 @@ loop-place-preserved c =
       c.in_ok-note_send.ensures,
       c.in_ok-note_comebacks.ensures,
       ap (λ s. s ++ drawn (receipt_arrow columns) (i + 1) (drop (i + 1) columns)) pushed
-          ∙ drawn_on columns i x within c.index-columns-place.is (receipt_arrow columns) c.loop-place.shapes.items _ known.2,
+          ∙ drawn_on columns i x (omega arith) c.index-columns-place.is (receipt_arrow columns) c.loop-place.shapes.items _ known.2,
     )

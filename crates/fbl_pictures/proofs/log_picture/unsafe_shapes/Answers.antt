@@ -22,15 +22,11 @@ moment_columns-moment-requires-clause-within c q =
 
 pub found_shapes-requires-clause-receipt : goal.found_shapes-requires-clause-receipt
 found_shapes-requires-clause-receipt c =
-    let log = c.args.log.now in
-    let said = c.args.said.now in
-    rw c.requires.audit (said_is_received log c.entries.ensures.rules said.determinant said c.requires.said)
+    rw c.requires.audit (said_is_received c.args.log.now c.entries.ensures.rules c.args.said.now.determinant c.args.said.now c.requires.said)
 
 pub found_shapes-requires-clause-orphans : goal.found_shapes-requires-clause-orphans
 found_shapes-requires-clause-orphans c q orphan =
-    let log = c.args.log.now in
-    let said = c.args.said.now in
-    rw c.requires.audit (orphans_depend log c.entries.ensures.rules said.determinant said c.requires.said q orphan)
+    rw c.requires.audit (orphans_depend c.args.log.now c.entries.ensures.rules c.args.said.now.determinant c.args.said.now c.requires.said q orphan)
 
 pub returns : goal.returns
 returns c =
@@ -40,7 +36,6 @@ returns c =
     let position = reason.said.shows.position in
     let cut = cut_in c.in_ok-reason.reason.cut in
     let moment = c.moment_columns-moment.result in
-    let stands = subst (λ (s : UnsafeMoment). StandsAt log.entries s.place position) c.in_ok-reason.ensures.said reason.said.shows.stands in
     let crossings : AreCrossings log.members log.entries cut moment =
     subst (λ (n : ℕ). AreCrossings n log.entries cut moment) c.members.ensures
     (subst (λ (es : List Entry). AreCrossings c.members.result es cut moment) c.entries.ensures.entries c.moment_columns-moment.ensures) in
@@ -49,4 +44,4 @@ returns c =
     (subst (λ (es : List Entry). AreFoundShapes c.args.audit.now es (found_in said) (λ columns. columns ≡ moment) shapes.items) c.requires.recorded are) in
     let drawn = weaker_moment (dump_of log) log.entries (found_in said) (λ columns. columns ≡ moment) (AreCrossings log.members log.entries cut) shapes.items
     (λ columns same. subst (λ (m : Columns). AreCrossings log.members log.entries cut m) (sym same) crossings) at_dump in
-    (position, cut, stands, reason.moment, drawn))) c.found_shapes.ensures
+    (position, cut, subst (λ (s : UnsafeMoment). StandsAt log.entries s.place position) c.in_ok-reason.ensures.said reason.said.shows.stands, reason.moment, drawn))) c.found_shapes.ensures

@@ -6,7 +6,6 @@ pub loop-number-preserved : goal.loop-number-preserved
 loop-number-preserved c =
     let lines = c.args.lines.now in
     let n = c.loop-number.number in
-    let struck = c.has.ensures ∙ (λ i. set.contains lines.struck (c.at-member.ensures i)) in
     let pushed = c.in_ok-push_member.ensures
-    ∙ (λ i. c.loop-number.shapes.items ++ member_shapes c.args.columns (c.at-member.ensures i) (struck i) (c.get-start.ensures i) (c.get-moment.ensures i)) in
+    ∙ (λ i. c.loop-number.shapes.items ++ member_shapes c.args.columns (c.at-member.ensures i) ((c.has.ensures ∙ (λ i. set.contains lines.struck (c.at-member.ensures i))) i) (c.get-start.ensures i) (c.get-moment.ensures i)) in
     rw pushed (rows_on (shapes_of_member c.args.columns lines) c.args.members n _ _ (omega arith) c.loop-number.invariant)

@@ -10,8 +10,7 @@ pub loop-number-preserved : goal.loop-number-preserved
 loop-number-preserved c rest are =
     let dump = c.args.audit.now in
     let n = c.loop-number.number in
-    let count = ap (λ d. d.members) c.dump.ensures.dump in
-    let more : dump.members - n ≡ suc (dump.members - (n + 1)) = omega (arith, c.loop-number-test.true, c.members-number-end.ensures, count) in
+    let more : dump.members - n ≡ suc (dump.members - (n + 1)) = omega (arith, c.loop-number-test.true, c.members-number-end.ensures, ap (λ d. d.members) c.dump.ensures.dump) in
     let next : (steps : List Shape) → AreStepsTo dump n steps → c.match-branch-2.shapes.items ≡ c.loop-number.shapes.items ++ steps
     → (paths : List Shape) × ArePathsDrawn dump (range_with_len 0 dump.members) paths
     × (c.match-branch-2.shapes.items ++ rest ≡ c.args.shapes.now.items ++ paths) =
@@ -31,7 +30,6 @@ loop-number-preserved c rest are =
 pub returns : goal.returns
 returns c =
     let dump = c.args.audit.now in
-    let count = ap (λ d. d.members) c.dump.ensures.dump in
-    let none : dump.members - c.loop-number.number ≡ 0 = omega (arith, c.loop-number-test.false, c.members-number-end.ensures, count) in
+    let none : dump.members - c.loop-number.number ≡ 0 = omega (arith, c.loop-number-test.false, c.members-number-end.ensures, ap (λ d. d.members) c.dump.ensures.dump) in
     let found = c.loop-number.invariant [] (rw none refl) in
     (found.0, found.1, (rw append-nil at found.2))
