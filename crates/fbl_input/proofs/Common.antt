@@ -3,7 +3,6 @@ pub use Rattle.std.proofs.Common.{Err, IfErr, IfSome, List, None, Ok, OnErr, OnO
 pub use Rattle.std.proofs.Common.{inl, inr, length, length-drop, length-take, map, option_and_then, option_map, refl, slice_get, string_bytes, subst, suc, sym, take, true, vec_len, ℕ, ◌++◌, ◌+◌, ◌-◌}
 pub use Rattle.std.proofs.Common.{◌<◌, ◌∙◌, ◌∷◌, ◌≡◌, ◌≤◌, ◌⊎◌, rules}
 pub use Rattle.std.proofs.Math.Seq.{take-add}
-pub use Rattle.std.proofs.lemmas.Bool.{lt-ltb}
 pub use Rattle.std.proofs.lemmas.Grind.{common_steps}
 pub use Rattle.std.proofs.lemmas.List.{length-map, take_all}
 pub use Rattle.std.proofs.lemmas.Option.{slice_get-get_or, slice_get-map}
@@ -21,14 +20,12 @@ pub use Rattle.serde_json.specs.Find.{get}
 pub use Rattle.serde_json.specs.Read.{read}
 pub use Rattle.serde_json.specs.View.{items_of, members_view, view}
 pub use Rattle.serde_json.specs.declared.value.Value.{Value}
-pub use Rattle.fbl_input.specs.Items.{is_item, items_at}
 pub use Rattle.fbl_input.specs.Misfits.{Gives, IsFirstOther, IsMisfit, IsOfShape, run_fault}
 pub use Rattle.fbl_input.specs.Shapes.{Fails, all_shaped, as_list, elements, field, is_key_of, json_of, list_of, longest, member_shape, name_of, or_fault, other_key, value_of_input, ◌>>=◌}
 pub use Rattle.fbl_input.specs.declared.fault.Key.{Key}
 pub use Rattle.fbl_input.specs.declared.fault.RunFault.{RunFault}
 pub use Rattle.fbl_input.specs.declared.fault.RunFault.TheVariants.{NotJson}
 pub use Rattle.fbl_input.specs.Faults.{HasInput, IsFaultOf, IsFirstFault, IsReadFault, IsUnread, OverInput, PutsOut, run_result}
-pub use Rattle.fbl_input.specs.declared.input_fault.InputFault.{InputFault}
 pub use Rattle.fbl_input.specs.declared.misfit.InputKind.{InputKind}
 pub use Rattle.fbl_input.specs.declared.misfit.Misfit.{Misfit}
 pub use Rattle.fbl_input.specs.declared.output.OutputFault.{OutputFault}

@@ -26,8 +26,7 @@ use Rattle.fbl_shapes.specs.declared.shape.Shape.TheVariants as shape
 use Rattle.fbl_shapes.specs.declared.shape.Status.{Status}
 use Rattle.fbl_shapes.specs.declared.shape.Status.TheVariants.{Struck, Orphan, Up}
 use Rattle.fbl_shapes.specs.Names.{label_and_names}
-use Rattle.fbl_shapes.specs.Shapes.{drawn}
-use Rattle.fbl_shapes.specs.Shapes.{line_kind_of}
+use Rattle.fbl_shapes.specs.Shapes.{drawn, line_kind_of}
 
 -- ---- receipts: of which kind each is by who holds it, and which message it takes
 

@@ -1,7 +1,6 @@
 -- The names that proofs of this crate take from outside: of the standard library, of the crates below, and of the definitions here.
-pub use Rattle.std.proofs.Common.{Bool, Err, List, None, Ok, Option, Result, Some, [], ap, arith, cond, drop, false, get_or, length, length-append, map}
-pub use Rattle.std.proofs.Common.{nat_cmp, nat_eq, nat_lt, not, option_and_then, option_map, refl, string_bytes, subst, suc, sym, take, true, zero, ℕ, ◌&&◌}
-pub use Rattle.std.proofs.Common.{◌++◌, ◌+◌, ◌-◌, ◌<◌, ◌==◌, ◌↔◌, ◌∙◌, ◌∷◌, ◌≡◌, ◌≤◌, append-nil, append_assoc, inl, inr}
+pub use Rattle.std.proofs.Common.{Bool, Err, List, None, Ok, Option, Result, Some, [], ap, arith, cond, drop, false, get_or, length, length-append, map, nat_cmp, nat_eq, nat_lt, not, option_and_then}
+pub use Rattle.std.proofs.Common.{option_map, refl, string_bytes, subst, suc, sym, take, true, zero, ℕ, ◌&&◌, ◌++◌, ◌+◌, ◌-◌, ◌<◌, ◌==◌, ◌↔◌, ◌∙◌, ◌∷◌, ◌≡◌, ◌≤◌, append-nil, append_assoc, inl, inr}
 pub use Rattle.std.proofs.Math.Bool.{and-false}
 pub use Rattle.std.proofs.lemmas.Bool.{eqb-true, le-leb, le-ltb, cases_eq, false≢true}
 pub use Rattle.std.proofs.lemmas.List.{drop-append-le, map_push, take-append-le, take_all, take_more}
@@ -39,11 +38,9 @@ pub use Rattle.fbl_texts.specs.Auditing.{ArePathsFrom, IsAuditText, IsChecked, I
 pub use Rattle.fbl_texts.specs.DumpLines.{ReadsBack, event_data, list_data, number_data, pair_data}
 pub use Rattle.fbl_texts.specs.Dumps.{IsDumpFault, IsDumpOf, RefusesParts, event_shape, pair_shape, parts_of_data, parts_of_input}
 pub use Rattle.fbl_texts.specs.declared.auditing.Verdict.{Verdict}
-pub use Rattle.fbl_texts.specs.declared.auditing.Verdict.TheVariants.{Safe, Unsafe}
 pub use Rattle.fbl_base.proofs.ClockLaws.{member_within}
 pub use Rattle.fbl_audit.specs.Paths.{IsPathTo}
 pub use Rattle.fbl_base.proofs.PrecedenceLaws.{depends-from_places, places-from_depends, Has-first, Has-last}
 pub use Rattle.fbl_base.specs.Precedence.{DependsOnPlace, Has}
 pub use Rattle.fbl_base.specs.Rules.{WellFormed}
-pub use Rattle.fbl_texts.specs.declared.why.LossReason.{LossReason}
 pub use Rattle.fbl_texts.specs.declared.why.OrphanPath.{OrphanPath}

@@ -1,9 +1,8 @@
 -- Values in lists, how they are read back, and texts: of values that have no float and whose brackets nest to a small depth.
-use Rattle.fbl_texts.proofs.Common.{◌≡◌, ℕ, ◌+◌, ◌<◌, ◌≤◌, List, [], ◌∷◌, ◌++◌, map, take, get_or, length, suc, zero, refl, sym, ap, subst, ◌∙◌, arith, Bool, cond}
-use Rattle.fbl_texts.proofs.Common.{true, false, Option, Some, option_map, Err, nat_cmp, nat_eq, nat_lt, take_more, map_push, All-push, any-filter_same, eqb-true, le-leb, le-ltb, Result}
-use Rattle.fbl_texts.proofs.Common.{All, filter, list_any, range_with_len, nat_cmp_total, append_assoc, Data, view, Value, AllBelow, all_shaped, number_within, list_of, member_shape, set_shape}
-use Rattle.fbl_texts.proofs.Common.{list_data, number_data, elements_of, depth, items_depth, items_of, has_float, items_have_float, RunFault}
-use Rattle.fbl_texts.proofs.Common.{json_of, longest, or_fault, value_of_input, ◌>>=◌}
+use Rattle.fbl_texts.proofs.Common.{◌≡◌, ℕ, ◌+◌, ◌<◌, ◌≤◌, List, [], ◌∷◌, ◌++◌, map, take, get_or, length, suc, zero, refl, sym, ap, subst, ◌∙◌, arith, Bool, cond, true, false, Option, Some}
+use Rattle.fbl_texts.proofs.Common.{option_map, Err, nat_cmp, nat_eq, nat_lt, take_more, map_push, All-push, any-filter_same, eqb-true, le-leb, le-ltb, Result, All, filter, list_any, range_with_len}
+use Rattle.fbl_texts.proofs.Common.{nat_cmp_total, append_assoc, Data, view, Value, AllBelow, all_shaped, number_within, list_of, member_shape, set_shape, list_data, number_data, elements_of, depth}
+use Rattle.fbl_texts.proofs.Common.{items_depth, items_of, has_float, items_have_float, RunFault, json_of, longest, or_fault, value_of_input, ◌>>=◌}
 use Rattle.std.specs.FinSet as set
 use Rattle.fbl_base.specs.MemberSets.{member_list}
 use Rattle.fbl_input.specs.declared.fault.RunFault.TheVariants as faults

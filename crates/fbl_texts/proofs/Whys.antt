@@ -1,7 +1,6 @@
 -- How the paths from a receipt to its orphans are gathered, and reasons told.
-use Rattle.fbl_texts.proofs.Common.{ℕ, ◌≡◌, ◌<◌, ◌≤◌, ◌+◌, inl, inr, List, [], ◌∷◌, ◌++◌, length, take, arith, get_or, cases_eq, append-nil, append_assoc}
-use Rattle.fbl_texts.proofs.Common.{take_more, AllZip, Members, Determinant, Parts, WellFormed, Has-last, IsLeftOrphan, member_within, OrphanPath}
-use Rattle.fbl_texts.proofs.Common.{ArePathsFrom, IsPathFrom}
+use Rattle.fbl_texts.proofs.Common.{ℕ, ◌≡◌, ◌<◌, ◌≤◌, ◌+◌, inl, inr, List, [], ◌∷◌, ◌++◌, length, take, arith, get_or, cases_eq, append-nil, append_assoc, take_more, AllZip, Members, Determinant}
+use Rattle.fbl_texts.proofs.Common.{Parts, WellFormed, Has-last, IsLeftOrphan, member_within, OrphanPath, ArePathsFrom, IsPathFrom}
 
 -- ---- one receipt
 

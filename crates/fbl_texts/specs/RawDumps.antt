@@ -22,11 +22,7 @@ IsRawDumpOf input found = (parts_of_input input ≡ Ok (parts_of found.raw)) × 
 abbrev pub RefusesNone : {A : Type 0} → A → RunFault → Type 0
 RefusesNone parts fault = ⊥
 
--- the fault is the first of the input's form
-abbrev pub IsFormFault : List ℕ → RunFault → Type 0
-IsFormFault input = IsFirstFault (parts_of_input input) RefusesNone
-
--- so it is, and what it says of the input is so
+-- the fault is the first of the input's form, and what it says of the input is so
 abbrev pub IsFormMisfit : List ℕ → Misfit → Type 0
 IsFormMisfit input = IsFaultOf kinds.Dump (parts_of_input input) RefusesNone IsOfParts input
 

@@ -1,5 +1,4 @@
-use Rattle.fbl_texts.proofs.Common.{◌∙◌, IfOk-weaker}
-use Rattle.fbl_texts.proofs.Common.{parts_of_data}
+use Rattle.fbl_texts.proofs.Common.{◌∙◌, IfOk-weaker, parts_of_data}
 use Rattle.fbl_texts.specs.DumpLines.{dump_data}
 use Rattle.fbl_texts.proofs.DumpValues.{dump_writable}
 use Rattle.fbl_texts.proofs.Values.{short_read}
