@@ -19,8 +19,7 @@ WellFormed-push n t e obeys may i b at = elim (At-push t e i b at) [
 
 -- the front of a trace that obeys the rules obeys them
 pub WellFormed-front : (n : ℕ) (t rest : List Mark) → WellFormed n (t ++ rest) → WellFormed n t
-WellFormed-front n t rest obeys i b at =
-    (let below = At-below t i b at in rw (take-append-le i t rest (omega (arith, below))) at (obeys i b (At-front t rest i b at)))
+WellFormed-front n t rest obeys i b at = (let below = At-below t i b at in rw (take-append-le i t rest (omega (arith, below))) at (obeys i b (At-front t rest i b at)))
 
 pub WellFormed-take : (n i : ℕ) (t : List Mark) → WellFormed n t → WellFormed n (take i t)
 WellFormed-take n i t obeys = WellFormed-front n (take i t) (drop i t) (rw take-append-drop obeys)
@@ -60,8 +59,7 @@ pub sent-number : (n : ℕ) (t : List Mark) → WellFormed n t → (q s p : ℕ)
 sent-number n t obeys q s p has = omega (arith, (obeys has.0 (Send q s p) has.1).3, count_at (is_send_of q) t has.0 (Send q s p) has.1 (eqb-self q))
 
 pub receipt-number : (n : ℕ) (t : List Mark) (p r q s : ℕ) → WellFormed n t → Has t (Receipt p r q s) → r ≤ receipts_of t p
-receipt-number n t p r q s obeys has =
-    omega (arith, (obeys has.0 (Receipt p r q s) has.1).3, count_at (is_receipt_of p) t has.0 (Receipt p r q s) has.1 (eqb-self p))
+receipt-number n t p r q s obeys has = omega (arith, (obeys has.0 (Receipt p r q s) has.1).3, count_at (is_receipt_of p) t has.0 (Receipt p r q s) has.1 (eqb-self p))
 
 -- an event that may come next is not there yet
 pub MayFollow-new : (n : ℕ) (t : List Mark) (e : Mark) → WellFormed n t → MayFollow n t e → ¬ (Has t e)

@@ -46,8 +46,7 @@ none_lost r (event.Receipt p n q k ∷ events) all =
     grind (arith, here, later)
 
 pub nobody_lost : (next : Next ℕ Note) (r : GroupRecord ℕ Note) → IsSound next r → sets.len r.down ≡ 0 → lost_receipts r ≡ []
-nobody_lost next r sound nobody =
-    none_lost r r.trace (λ d there. up_recorded next r d sound there (up_if_none (sets.empty_of_len _ nobody) d.to))
+nobody_lost next r sound nobody = none_lost r r.trace (λ d there. up_recorded next r d sound there (up_if_none (sets.empty_of_len _ nobody) d.to))
 
 -- ---- what is lost after a strike without what was lost before it
 
@@ -113,5 +112,4 @@ pub is_same : (before : List Determinant) (passed : ℕ) (d e : Determinant) →
 is_same before passed d e more is same = same_at before passed d e more is ∙ (Decides-same_determinant e d).0 same
 
 pub is_other : (before : List Determinant) (passed : ℕ) (d e : Determinant) → e ≡ get_or before passed e → same_determinant e d ≡ false → passed < length before → get_or before passed d ≡ d → ⊥
-is_other before passed d e is other more same =
-    false≢true (sym other ∙ (Decides-same_determinant e d).1 (sym (same_at before passed d e more is) ∙ same))
+is_other before passed d e is other more same = false≢true (sym other ∙ (Decides-same_determinant e d).1 (sym (same_at before passed d e more is) ∙ same))

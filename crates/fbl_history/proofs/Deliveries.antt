@@ -69,8 +69,7 @@ module _ (next : Next ℕ Note) (old new : GroupRecord ℕ Note) (v : Message No
       ∷ sends-columns next old.config.members new.trace v.to (length (member old v.to).log) (step_of next old v).sends.items i)
 
   pub gone_on : (columns : List Column) → IsHistoryOf next old columns → go_on_to next columns new ≡ columns ++ columns_added
-  gone_on columns history =
-      ap (go_on columns) (trace_more ∙ ap (λ xs. xs ++ columns_added) (sym history.standing)) ∙ go_on_more columns columns_added
+  gone_on columns history = ap (go_on columns) (trace_more ∙ ap (λ xs. xs ++ columns_added) (sym history.standing)) ∙ go_on_more columns columns_added
 
   pub follows_delivery : (columns : List Column) → IsHistoryOf next old columns → IsHistoryOf next new (go_on_to next columns new)
   follows_delivery columns history =

@@ -23,8 +23,7 @@ next-is column (event ∷ trace) h =
 -- the standing events of what goes on to a trace are that trace
 pub standing_trace : (columns trace : List Column) → standing trace ≡ trace → standing (go_on columns trace) ≡ trace
 standing_trace [] trace stand = stand
-standing_trace (column ∷ columns) trace stand =
-    grind (arith, standing_trace columns (trace_then column trace), next-is column trace, undone-lies column, ap (drop 1) stand)
+standing_trace (column ∷ columns) trace stand = grind (arith, standing_trace columns (trace_then column trace), next-is column trace, undone-lies column, ap (drop 1) stand)
 
 -- nothing but what stands is undone, and nothing that is undone comes back
 pub stays_or_undone : (column : Column) (trace : List Column)

@@ -87,8 +87,7 @@ module _ {S N : Type 0} (next : Next S N) (old : GroupRecord S N) (sound : IsSou
     receipt_is e d is = grind arith
 
     ends : (p : ℕ) (e : Event N) → slice_get old.trace (stop p) ≡ Some e → (r : ℕ) × (q : ℕ) × (k : ℕ) × (e ≡ event.Receipt p r q k)
-    ends p e here =
-        search (arith, down_or_up old.down p, slice_get_within old.trace (stop p) e here, first-lost p (mark_of e), mark-at old.trace (first p) e, receipt_is e)
+    ends p e here = search (arith, down_or_up old.down p, slice_get_within old.trace (stop p) e here, first-lost p (mark_of e), mark-at old.trace (first p) e, receipt_is e)
 
 -- a cut of a sound group's trace
 module _ {S N : Type 0} {next : Next S N} {old : GroupRecord S N} (sound : IsSound next old) {new : List (Event N)} (cut : IsEventCut (Stays (knowledge old)) old.trace new) where

@@ -58,8 +58,7 @@ module _ {N : Type 0} where
 
   -- each message of the sends is sent, and carries nothing
   message_sent : (t : List (Event N)) (v : Message N) → Contains (filter_map message_of_send t) v → (v.carried ≡ []) × ((i : ℕ) × (slice_get t i ≡ Some (event.Send v.from v.ssn v.to v.note)))
-  message_sent t v among =
-      grind (arith, nat_tests, At-filter_map message_of_send t among.0 v (Contains-place (filter_map message_of_send t) v among))
+  message_sent t v among = grind (arith, nat_tests, At-filter_map message_of_send t among.0 v (Contains-place (filter_map message_of_send t) v among))
 
   sends_of_one : (m : ℕ) (ss : List (Start N)) → filter_map (λ s. if s.from == m then Some (sent (s.to, s.note)) else None) ss ≡ map sent (starts_of m ss)
   sends_of_one m [] = refl

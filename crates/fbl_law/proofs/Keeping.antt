@@ -49,8 +49,7 @@ module _ {S N : Type 0} where
 
   -- the store has what it had, and owes the causes of no other old event
   abbrev pub IsSameStore : Knowledge S N → Knowledge S N → Store N → Type 0
-  IsSameStore old new k =
-      IsThere old k × (entries new k ≡ entries old k) × ((b : Mark) → Has new.trace b → Owes new k b → Has old.trace b × Owes old k b)
+  IsSameStore old new k = IsThere old k × (entries new k ≡ entries old k) × ((b : Mark) → Has new.trace b → Owes new k b → Has old.trace b × Owes old k b)
 
 module _ {S N : Type 0} {n f : ℕ} {old new : Knowledge S N} (keeps : KeepsKnowledge n f old new) (sound : IsSoundKnowledge n f old) where
   IsHolder-kept : (d : Determinant) (m : ℕ) → IsRecorded new d → IsHolder old d m → IsHolder new d m

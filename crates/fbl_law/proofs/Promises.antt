@@ -38,8 +38,7 @@ module _ {S N : Type 0} (next : Next S N) (r : GroupRecord S N) (sound : IsSound
 
   -- the receipt that an up member makes next is new
   pub receipt_is_new : (m from ssn : ℕ) → m < r.config.members → IsUp (knowledge r) m → ¬ (Has (marks r) (receipt_of (next_determinant m (member r m) from ssn)))
-  receipt_is_new m from ssn below up has =
-      omega (arith, received_counted m below up, receipt-number r.config.members (marks r) m _ from ssn sound.lawful.well_formed has)
+  receipt_is_new m from ssn below up has = omega (arith, received_counted m below up, receipt-number r.config.members (marks r) m _ from ssn sound.lawful.well_formed has)
 
   -- tables name only receipts of the trace
   pub named_received : (m : ℕ) (d : Determinant) → Names (member r m).table d → Has (marks r) (receipt_of d)

@@ -18,8 +18,7 @@ use Rattle.fbl_law.proofs.Channels.{made-again, made-again-if}
 
 -- the member has replayed each receipt that comes before the send, so it has sent that message again
 abbrev pub IsSentAgain : List Mark → (ℕ → ℕ) → ℕ → ℕ → ℕ → Type 0
-IsSentAgain trace done from ssn to =
-    (c : Determinant) → c.to ≡ from → Earlier trace (receipt_of c) (Send from ssn to) → c.rsn ≤ done from
+IsSentAgain trace done from ssn to = (c : Determinant) → c.to ≡ from → Earlier trace (receipt_of c) (Send from ssn to) → c.rsn ≤ done from
 
 -- each member m has replayed its first `done m` receipts, and none can go on: where the trace has its next one, that
 -- message isn't sent again

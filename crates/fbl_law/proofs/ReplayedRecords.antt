@@ -126,8 +126,7 @@ module _ {S N : Type 0} where
   -- in a lawful trace the log after all the member's notes has the member's sends
   pub log-sends : {next : Next S N} {n : ℕ} {starts : List (Start N)} {t : List (Event N)} (lawful : Lawful next n starts t) (p : ℕ)
       → (after_notes next p n starts (received_notes t p)).log ≡ filter_map (logged_of p) t
-  log-sends {next} {n} {starts} {t} lawful p =
-      rw (log-after next p n starts (received_notes t p), ← lawful.responds p) (log_from n p t [] t lawful.well_formed)
+  log-sends {next} {n} {starts} {t} lawful p = rw (log-after next p n starts (received_notes t p), ← lawful.responds p) (log_from n p t [] t lawful.well_formed)
 
   -- the log after all notes is as long as the member's sends are many
   pub log-length : {next : Next S N} {n : ℕ} {starts : List (Start N)} {t : List (Event N)} (lawful : Lawful next n starts t) (p : ℕ)

@@ -51,15 +51,13 @@ module _ {S N : Type 0} where
 
   -- what an up member depends on is recorded
   pub IsRecorded-depended : (f : ℕ) (r : Knowledge S N) → IsClosed f r → (d : Determinant) (m : ℕ) → IsUp r m → Depends r.trace m (receipt_of d) → IsRecorded r d
-  IsRecorded-depended f r closed d m up depends =
-      recorded_or f r d (λ named. inl (m, (up, named))) (closed.events (in_table m) depends.0 up depends.2 d depends.1)
+  IsRecorded-depended f r closed d m up depends = recorded_or f r d (λ named. inl (m, (up, named))) (closed.events (in_table m) depends.0 up depends.2 d depends.1)
 
   -- what precedes a recorded receipt is recorded
   pub IsRecorded-before : (f : ℕ) (r : Knowledge S N) → IsClosed f r → RecordsCauses r
   IsRecorded-before f r closed c d (inl held) before =
       recorded_or f r c (λ named. inl (held.0, (held.1.0, named))) (closed.named (in_table held.0) d held.1.0 held.1.1 c before)
-  IsRecorded-before f r closed c d (inr saved) before =
-      recorded_or f r c (λ named. inr (saved.0, named)) (closed.named (in_checkpoint saved.0) d tt saved.1 c before)
+  IsRecorded-before f r closed c d (inr saved) before = recorded_or f r c (λ named. inr (saved.0, named)) (closed.named (in_checkpoint saved.0) d tt saved.1 c before)
 
   -- what precedes an event from before its member's checkpoint is recorded
   pub IsRecorded-reached : (f : ℕ) (r : Knowledge S N) → IsClosed f r → (d : Determinant) (b : Mark) → IsBeforeCheckpoint r b → Precedes r.trace (receipt_of d) b → IsRecorded r d

@@ -51,8 +51,7 @@ sends-at history from ssn k (Some (columns.Send q s to undone)) at same =
 sends-at history from ssn k _ at same = absurd cc
 
 at-sends : (history : List Column) (from ssn k : ℕ) → IsSentAt history from ssn k → sends (record { from = from; ssn = ssn }) (slice_get history k) ≡ true
-at-sends history from ssn k sent =
-    rw sent.2 ((Decides-same_message (record { from = from; ssn = ssn }) (record { from = from; ssn = ssn })).1 refl)
+at-sends history from ssn k sent = rw sent.2 ((Decides-same_message (record { from = from; ssn = ssn }) (record { from = from; ssn = ssn })).1 refl)
 
 -- whether a column brings a member back tells whether it is a recovery of it
 comeback-at : (history : List Column) (m k : ℕ) (o : Option Column) → slice_get history k ≡ o → is_comeback m o ≡ true

@@ -145,8 +145,7 @@ open_receipt f me table carried d =
 
 -- no more are passed on than there are open places
 pub few-passed : (limit : ℕ) (table : List Entry) (ps : List ℕ) (stale : Bool) → IsIndex limit table ps stale → length (piggybacked limit table) ≤ length ps
-few-passed limit table ps stale index =
-    grind (arith, index-piggybacked limit table ps stale index, length-filter_map, length-left (open_at limit table) ps)
+few-passed limit table ps stale index = grind (arith, index-piggybacked limit table ps stale index, length-filter_map, length-left (open_at limit table) ps)
 
 -- what is passed on from a place on
 pub passed-next : (f : ℕ) (table : List Entry) (i : ℕ) (e : Entry) → slice_get table i ≡ Some e

@@ -139,8 +139,7 @@ says n old new pass None (Some p) rule rule' at is =
     (free, same_views n _ new (claimed n p pass old rule low at free) rule' is)
 says n old new pass (Some p) None rule rule' at is =
     (held_word n old p pass rule at, same_views n _ new (released n p pass old rule (rule.of_the_group pass p at) at) rule' is)
-says n old new pass (Some p) (Some q) rule rule' at is =
-    λ e. same_views n old new rule rule' (is ∙ set_again old.views pass (Some q) (at ∙ ap (λ m. some (Some m)) e))
+says n old new pass (Some p) (Some q) rule rule' at is = λ e. same_views n old new rule rule' (is ∙ set_again old.views pass (Some q) (at ∙ ap (λ m. some (Some m)) e))
 
 pub words_follow_views : WordsFollowViews
 words_follow_views n old new rule rule' =

@@ -32,8 +32,7 @@ program_simple = refl
 
 -- the words of a line are taken, with or without `--explain`, and ask for this
 abbrev Gives : List Text → Text → Option Text → Option Text → Bool → Type 0
-Gives line name workers strict e =
-    (asked (named (with_explain e line)) ≡ Some (name, workers, strict, Some (flag_text e), None, None)) × IsTaken (with_explain e line)
+Gives line name workers strict e = (asked (named (with_explain e line)) ≡ Some (name, workers, strict, Some (flag_text e), None, None)) × IsTaken (with_explain e line)
 
 -- the same of a line of a play, with or without `--strict`
 abbrev PlayGives : List Text → Text → Bool → Bool → Type 0

@@ -40,8 +40,7 @@ value-most : (values : ℕ → List ℕ) (down : ℕ → Bool) (n key m : ℕ) �
 value-most values down n key m below blank = at (down m) refl where
   at : (is : Bool) → down m ≡ is → slice_index (values m) key ≤ sum_below n (λ k. cond (down k) 0 (sum (values k)))
   at true is = omega (arith, ap (λ (vs : List ℕ). slice_index vs key) (blank is) ∙ get_or-same 256 key 0)
-  at false is =
-      omega (arith, part-most n (λ k. cond (down k) 0 (sum (values k))) m below, ap (λ (b : Bool). cond b 0 (sum (values m))) is, one-most (values m) key)
+  at false is = omega (arith, part-most n (λ k. cond (down k) 0 (sum (values k))) m below, ap (λ (b : Bool). cond b 0 (sum (values m))) is, one-most (values m) key)
 
 -- first states have no values
 none-first : (n : ℕ) → sum_below n (λ m. sum (replicate 256 0)) ≡ 0

@@ -11,7 +11,4 @@ pub loop-round-preserved : goal.loop-round-preserved
 unfolding mixed
 loop-round-preserved c =
     let next : suc c.loop-round._round ≡ c.loop-round._round + 1 = omega arith in
-    record {
-      value = ap (λ s. (31 * s + 1) % modulus) c.loop-round.invariant.value ∙ ap (λ count. mixed count c.args.state) next;
-      below = omega arith;
-    }
+    record { value = ap (λ s. (31 * s + 1) % modulus) c.loop-round.invariant.value ∙ ap (λ count. mixed count c.args.state) next; below = omega arith }

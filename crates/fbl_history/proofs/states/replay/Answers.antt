@@ -55,7 +55,4 @@ returns g c =
     let place : c.from.result ≡ c.args.receipt.to = c.from.ensures ∙ c.number-2.ensures.value in
     let read = receiver-read is c.index-members-from.result place in
     let after = rw (size g at.After-members, read) at c.in_ok-replay_one.ensures.replayed in
-    record {
-      state = c.state.ensures ∙ ap (λ (m : MemberRecord _ _). m.state) after ∙ state-is is note;
-      after = rw (place, after) (past-receipt is note);
-    }
+    record { state = c.state.ensures ∙ ap (λ (m : MemberRecord _ _). m.state) after ∙ state-is is note; after = rw (place, after) (past-receipt is note) }

@@ -3,10 +3,7 @@ use Rattle.fbl_audit.proofs.Searching.{IsPath-back}
 use Rattle.fbl_audit.proofs.paths.Paths.to.Goals as goal
 
 pub loop-before-init : goal.loop-before-init
-loop-before-init c = record {
-  depends = c.in-Some.ensures.depends;
-  path = (rw (c.in_ok-push.ensures.items, c.new-path.ensures.items) path_end);
-}
+loop-before-init c = record { depends = c.in-Some.ensures.depends; path = (rw (c.in_ok-push.ensures.items, c.new-path.ensures.items) path_end) }
 
 pub loop-before-preserved : goal.loop-before-preserved
 loop-before-preserved c =

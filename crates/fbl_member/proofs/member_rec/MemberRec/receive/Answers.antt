@@ -6,8 +6,7 @@ use Rattle.fbl_member.proofs.member_rec.MemberRec.receive.Given.{Over}
 
 -- the log with the step's sends at its end
 grown : (g : Over) (c : After-unwrap g) → c.extend_from_slice.new.self.items ≡ c.self.inside.log.items ++ c.args.outcome.now.sends.items
-grown g c =
-    rw (c.in_ok-reserve.ensures.items, c.as_slice-sends.ensures.value) at (rw c.unwrap.ensures at c.extend_from_slice.ensures.items)
+grown g c = rw (c.in_ok-reserve.ensures.items, c.as_slice-sends.ensures.value) at (rw c.unwrap.ensures at c.extend_from_slice.ensures.items)
 
 -- room for this many entries is room for fewer
 fewer : {N A : Type 0} {messages more less : ℕ} {b : Buffers N A} → HasRooms messages more b → less ≤ more → HasRooms messages less b
