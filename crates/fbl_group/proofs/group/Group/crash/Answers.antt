@@ -10,3 +10,6 @@ returns-in-Ok-clause-holders g c d m left holds =
       | inl is ↦ gains.1 (inr (is, ((c.in-Ok.ensures.restored.left.exactly d).0 left).1))
       | inr up ↦ gains.1 (inl (up, rw (struck.survivors m up, table) holds.1))
     ]
+
+pub returns-in-Ok-clause-crashed : goal.returns-in-Ok-clause-crashed
+returns-in-Ok-clause-crashed g c = (c.in_ok-struck.ensures.struck.0, (_, c.in_ok-struck.ensures.struck.1, c.in-Ok.ensures.recovered.1))

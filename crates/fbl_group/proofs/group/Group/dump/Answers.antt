@@ -14,3 +14,9 @@ unfolding DumpHasNoOrphan
 returns-in-Ok-clause-no_orphan g c covers few m =
     subst (λ (d : Parts). ¬ (IsDumpOrphan d m)) (sym (c.lawful.ensures ∙ c.in-Ok.ensures))
     (dump_has_no_orphan _ _ g.B.Behaviour.next c.args.self.now c.args.strike m c.promises.ensures.sound covers few)
+
+pub returns-in-Err-clause-refused : goal.returns-in-Err-clause-refused
+returns-in-Err-clause-refused g c = rw c.size.ensures.value at (c.within.ensures.0 c.if-not-within.false)
+
+pub returns-in-Ok-clause-dumped : goal.returns-in-Ok-clause-dumped
+returns-in-Ok-clause-dumped g c = (rw c.size.ensures.value at (c.within.ensures.0 c.if-not-within.false), c.lawful.ensures ∙ c.in-Ok.ensures)

@@ -1,4 +1,4 @@
-use Rattle.fbl_group.proofs.Common.{◌∙◌}
+use Rattle.fbl_group.proofs.Common.{◌∙◌, length, ap, arith, trace_fits}
 use Rattle.fbl_group.proofs.Striking.{is_strike, strike_keeps, count-lost}
 use Rattle.fbl_group.proofs.group.Group.strike.Goals as goal
 
@@ -17,3 +17,12 @@ returns-clause-struck g c =
       c.in_ok-allow_strike.ensures.allowed,
       (rw (← c.self.view_is) (is_strike c.self.invariant allowed (rw c.members-n.ensures.value at c.blank_members.ensures) emptied c.union-self-inside.ensures), lost ∙ count-lost g.B.Behaviour.next _ c.promises-2.ensures.sound),
     )
+
+pub count_lost-requires : goal.count_lost-requires
+count_lost-requires g c = omega (arith, trace_fits g.B.Behaviour.next _ c.self.invariant, ap length c.deref-3.ensures.value)
+
+pub blank_members-requires : goal.blank_members-requires
+blank_members-requires g c = record { size = omega (arith, c.self.inside.members.ok.0, c.self.invariant.members, c.members-n.ensures.value); least = omega (arith, c.members-n.ensures.value, c.self.invariant.config.members.0); most = omega (arith, c.members-n.ensures.value, c.self.invariant.config.members.1) }
+
+pub drop_at-requires : goal.drop_at-requires
+drop_at-requires g c = record { shape = rw c.members-n.ensures.value c.self.invariant.shape; few = omega (arith, c.members-n.ensures.value, c.self.invariant.config.members.1) }
