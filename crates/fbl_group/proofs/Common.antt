@@ -1,8 +1,7 @@
 -- The names that proofs of this crate take from outside: of the standard library, of the crates below, and of the definitions here.
-pub use Rattle.std.proofs.Common.{All, Bool, Fits, IfSome, List, None, Option, Some, Vec, [], add-one, ap, append-nil, append_assoc, arith, cond, count_by, deque_capacity, deque_items}
-pub use Rattle.std.proofs.Common.{deque_len, drop, false, get_or, inl, inr, length, length-append, map, nat_lt, not, option_map, refl, replicate, rules, set, slice_get, slice_index_or, slice_set}
-pub use Rattle.std.proofs.Common.{subst, suc, sym, take, true, vec_capacity, vec_len, w32, w64, zero, ℕ, ◌*◌, ◌++◌, ◌+◌, ◌-◌, ◌<◌, ◌==◌, ◌^◌, ◌||◌, ◌∙◌}
-pub use Rattle.std.proofs.Common.{◌&&◌, ◌∷◌, ◌≡◌, ◌≢◌, ◌≤◌, ◌⊎◌}
+pub use Rattle.std.proofs.Common.{All, Bool, Fits, IfSome, List, None, Option, Some, Vec, [], add-one, ap, append-nil, append_assoc, arith, cond, count_by, deque_capacity, deque_items, deque_len}
+pub use Rattle.std.proofs.Common.{drop, false, get_or, inl, inr, length, length-append, map, nat_lt, not, option_map, refl, replicate, rules, set, slice_get, slice_index_or, slice_set, subst, suc}
+pub use Rattle.std.proofs.Common.{sym, take, true, vec_capacity, vec_len, w32, w64, zero, ℕ, ◌*◌, ◌++◌, ◌+◌, ◌-◌, ◌<◌, ◌==◌, ◌^◌, ◌||◌, ◌∙◌, ◌&&◌, ◌∷◌, ◌≡◌, ◌≢◌, ◌≤◌, ◌⊎◌}
 pub use Rattle.std.proofs.lemmas.Bool.{eq-eqb, false≢true, true_from_ne_false}
 pub use Rattle.std.proofs.lemmas.Bool.Decides.{nat_tests}
 pub use Rattle.std.proofs.lemmas.Fn.{filter_same}

@@ -1,11 +1,10 @@
 -- Deliveries: what is known of one that is planned, and which refusal of a delivery, a ticket or a commit holds.
-use Rattle.fbl_group.proofs.Common.{Some, None, ◌≡◌, ◌≢◌, ℕ, ◌+◌, ◌<◌, ◌≤◌, false, List, [], ◌∷◌, ◌++◌, length, map, refl, sym, subst, ap, ◌∙◌, append_assoc, arith, get_or}
-use Rattle.fbl_group.proofs.Common.{length-append, Fits, w32, slice_get, slice_set, All, nat_tests, Event, Outcome, Next, Entry, piggybacked, Message, MemberRecord, messages_from, IsUp}
-use Rattle.fbl_group.proofs.Common.{taken_off, between, GroupRecord, HasChannels, member, channel, channel_in, knowledge, IsSound, step_of, up_if_none, receipts_fit, flight_at, IsOnce}
-use Rattle.fbl_group.proofs.Common.{front_message, send_of_message, taken_and_sent, IsPlanned, MayTakeIn, TakesIn, record_at, Receipt, SendsAllowed, received_by, table_after}
-use Rattle.fbl_group.proofs.Common.{IsInFlight, delivery_events, IsDelivery, SendsWell, sends_fit, receipt_is_new, new_not_held, new_not_carried, front_is_later}
-use Rattle.fbl_group.proofs.Common.{carried_fits, length-step_events, Delivered, cond, is_full, front, deliver_refusal, of_commit, IsDeliverRefusal, Delivers}
-use Rattle.fbl_group.proofs.Common.{Receipted, Ticket, CommitRefusal, take_refusal, IsTicket, IsCurrent, IsFresh, MayCommit, RefusesCommit, sends_at, flight_ends}
+use Rattle.fbl_group.proofs.Common.{Some, None, ◌≡◌, ◌≢◌, ℕ, ◌+◌, ◌<◌, ◌≤◌, false, List, [], ◌∷◌, ◌++◌, length, map, refl, sym, subst, ap, ◌∙◌, append_assoc, arith, get_or, length-append, Fits, w32}
+use Rattle.fbl_group.proofs.Common.{slice_get, slice_set, All, nat_tests, Event, Outcome, Next, Entry, piggybacked, Message, MemberRecord, messages_from, IsUp, taken_off, between, GroupRecord}
+use Rattle.fbl_group.proofs.Common.{HasChannels, member, channel, channel_in, knowledge, IsSound, step_of, up_if_none, receipts_fit, flight_at, IsOnce, front_message, send_of_message, taken_and_sent}
+use Rattle.fbl_group.proofs.Common.{IsPlanned, MayTakeIn, TakesIn, record_at, Receipt, SendsAllowed, received_by, table_after, IsInFlight, delivery_events, IsDelivery, SendsWell, sends_fit}
+use Rattle.fbl_group.proofs.Common.{receipt_is_new, new_not_held, new_not_carried, front_is_later, carried_fits, length-step_events, Delivered, cond, is_full, front, deliver_refusal, of_commit}
+use Rattle.fbl_group.proofs.Common.{IsDeliverRefusal, Delivers, Receipted, Ticket, CommitRefusal, take_refusal, IsTicket, IsCurrent, IsFresh, MayCommit, RefusesCommit, sends_at, flight_ends}
 use Rattle.fbl_law.specs.GroupSteps.{made as made_by}
 use Rattle.fbl_group.proofs.Queues.{first-is, messages-all, sends-messages, settled-in}
 use Rattle.std.specs.FinSet as set
@@ -125,8 +124,7 @@ module _ {S N : Type 0} {next : Next S N} {r now : GroupRecord S N} {q p : ℕ} 
               omega (arith, ap length trace_is, length-append r.trace (delivery_events next r v), sent, ap length step)
 
           is_delivery : IsDelivery next r new v
-          is_delivery =
-              grind (arith, plan, of_sender, to_receiver, room, longer, trace_is, receives, settled)
+          is_delivery = grind (arith, plan, of_sender, to_receiver, room, longer, trace_is, receives, settled)
 
           -- what the delivery answers
           pub is_delivered : {carried : List Entry} → carried ≡ w.carried

@@ -1,12 +1,11 @@
 -- The steps of a recovery: gathering, replay in rounds, putting records in place, and what it leaves.
-use Rattle.fbl_group.proofs.Common.{get_or-set_same, get_or-set_other, count_in-same, sum_below-none, replayed_in, AreReplaying, nat_lt, ◌≡◌, ℕ, ◌+◌, ◌<◌, ◌≤◌, Bool, true, false, List}
-use Rattle.fbl_group.proofs.Common.{[], length, Option, Some, get_or, refl, sym, ap, ◌∙◌, arith, slice_index_or, slice_set, nat_tests, get_or_default, Determinant, Next, MemberRecord}
-use Rattle.fbl_group.proofs.Common.{blank, IsDown, recovery_table, GroupRecord, member_checkpoint, knowledge, IsSound, working, IsReplaying, found, receipt_at, logged_note, replayed_by}
-use Rattle.fbl_group.proofs.Common.{replay_begins, replaying-next, replay_is_right, replayed_in-step, replaying-tables, AreByNumber, Tries, Rounds, Made, cond, common_steps, Members}
-use Rattle.fbl_group.proofs.Common.{AreRecordsReplaced, ◌||◌, ◌⊎◌, ◌-◌, map, Fits, filter, get_or_past, Event, mark_of, Message, IsUp, channel_in, channel, member, marks, receipts}
-use Rattle.fbl_group.proofs.Common.{sum_below-agree, Recovers, AreReplaced, AreSentAgain, IsReady, w32, w64, ◌^◌, messages_in, is_replayed, stays_by, recovered_trace, resent_to, IsRebuilt}
-use Rattle.fbl_group.proofs.Common.{cut-undone, recovered_trace-cut, sent_again-short, with-table, working-log, replayed_in-all, recovered_trace-rebuilt}
-use Rattle.fbl_group.proofs.Common.{rebuilt_is_recovered, messages_at, IsRecovery}
+use Rattle.fbl_group.proofs.Common.{get_or-set_same, get_or-set_other, count_in-same, sum_below-none, replayed_in, AreReplaying, nat_lt, ◌≡◌, ℕ, ◌+◌, ◌<◌, ◌≤◌, Bool, true, false, List, [], length}
+use Rattle.fbl_group.proofs.Common.{Option, Some, get_or, refl, sym, ap, ◌∙◌, arith, slice_index_or, slice_set, nat_tests, get_or_default, Determinant, Next, MemberRecord, blank, IsDown}
+use Rattle.fbl_group.proofs.Common.{recovery_table, GroupRecord, member_checkpoint, knowledge, IsSound, working, IsReplaying, found, receipt_at, logged_note, replayed_by, replay_begins}
+use Rattle.fbl_group.proofs.Common.{replaying-next, replay_is_right, replayed_in-step, replaying-tables, AreByNumber, Tries, Rounds, Made, cond, common_steps, Members, AreRecordsReplaced, ◌||◌, ◌⊎◌}
+use Rattle.fbl_group.proofs.Common.{◌-◌, map, Fits, filter, get_or_past, Event, mark_of, Message, IsUp, channel_in, channel, member, marks, receipts, sum_below-agree, Recovers, AreReplaced}
+use Rattle.fbl_group.proofs.Common.{AreSentAgain, IsReady, w32, w64, ◌^◌, messages_in, is_replayed, stays_by, recovered_trace, resent_to, IsRebuilt, cut-undone, recovered_trace-cut, sent_again-short}
+use Rattle.fbl_group.proofs.Common.{with-table, working-log, replayed_in-all, recovered_trace-rebuilt, rebuilt_is_recovered, messages_at, IsRecovery}
 use Rattle.std.specs.FinSet as set
 use mir.Val.{bool_byte}
 use Rattle.fbl_group.proofs.Queues.{Turned}

@@ -62,8 +62,7 @@ module _ {S N : Type 0} {next : Next S N} {old : GroupRecord S N} {struck down :
   struck_blank m is = blanked.replaced m (omega (arith, sound.members, within-below struck old.config.members (grind (arith, nat_tests)) m is)) is
 
   pub is_strike : IsStrike next old new struck
-  is_strike =
-      grind (arith, struck_blank, blanked.size, blanked.others, emptied, emptied_where, both_down, sound.blanks, sound.down, sound.causes.down.channels)
+  is_strike = grind (arith, struck_blank, blanked.size, blanked.others, emptied, emptied_where, both_down, sound.blanks, sound.down, sound.causes.down.channels)
 
 module _ {S N : Type 0} where
   -- in a sound group each receipt of a member that is up is recorded

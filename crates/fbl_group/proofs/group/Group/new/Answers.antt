@@ -17,5 +17,4 @@ returns g c = record {
 }
 
 pub invariant_of-result : goal.invariant_of-result
-invariant_of-result g c =
-    group_start_is_sound g.B.Behaviour.next c.args.config _ (rw (g.met.B.Behaviour.laws.starts, ← c.config.view_is) c.config.invariant) (returns g c)
+invariant_of-result g c = group_start_is_sound g.B.Behaviour.next c.args.config _ (rw (g.met.B.Behaviour.laws.starts, ← c.config.view_is) c.config.invariant) (returns g c)

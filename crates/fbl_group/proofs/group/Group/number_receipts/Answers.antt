@@ -7,8 +7,7 @@ pub loop-number-init : goal.loop-number-init
 loop-number-init g c = rw c.requires.empty (made_none _ _)
 
 pub loop-number-preserved : goal.loop-number-preserved
-loop-number-preserved g c =
-    rw c.in_ok-push.ensures.items (made-more _ _ _ _ _ c.loop-number.invariant (rw c.at-member.ensures at c.in_ok-number_receipts_of.ensures))
+loop-number-preserved g c = rw c.in_ok-push.ensures.items (made-more _ _ _ _ _ c.loop-number.invariant (rw c.at-member.ensures at c.in_ok-number_receipts_of.ensures))
 
 pub returns : goal.returns
 returns g c =
