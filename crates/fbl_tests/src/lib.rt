@@ -4,8 +4,6 @@
 #![tactic(auto)]
 
 #[cfg(test)]
-mod allocator;
-#[cfg(test)]
 mod audits;
 #[cfg(test)]
 mod group;

@@ -63,12 +63,13 @@ top_app = on_top (λ s. record s { subcommand_required = true; has_version = tru
 abbrev pub with_reader : Text → App → App
 with_reader name app = with_subcommand app (shared_app name).top
 
+-- the program with the subcommands `play` and `show`
+abbrev pub with_players : App
+with_players = with_subcommand (with_subcommand top_app play_app.top) show_app.top
+
 -- the program with the subcommands `play`, `show`, `merge`, `audit`, `check` and `draw`
 abbrev pub program : App
-program =
-    with_reader (codes "draw")
-    (with_reader (codes "check")
-    (with_reader (codes "audit") (with_reader (codes "merge") (with_subcommand (with_subcommand top_app play_app.top) show_app.top))))
+program = with_reader (codes "draw") (with_reader (codes "check") (with_reader (codes "audit") (with_reader (codes "merge") with_players)))
 
 -- ---- what it makes of the words
 

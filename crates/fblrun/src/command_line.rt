@@ -1,9 +1,9 @@
 //! The command line.
 
 ghost use Rattle.std.specs.Prelude.{◌≡◌, ℕ, ◌<◌, Bool, map, false, Some, IfOk, IfErr, codes, decimal, option_map, string_bytes};
-ghost use Rattle.clap.specs.Words.{Rule, app_of, first_of, found_of, one_of, rows_of, rule_of, with_subcommand};
+ghost use Rattle.clap.specs.Words.{Rule, app_of, first_of, found_of, new_app, one_of, rows_of, rule_of, with_rule};
 ghost use Rattle.clap.specs.declared.builder.command.Command.TheViews.{out-Command as fields_of};
-ghost use Rattle.fblrun.specs.CommandLines.{AreNames, IsCommandLine, IsFlagged, IsOrderAt, IsRefusedFor, IsRequestAt, IsRequestOf, explain_rule, input_rule, inputs_rule, output_rule, play_app, program, shared_app, show_app, strict_rule, texts_in, top_app, with_shared, workers_rule};
+ghost use Rattle.fblrun.specs.CommandLines.{AreNames, IsCommandLine, IsFlagged, IsOrderAt, IsRefusedFor, IsRequestAt, IsRequestOf, explain_rule, input_rule, inputs_rule, output_rule, play_app, program, show_app, strict_rule, texts_in, top_app, with_players, with_reader, with_shared, workers_rule};
 
 use crate::{DumpTask, Order, ScriptTask, Task};
 use clap::{Arg, ArgAction, ArgMatches, Command};
@@ -242,43 +242,37 @@ fn with_shared_args<'a>(
     sub.arg(explain(alloc, explained))
 }
 
-/// The program with this subcommand, which gets what each has.
-fn with_shared_subcommand<'a>(
+/// A subcommand that plays a script, with its number of workers.
+fn player<'a>(
     alloc: Global,
-    command: Command<'a>,
-    sub: Command<'a>,
-    read: Arg<'a>,
-    explained: &'a str,
+    name: &'a str,
+    about: &'a str,
+    example: &'a str,
 ) -> Result<Command<'a>, AllocError>
-    requires globals { (fields_of sub).has_globals ≡ false }
-    requires local { read.global ≡ false }
-    ensures { IfOk result (λ c. app_of c ≡ with_subcommand (app_of command.entry) (with_shared (rule_of read.entry) (app_of sub.entry)).top) }
+    ensures app { IfOk result (λ c. app_of c ≡ with_rule (new_app name.now) workers_rule) }
+    ensures no_globals { IfOk result (λ c. (fields_of c).has_globals ≡ false) }
 {
-    let sub = with_shared_args(alloc, sub, read, explained)?;
-    command.subcommand(sub)
+    let player = Command::new(alloc, name).about(about).after_help(example);
+    player.arg(workers(alloc))
 }
 
-/// The program with the subcommand `play`, which has a number of workers, and may be strict.
-fn with_play<'a>(alloc: Global, command: Command<'a>) -> Result<Command<'a>, AllocError>
-    ensures { IfOk result (λ c. app_of c ≡ with_subcommand (app_of command.entry) play_app.top) }
+/// The subcommand `play`, which may be strict.
+fn play<'a>(alloc: Global) -> Result<Command<'a>, AllocError>
+    ensures app { IfOk result (λ c. app_of c ≡ play_app) }
+    ensures no_globals { IfOk result (λ c. (fields_of c).has_globals ≡ false) }
 {
-    let play = Command::new(alloc, "play")
-        .about(PLAY)
-        .after_help(PLAY_EXAMPLE);
-    let play = play.arg(workers(alloc))?;
+    let play = player(alloc, "play", PLAY, PLAY_EXAMPLE)?;
     let play = play.arg(strict(alloc))?;
-    with_shared_subcommand(alloc, command, play, input(alloc, SCRIPT), EXPLAIN_PLAY)
+    with_shared_args(alloc, play, input(alloc, SCRIPT), EXPLAIN_PLAY)
 }
 
-/// The program with the subcommand `show`, which has a number of workers.
-fn with_show<'a>(alloc: Global, command: Command<'a>) -> Result<Command<'a>, AllocError>
-    ensures { IfOk result (λ c. app_of c ≡ with_subcommand (app_of command.entry) show_app.top) }
+/// The subcommand `show`.
+fn show<'a>(alloc: Global) -> Result<Command<'a>, AllocError>
+    ensures app { IfOk result (λ c. app_of c ≡ show_app) }
+    ensures no_globals { IfOk result (λ c. (fields_of c).has_globals ≡ false) }
 {
-    let show = Command::new(alloc, "show")
-        .about(SHOW)
-        .after_help(SHOW_EXAMPLE);
-    let show = show.arg(workers(alloc))?;
-    with_shared_subcommand(alloc, command, show, input(alloc, SCRIPT), EXPLAIN_PLAY)
+    let show = player(alloc, "show", SHOW, SHOW_EXAMPLE)?;
+    with_shared_args(alloc, show, input(alloc, SCRIPT), EXPLAIN_PLAY)
 }
 
 /// The program with a subcommand of this name that reads dumps.
@@ -290,10 +284,11 @@ fn with_reader<'a>(
     example: &'a str,
     explained: &'a str,
 ) -> Result<Command<'a>, AllocError>
-    ensures { IfOk result (λ c. app_of c ≡ with_subcommand (app_of command.entry) (shared_app name.now).top) }
+    ensures { IfOk result (λ c. app_of c ≡ with_reader name.now (app_of command.entry)) }
 {
     let reader = Command::new(alloc, name).about(about).after_help(example);
-    with_shared_subcommand(alloc, command, reader, inputs(alloc, DUMP), explained)
+    let reader = with_shared_args(alloc, reader, inputs(alloc, DUMP), explained)?;
+    command.subcommand(reader)
 }
 
 /// The program above its subcommands.
@@ -307,14 +302,22 @@ fn top<'a>(alloc: Global) -> Command<'a>
         .subcommand_required(true)
 }
 
+/// The program with the subcommands that play a script.
+fn with_players<'a>(alloc: Global) -> Result<Command<'a>, AllocError>
+    ensures { IfOk result (λ c. app_of c ≡ with_players) }
+{
+    let (play, show) = (play(alloc)?, show(alloc)?);
+    let command = top(alloc).subcommand(play)?;
+    command.subcommand(show)
+}
+
 /// What the program takes: `play`, with a number of workers, strict or not, `show`, with a number of workers, both with or without
 /// a file to read, `merge`, `audit`, `check` or `draw`, with any number of them, each with or without a file to write and
 /// `--explain`.
 fn command_line<'a>(alloc: Global) -> Result<Command<'a>, AllocError>
     ensures { IfOk result (λ c. app_of c ≡ program) }
 {
-    let command = with_play(alloc, top(alloc))?;
-    let command = with_show(alloc, command)?;
+    let command = with_players(alloc)?;
     let command = with_reader(alloc, command, "merge", MERGE, MERGE_EXAMPLE, EXPLAIN_DRAW)?;
     let command = with_reader(alloc, command, "audit", AUDIT, AUDIT_EXAMPLE, EXPLAIN_AUDIT)?;
     let command = with_reader(alloc, command, "check", CHECK, CHECK_EXAMPLE, EXPLAIN_CHECK)?;
