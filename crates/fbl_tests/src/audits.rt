@@ -2,11 +2,12 @@
 
 ghost use Rattle.std.specs.Prelude.{◌<◌};
 
+use crate::moments::only;
 use crate::orders::{receipt, round, send};
 use fbl_audit::{orphan_path, orphan_starts};
-use fbl_base::audit::{Audit, check_dump, lost, orphans};
+use fbl_base::audit::{Audit, Dump, check_dump, lost, orphans};
 use fbl_base::{Determinant, Mark, Member, MemberSet, RawDump};
-use fbl_fixtures::{Example, member, refuse_each, set};
+use fbl_fixtures::{Example, member, refuse_each};
 use std::alloc::{AllocError, Allocator, Global};
 use std::test::Fail;
 
@@ -59,35 +60,53 @@ impl Example for Audited {
         let pairs = if self.has_pair { 5 } else { 4 };
         let raw = dump_of(alloc, &round(), &held[..pairs], self.strike)?;
         let dump = check_dump(alloc, raw).ok().ok_or(AllocError)?;
-        let lost = lost(alloc, &dump)?;
-        let all_are_found = if self.is_lost {
-            lost.as_slice() == [held[4].1].as_slice()
-        } else {
-            lost.is_empty()
-        };
-        Ok(all_are_found && orphans(alloc, &dump)? == self.orphans)
+        let first = [held[4].1];
+        let lost: &[Determinant] = if self.is_lost { &first } else { &[] };
+        is_answered(alloc, &dump, lost, self.orphans)
     }
 }
 
-/// Whether the pair stands in the dump, who is struck, whether the receipt is lost then, and the orphans.
-const AUDITS: &[(bool, &[u8], bool, &[u8])] = &[
-    (false, &[1], true, &[0, 2]),
-    (true, &[1], false, &[]),
-    (true, &[1, 2], true, &[0]),
-];
+/// Whether an audit of the dump finds these lost, and these orphans.
+fn is_answered<A: Allocator + Copy>(
+    alloc: A,
+    dump: &Dump<A>,
+    expected: &[Determinant],
+    left: MemberSet,
+) -> Result<bool, AllocError> {
+    let orphans = orphans(alloc, dump)?;
+    let lost = lost(alloc, dump)?;
+    Ok(lost.as_slice() == expected && orphans == left)
+}
+
+/// Whether the dump is audited so with each request for memory refused in turn.
+fn is_audited(alloc: Global, audited: Audited) -> bool {
+    refuse_each(alloc, &audited) > 2
+}
 
 #[test]
-fn audits(rt: HostRuntime) -> Result<(), Fail> {
-    for &(has_pair, strike, is_lost, orphans) in AUDITS {
-        let audited = Audited {
-            has_pair,
-            strike: set(strike)?,
-            is_lost,
-            orphans: set(orphans)?,
-        };
-        assert!(rt; refuse_each(rt.alloc(), &audited) > 2, "{strike:?}");
-    }
-    Ok(())
+fn audits(rt: HostRuntime) {
+    let (zero, one, two) = (only(0), only(1), only(2));
+    let with_pair = Audited {
+        has_pair: true,
+        strike: one,
+        is_lost: false,
+        orphans: MemberSet::empty(),
+    };
+    let without_pair = Audited {
+        has_pair: false,
+        is_lost: true,
+        orphans: zero.union(two),
+        ..with_pair
+    };
+    let without_holders = Audited {
+        strike: one.union(two),
+        is_lost: true,
+        orphans: zero,
+        ..with_pair
+    };
+    assert!(rt; is_audited(rt.alloc(), with_pair));
+    assert!(rt; is_audited(rt.alloc(), without_pair));
+    assert!(rt; is_audited(rt.alloc(), without_holders));
 }
 
 /// Four receipts are lost, and each of the two that stand first reaches member 2, the later one earlier.

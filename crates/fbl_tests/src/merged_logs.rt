@@ -54,12 +54,12 @@ fn run() -> [Entry; 11] {
 #[test]
 fn orders_logs_of_members(rt: HostRuntime) -> Result<(), Fail> {
     let alloc = rt.alloc();
-    let parts = [
-        log(alloc, &two())?,
-        log(alloc, &one())?,
-        log(alloc, &zero())?,
-    ];
-    let UnitedLog { log, origins } = united_logs(alloc, &parts).ok().ok_or("parts differ")?;
+    let mut parts = Vec::new(alloc);
+    parts.push(log(alloc, &two())?)?;
+    parts.push(log(alloc, &one())?)?;
+    parts.push(log(alloc, &zero())?)?;
+    let united = united_logs(alloc, parts.as_slice());
+    let UnitedLog { log, origins } = united.ok().ok_or("parts differ")?;
     let OrderedLog { log, places } = order_log(alloc, log).ok().ok_or("refused")?;
     assert!(rt; log.entries() == run().as_slice());
     assert!(rt; places.as_slice() == [8, 5, 6, 7, 0, 1, 2, 3, 4, 9, 10].as_slice());

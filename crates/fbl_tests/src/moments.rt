@@ -36,7 +36,7 @@ pub(crate) fn event(event: Mark) -> Entry {
     Entry::Event(event)
 }
 
-fn only(member: u8) -> MemberSet
+pub(crate) fn only(member: u8) -> MemberSet
     requires { member < 16 }
 {
     MemberSet::empty().with(Member::at(member))

@@ -50,12 +50,12 @@ fn audits_parts(rt: HostRuntime) -> Result<(), Fail> {
     let zero = [send(0, 1, 1), receipt(0, 1, 2, 1)];
     let one = [receipt(1, 1, 0, 1), send(1, 1, 2)];
     let two = [receipt(2, 1, 1, 1), send(2, 1, 0)];
-    let parts = [
-        part(alloc, &two, &[pair(2, 1, 2)], struck)?,
-        part(alloc, &one, &[pair(1, 0, 1)], nobody)?,
-        part(alloc, &zero, &[pair(0, 1, 2), pair(0, 2, 0)], nobody)?,
-    ];
-    let whole = united(alloc, &parts).ok().ok_or("refused parts")?;
+    let mut parts = Vec::new(alloc);
+    parts.push(part(alloc, &two, &[pair(2, 1, 2)], struck)?)?;
+    parts.push(part(alloc, &one, &[pair(1, 0, 1)], nobody)?)?;
+    let held = [pair(0, 1, 2), pair(0, 2, 0)];
+    parts.push(part(alloc, &zero, &held, nobody)?)?;
+    let whole = united(alloc, parts.as_slice()).ok().ok_or("refused parts")?;
     assert!(rt; whole.held.len() == 4);
     assert!(rt; place_in_lists(&[1, 1, 2], 3) == Some((2, 1)));
     let dump = order_dump(alloc, whole).ok().ok_or("refused")?;

@@ -120,6 +120,45 @@ fn fresh<A: Allocator + Copy>(alloc: A, me: Member) -> Result<MemberRec<u64, Not
     MemberRec::fresh(alloc, &config, 0, me)
 }
 
+/// Whether its sender has the message in its log, as the last one.
+fn is_logged_by<A: Allocator + Copy>(sender: &MemberRec<u64, Note, A>) -> Result<bool, AllocError> {
+    let to = Member::at(1);
+    let is_first = has_logged(sender, to, 0, &[(1, NOTE)])?;
+    let is_last = has_logged(sender, to, 1, &[])?;
+    Ok(sender.sent() == 1 && sender.log_note(2) == None && is_first && is_last)
+}
+
+/// Whether its receiver takes the message in, and sends it on with the determinant of its receipt.
+fn is_sent_on_by<A: Allocator + Copy>(
+    alloc: A,
+    receiver: &mut MemberRec<u64, Note, A>,
+) -> Result<bool, AllocError> {
+    let (from, me, to) = (Member::at(0), Member::at(1), Member::at(2));
+    let det = first_receipt(from, me);
+    let known = MemberSet::empty().with(me);
+    let carried = Entry { det, known };
+    let wires = deliver(alloc, receiver, me, det, NOTE)?;
+    Ok(is_first_message(&wires, me, to, PASSED_ON, carried))
+}
+
+/// Whether a copy of its receiver's record has the message.
+fn is_copied_by<A: Allocator + Copy>(
+    receiver: &MemberRec<u64, Note, A>,
+) -> Result<bool, AllocError> {
+    let copy = receiver.copy()?;
+    Ok(has_received(&copy, Member::at(0), 1))
+}
+
+/// Whether its receiver replays the receipt, and sends on what it sent.
+fn is_replayed_by<A: Allocator + Copy>(
+    receiver: &mut MemberRec<u64, Note, A>,
+) -> Result<bool, AllocError> {
+    let (from, me, to) = (Member::at(0), Member::at(1), Member::at(2));
+    replay(receiver, me, &first_receipt(from, me), NOTE)?;
+    let is_sent_on = has_logged(receiver, to, 0, &[(1, PASSED_ON)])?;
+    Ok(is_sent_on && has_received(receiver, from, 0))
+}
+
 /// What becomes of the message: its sender has it in its log, its receiver takes it in, or replays it.
 #[derive(Clone, Copy, Debug)]
 enum Message {
@@ -130,29 +169,18 @@ enum Message {
 
 impl Message {
     fn is_logged<A: Allocator + Copy>(alloc: A) -> Result<bool, AllocError> {
-        let sender = fresh(alloc, Member::at(0))?;
-        let to = Member::at(1);
-        let is_first = has_logged(&sender, to, 0, &[(1, NOTE)])?;
-        let is_last = has_logged(&sender, to, 1, &[])?;
-        Ok(sender.sent() == 1 && sender.log_note(2) == None && is_first && is_last)
+        is_logged_by(&fresh(alloc, Member::at(0))?)
     }
 
     fn is_taken_in<A: Allocator + Copy>(alloc: A) -> Result<bool, AllocError> {
-        let (from, me, to) = (Member::at(0), Member::at(1), Member::at(2));
-        let det = first_receipt(from, me);
-        let known = MemberSet::empty().with(me);
-        let mut receiver = fresh(alloc, me)?;
-        let wires = deliver(alloc, &mut receiver, me, det, NOTE)?;
-        let copy = receiver.copy()?;
-        let is_sent_on = is_first_message(&wires, me, to, PASSED_ON, Entry { det, known });
-        Ok(is_sent_on && has_received(&copy, from, 1))
+        let mut receiver = fresh(alloc, Member::at(1))?;
+        let is_sent_on = is_sent_on_by(alloc, &mut receiver)?;
+        Ok(is_copied_by(&receiver)? && is_sent_on)
     }
 
     fn is_replayed<A: Allocator + Copy>(alloc: A) -> Result<bool, AllocError> {
-        let (from, me, to) = (Member::at(0), Member::at(1), Member::at(2));
-        let mut receiver = fresh(alloc, me)?;
-        replay(&mut receiver, me, &first_receipt(from, me), NOTE)?;
-        Ok(has_logged(&receiver, to, 0, &[(1, PASSED_ON)])? && has_received(&receiver, from, 0))
+        let mut receiver = fresh(alloc, Member::at(1))?;
+        is_replayed_by(&mut receiver)
     }
 }
 

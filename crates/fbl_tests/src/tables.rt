@@ -31,6 +31,16 @@ fn own_table<A: Allocator + Copy>(
     Ok(table)
 }
 
+/// Lets the member learn the entries twice.
+fn learn_twice<A: Allocator + Copy>(
+    table: &mut Table<A>,
+    me: Member,
+    carried: &[Entry],
+) -> Result<(), AllocError> {
+    table.learn(me, carried)?;
+    table.learn(me, carried)
+}
+
 /// The table of a member to whom the entries were carried twice.
 fn told_table<A: Allocator + Copy>(
     alloc: A,
@@ -38,9 +48,27 @@ fn told_table<A: Allocator + Copy>(
     carried: &[Entry],
 ) -> Result<Table<A>, AllocError> {
     let mut table = Table::new(alloc);
-    table.learn(me, carried)?;
-    table.learn(me, carried)?;
+    learn_twice(&mut table, me, carried)?;
     Ok(table)
+}
+
+/// Gathers a copy of the other table.
+fn gather_copy<A: Allocator + Copy>(
+    table: &mut Table<A>,
+    other: &Table<A>,
+) -> Result<(), AllocError> {
+    let copy = other.copy()?;
+    table.gather(&copy)
+}
+
+/// Gathers a copy of the first table and the second one.
+fn gather_both<A: Allocator + Copy>(
+    table: &mut Table<A>,
+    first: &Table<A>,
+    second: &Table<A>,
+) -> Result<(), AllocError> {
+    gather_copy(table, first)?;
+    table.gather(second)
 }
 
 /// A table that gathers a copy of the first one and the second one.
@@ -50,9 +78,7 @@ fn gathered<A: Allocator + Copy>(
     second: &Table<A>,
 ) -> Result<Table<A>, AllocError> {
     let mut table = Table::new(alloc);
-    let copy = first.copy()?;
-    table.gather(&copy)?;
-    table.gather(second)?;
+    gather_both(&mut table, first, second)?;
     Ok(table)
 }
 

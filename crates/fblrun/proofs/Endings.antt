@@ -3,7 +3,7 @@ use Rattle.fbl_base.specs.declared.trace.Note.{Note}
 use Rattle.fbl_order.specs.declared.parts.PartsFault.TheVariants as parts
 use Rattle.fblrun.specs.declared.merging.MergeFault.TheVariants as faults
 use Rattle.fblrun.proofs.Common.{DumpTask, EndsLogs, EndsMerged, MergeFault, RawDump, RawLog, RefusesLogMerge, RefusesMerge, inl, inr, keeps_itself, merge_status, refl, ◌⊎◌, ◌≡◌, ℕ, ◌||◌, ◌&&◌, not}
-use Rattle.fblrun.proofs.Common.{Bool, false, List, [], ◌∷◌, Option, Some, None, Result, Ok, Err, IfSome, arith, true, IsErrAnd, OutputFault, PutsOut, puts_as, ap, ◌∙◌, list_any, or_false, RunFault}
+use Rattle.fblrun.proofs.Common.{Bool, false, List, [], ◌∷◌, Option, Some, None, Result, Ok, Err, IfSome, arith, IsErrAnd, OutputFault, PutsOut, puts_as, ap, ◌∙◌, list_any, or_false, RunFault}
 use Rattle.fblrun.proofs.Common.{Answer, is_refusal, Command, GroupRecord, Observes, PlaysScript, Ran, Transcript, Outline, PlaysWell, next_of, status_after, text, unobserved}
 
 -- what is known of what was done over an input is known of the status that it ends with

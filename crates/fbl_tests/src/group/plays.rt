@@ -6,9 +6,9 @@ use super::steps::Step::{
 };
 use super::steps::Verdict;
 use fbl_base::{Behaviour, Config, Member, MemberSet, Mix, Note, Relay, Start};
-use fbl_fixtures::{Refusing, start};
+use fbl_fixtures::{Example, Refusing};
 use fbl_group::{CommitRefusal, CrashRefusal, Done, Group, RecoverRefusal};
-use std::alloc::{Allocator, Global};
+use std::alloc::{AllocError, Allocator, Global};
 use std::process::Abort;
 use std::test::Fail;
 
@@ -252,25 +252,24 @@ fn readers_show_the_group(rt: HostRuntime) -> Result<(), Fail> {
     Ok(())
 }
 
-/// Whether a group of two with these starts is made.
-fn is_made(heap: &Refusing<Global>, starts: &[Start]) -> bool {
-    match Config::new(heap, 2, 1, 8192, starts) {
-        Ok(config) => Group::<Mix, _>::new(heap, config).is_ok(),
-        Err(_) => false,
+/// A new group of two.
+struct New;
+
+impl Example for New {
+    fn is_worked<A: Allocator + Copy>(&self, alloc: A) -> Result<bool, AllocError> {
+        let (from, to, note) = (Member::at(0), Member::at(1), Note { value: 4, hops: 1 });
+        let starts = [Start { from, to, note }];
+        let config = Config::new(alloc, 2, 1, 8192, &starts)
+            .ok()
+            .ok_or(AllocError)?;
+        match Group::<Mix, _>::new(alloc, config) {
+            Ok(_) => Ok(true),
+            Err(_) => Err(AllocError),
+        }
     }
 }
 
 #[test]
-fn a_new_group_without_memory(rt: HostRuntime) -> Result<(), Fail> {
-    let starts = [start(0, 1, 4, 1)?];
-    for request in 1..u64::MAX {
-        let heap = Refusing::new(rt.alloc(), request);
-        let is_made = is_made(&heap, &starts);
-        assert!(rt; is_made != heap.has_refused(), "request {request}");
-        if is_made {
-            assert!(rt; request > 3, "few requests: {request}");
-            return Ok(());
-        }
-    }
-    Ok(())
+fn a_new_group_without_memory(rt: HostRuntime) {
+    assert!(rt; fbl_fixtures::refuse_each(rt.alloc(), &New) > 3);
 }
