@@ -6,10 +6,10 @@ pub use Rattle.std.proofs.Math.ListN.{replicate}
 pub use Rattle.std.proofs.Math.Logic.{∥∥₁_elim, ∥∥₁_map}
 pub use Rattle.std.proofs.lemmas.Bool.{cases_eq, cases_lt}
 pub use Rattle.std.proofs.lemmas.Bool.Decides.{nat_tests}
-pub use Rattle.std.proofs.lemmas.List.{ext_get_or, length-replicate, set-get_or, take_all}
+pub use Rattle.std.proofs.lemmas.List.{ext_get_or, length-replicate, length-take, set-get_or, take-append-le, take_all}
 pub use Rattle.std.proofs.lemmas.List.Elements.{filter-append}
 pub use Rattle.std.proofs.lemmas.List.Folds.{sum_by-replicate}
-pub use Rattle.std.proofs.lemmas.List.Sums.{sum_by-set, sum_by_push}
+pub use Rattle.std.proofs.lemmas.List.Sums.{get_or-le-sum_by, sum_by-set, sum_by_push}
 pub use Rattle.std.specs.Cmp.{nat_cmp_total}
 pub use Rattle.std.specs.Coded.{Coded, Coded-set, coded_ℕ, codes}
 pub use Rattle.std.specs.Option.{is_none, is_some}

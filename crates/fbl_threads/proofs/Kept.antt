@@ -1,5 +1,5 @@
 -- What a run of turns keeps where only that there is one is known, and that it leaves the group where it counts nothing.
-use Rattle.fbl_threads.proofs.Common.{List, arith, false, length, refl, subst, sum, sym, true≢false, ℕ, ◌≡◌, ◌≤◌, Coded, Coded-set, coded_ℕ, codes, nat_cmp, Next, IsPlan, Strike}
+use Rattle.fbl_threads.proofs.Common.{List, arith, false, refl, sum, true≢false, ℕ, ◌≡◌, Coded, Coded-set, coded_ℕ, codes, nat_cmp, Next, Strike}
 use Rattle.fbl_threads.proofs.Common.{GroupRecord, Keeps, Counts, Reached, starts, turns, is_full, is_late, wants, ∥∥₁_elim}
 use Rattle.std.specs.FinSet as set
 use Rattle.fbl_table.specs.contracts.entry.Entry as entry
@@ -21,15 +21,6 @@ module _ {S N : Type 0} (s : Coded S) (n : Coded N) {next : Next S N} {plan : Li
   kept_by_some =
       ∥∥₁_elim run (Prim.hlevel (Coded-set, codes, s, n, entry.the_row.coded, set.code {R = nat_cmp} coded_ℕ))
       (kept next plan workers old new counts)
-
-  pub places : (length counts.by_worker ≡ workers) × (length counts.undone_by_worker ≡ workers)
-  places = kept_by_some.places
-
-  pub sums : (sum counts.by_worker ≤ new.receipts_ever) × (sum counts.undone_by_worker ≤ new.undone_ever)
-  sums = omega (arith, kept_by_some.receipts, kept_by_some.undone_ever)
-
-  pub fits : IsPlan plan old.config → IsPlan plan new.config
-  fits p = subst (IsPlan plan) (sym kept_by_some.config) p
 
   pub still : new.receipts_ever ≡ old.receipts_ever → counts.full ≡ false → counts.memory ≡ false → new ≡ old
   still same room memory =

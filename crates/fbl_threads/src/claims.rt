@@ -9,7 +9,7 @@ use atomic_table::{Join, Play, Seat, Split, Table, TableRule};
 use fbl_base::Member;
 use std::alloc::{AllocError, Allocator, Global};
 use std::marker::Model;
-use std::mem;
+use std::{fmt, mem};
 use thiserror::Error;
 
 /// What a pass knows: the member that it claims. No value of it is made.
@@ -77,11 +77,15 @@ impl Join<View> for NoPass {
 #[derive(Clone, Copy, PartialEq, Eq, Debug, Error)]
 pub enum ClaimRefusal {
     /// The table of words is refused for another cause than lack of memory. Nothing answers it: no other cause is known.
-    #[error("NoTable")]
     NoTable,
     /// There is no memory for the words.
-    #[error("Memory")]
     Memory,
+}
+
+impl fmt::Display for ClaimRefusal {
+    fn fmt<W: fmt::Write>(&self, f: &mut fmt::Formatter<W>) -> fmt::Result {
+        fmt::Debug::fmt(self, f)
+    }
 }
 
 /// A word for each member of a group, which says whether the member is claimed. Contracts see which table it is. Between

@@ -1,19 +1,15 @@
-use Rattle.fbl_threads.proofs.Common.{arith, ◌≡◌, ◌∙◌, recorded}
-use Rattle.arrayvec.specs.ArrayVec.{array_vec_len}
-use Rattle.fbl_threads.proofs.Kept.{places, sums, fits}
+use Rattle.fbl_threads.proofs.Common.{arith, ◌∙◌, recorded}
+use Rattle.fbl_threads.proofs.Kept.{kept_by_some}
 use Rattle.fbl_threads.proofs.Recording.{after_turn, keeps_on, some_run}
 use Rattle.fbl_threads.proofs.counted_group.CountedGroup.commit_planned.Goals as goal
 
 pub make_turn-requires : goal.make_turn-requires
 make_turn-requires g c =
-    let s = g.row.B-State.coded in
-    let n = g.row.B-Note.coded in
-    let run = some_run (recorded c.args.self.now.records) c.args.self.now.reached in
-    let each : (array_vec_len c.args.self.now.counted.by_worker ≡ g.O.Workers.workers) × (array_vec_len c.args.self.now.counted.undone_by_worker ≡ g.O.Workers.workers) = places s n run in (
+    let k = kept_by_some g.row.B-State.coded g.row.B-Note.coded (some_run (recorded c.args.self.now.records) c.args.self.now.reached) in (
       g.met.B.Behaviour.laws.fits,
       (
-        (omega (arith, each.0, c.requires.worker), omega (arith, each.1, c.requires.worker)),
-        (sums s n run, rw c.requires.plan.0 (fits s n run c.requires.plan.1)),
+        (omega (arith, k.places.0, c.requires.worker), omega (arith, k.places.1, c.requires.worker)),
+        (omega (arith, k.receipts, k.undone_ever), rw (c.requires.plan.0, k.config) c.requires.plan.1),
       ),
     )
 
