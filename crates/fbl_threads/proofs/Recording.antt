@@ -1,5 +1,5 @@
 -- Turns that are recorded.
-use Rattle.fbl_threads.proofs.Common.{◌≡◌, ℕ, ◌<◌, ◌∙◌, ◌∷◌, [], Bool, true, false, List, Option, Some, None, refl, sym, subst, ap, inl, inr, cond, length, append-nil, is_none, is_some, not, ∥∥₁_map}
+use Rattle.fbl_threads.proofs.Common.{◌≡◌, ℕ, ◌<◌, ◌∙◌, ◌∷◌, [], Bool, true, false, List, Option, Some, None, refl, sym, ap, inl, inr, cond, length, append-nil, is_none, is_some, not, ∥∥₁_map}
 use Rattle.fbl_threads.proofs.Common.{Next, Members, Strike, GroupRecord, member, Ticket, CommitRefusal, Full, Memory, Stale, Down, RefusesCommit, struck_at, Counts, Commits, more_at, commits_one}
 use Rattle.fbl_threads.proofs.Common.{undoes, Turn, commits, crashes, strikes, is_full, wants, is_late, Reached, starts, turns, nothing_done, TurnRecord, CrashRecord, RecoveryRecord, IsReceiptRecord}
 use Rattle.fbl_threads.proofs.Common.{IsRecordedAs, ReachedBy, begins, goes_on, ReachedAs, TurnAs, IsAdded, CountsRefusal, CrashesAs, with_record}
@@ -39,16 +39,11 @@ module _ {S N : Type 0} where
       → ∥ ReachedAs next plan workers start (Some list) r c ∥₁ → ∥ ReachedBy next plan workers start list r c ∥₁
   listed run = ∥∥₁_map run (λ x. x.run)
 
-  one_more : {next : Next S N} {plan : List Strike} {workers w : ℕ} {start r r' : GroupRecord S N} {c c' : Counts} {ticket : Ticket S N} {ends : Bool} (records records' : Option (List (TurnRecord S N)))
+  pub one_more : {next : Next S N} {plan : List Strike} {workers w : ℕ} {start r r' : GroupRecord S N} {c c' : Counts} {ticket : Ticket S N} {ends : Bool} (records records' : Option (List (TurnRecord S N)))
       → ∥ ReachedAs next plan workers start records r c ∥₁ → w < workers → TurnAs next plan w ticket r c r' c' ends records records' → ∥ ReachedAs next plan workers start records' r' c' ∥₁
   one_more {r = r} {r' = r'} {c = c} {c' = c'} {ticket = ticket} None records' run below t = rw t.added (∥∥₁_map run (λ x. record { run = turns r r' c c' _ ticket x.run below t.turn }))
   one_more {r = r} {r' = r'} {c = c} {c' = c'} {ticket = ticket} (Some list) records' run below t =
       rw t.added.2 (∥∥₁_map run (λ x. record { run = goes_on r r' c c' _ ticket list t.added.0 x.run below t.turn t.added.1 }))
-
-  pub after_turn : {next : Next S N} {given plan : List Strike} {workers w : ℕ} {start r r' : GroupRecord S N} {c c' : Counts} {ticket : Ticket S N} {ends : Bool} (records records' : Option (List (TurnRecord S N)))
-      → ∥ ReachedAs next plan workers start records r c ∥₁ → given ≡ plan → w < workers → TurnAs next given w ticket r c r' c' ends records records' → ∥ ReachedAs next plan workers start records' r' c' ∥₁
-  after_turn {next} {w = w} {r = r} {r' = r'} {c = c} {c' = c'} {ticket = ticket} {ends = ends} records records' run is below turn =
-      one_more records records' run below (subst (λ p. TurnAs next p w ticket r c r' c' ends records records') is turn)
 
   -- where records are kept they are after a turn
   pub keeps_on : {next : Next S N} {plan : List Strike} {w : ℕ} {r r' : GroupRecord S N} {c c' : Counts} {ticket : Ticket S N} {ends : Bool} (records records' : Option (List (TurnRecord S N)))
