@@ -3,18 +3,15 @@ use Rattle.fbl_threads.proofs.Kept.{kept_by_some}
 use Rattle.fbl_threads.proofs.Recording.{keeps_on, one_more, some_run}
 use Rattle.fbl_threads.proofs.counted_group.CountedGroup.commit_planned.Goals as goal
 
-pub make_turn-requires-clause-places : goal.make_turn-requires-clause-places
-make_turn-requires-clause-places g c =
+pub make_turn-requires : goal.make_turn-requires
+make_turn-requires g c =
     let k = kept_by_some g.row.B-State.coded g.row.B-Note.coded (some_run (recorded c.args.self.now.records) c.args.self.now.reached) in (
-      omega (arith, k.places.0, c.requires.worker),
-      omega (arith, k.places.1, c.requires.worker),
+      g.met.B.Behaviour.laws.fits,
+      (
+        (omega (arith, k.places.0, c.requires.worker), omega (arith, k.places.1, c.requires.worker)),
+        (omega (arith, k.receipts, k.undone_ever), rw (c.requires.plan.0, k.config) c.requires.plan.1),
+      ),
     )
-
-pub make_turn-requires-clause-counted : goal.make_turn-requires-clause-counted
-make_turn-requires-clause-counted g c = let k = kept_by_some g.row.B-State.coded g.row.B-Note.coded (some_run (recorded c.args.self.now.records) c.args.self.now.reached) in omega (arith, k.receipts, k.undone_ever)
-
-pub make_turn-requires-clause-plan : goal.make_turn-requires-clause-plan
-make_turn-requires-clause-plan g c = let k = kept_by_some g.row.B-State.coded g.row.B-Note.coded (some_run (recorded c.args.self.now.records) c.args.self.now.reached) in rw (c.requires.plan.0, k.config) c.requires.plan.1
 
 pub invariant_of-self : goal.invariant_of-self
 invariant_of-self g c = record {
