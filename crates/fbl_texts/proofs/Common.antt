@@ -15,9 +15,11 @@ pub use Rattle.std.specs.List.{All, filter, list_all, list_any, prefix_len, rang
 pub use Rattle.std.specs.Str.{IsUtf8}
 pub use Rattle.fbl_audit.specs.Checking.{IsSafe, SaysUnsafe, IsLeftOrphan}
 pub use Rattle.fbl_audit.specs.declared.checking.UnsafeReceipt.{UnsafeReceipt}
-pub use Rattle.fbl_base.specs.Audit.{IsDump, Parts, RefusesDump, lost_determinants}
+pub use Rattle.fbl_base.specs.Audit.{IsDump, Parts, RefusesDump, lost_determinants, parts_of}
 pub use Rattle.fbl_base.specs.Events.{receipts, At, receipt_of}
 pub use Rattle.fbl_base.specs.MemberSets.{AllBelow, member_list, Members}
+pub use Rattle.fbl_base.specs.declared.fault.Breach.{Breach}
+pub use Rattle.fbl_base.specs.declared.refusal.DumpRefusal.{DumpRefusal}
 pub use Rattle.fbl_base.specs.declared.trace.Determinant.{Determinant}
 pub use Rattle.fbl_base.specs.declared.trace.Mark.{Mark}
 pub use Rattle.fbl_base.specs.declared.trace.Mark.TheVariants.{Receipt, Send}
@@ -28,16 +30,19 @@ pub use Rattle.fbl_input.specs.Faults.{IsFirstFault, PutsOut}
 pub use Rattle.fbl_input.specs.Misfits.{IsOfParts, IsOfSettings, run_fault}
 pub use Rattle.fbl_input.specs.Shapes.{all_shaped, count_shape, field, json_of, list_of, longest, member_shape, name_of, number_within, or_fault, set_shape, value_of_input, ◌>>=◌}
 pub use Rattle.fbl_input.specs.declared.fault.RunFault.{RunFault}
+pub use Rattle.fbl_input.specs.declared.input_fault.InputFault.{InputFault}
+pub use Rattle.fbl_input.specs.declared.misfit.InputKind.{InputKind}
 pub use Rattle.serde_json.proofs.Views.{view-Array}
 pub use Rattle.serde_json.specs.Data.{Data, array, depth, items_depth}
 pub use Rattle.serde_json.specs.Read.{max_depth, of_json, read}
 pub use Rattle.serde_json.specs.View.{items_of, view}
 pub use Rattle.serde_json.specs.Written.{compact_text, has_float, items_have_float}
 pub use Rattle.serde_json.specs.declared.value.Value.{Value}
-pub use Rattle.fbl_texts.specs.Auditing.{ArePathsFrom, IsAuditText, IsChecked, IsLossReason, IsPathFrom, IsVerdict, check_lines, unsafe_lines}
+pub use Rattle.fbl_texts.specs.Auditing.{ArePathsFrom, IsAuditText, IsChecked, IsLossReason, IsPathFrom, IsVerdict, check_lines, unsafe_lines, verdict_of}
 pub use Rattle.fbl_texts.specs.DumpLines.{ReadsBack, event_data, list_data, number_data, pair_data}
 pub use Rattle.fbl_texts.specs.Dumps.{IsDumpFault, IsDumpOf, RefusesParts, event_shape, pair_shape, parts_of_data, parts_of_input}
 pub use Rattle.fbl_texts.specs.declared.auditing.Verdict.{Verdict}
+pub use Rattle.fbl_texts.specs.declared.reading.DumpInput.{DumpInput}
 pub use Rattle.fbl_base.proofs.ClockLaws.{member_within}
 pub use Rattle.fbl_audit.specs.Paths.{IsPathTo}
 pub use Rattle.fbl_base.proofs.PrecedenceLaws.{depends-from_places, places-from_depends, Has-first, Has-last}

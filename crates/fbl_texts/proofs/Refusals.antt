@@ -3,21 +3,16 @@ use Rattle.std.proofs.Common.{◌≡◌, ◌<◌, ◌∙◌, ℕ, ap, cond, inl,
 use Rattle.std.proofs.lemmas.Bool.{lt-ltb}
 use Rattle.std.proofs.lemmas.Option.{IfSome_then}
 use Rattle.std.specs.Result.{IsErrAnd}
-use Rattle.fbl_base.specs.Audit.{parts_of}
-use Rattle.fbl_base.specs.declared.fault.Breach.{Breach}
-use Rattle.fbl_base.specs.declared.refusal.DumpRefusal.{DumpRefusal}
 use Rattle.fbl_base.specs.declared.refusal.DumpRefusal.TheVariants as dump
 use Rattle.fbl_input.specs.Faults.{HasInput, IsFaultOf, IsReadFault, IsUnread}
 use Rattle.fbl_input.specs.declared.fault.RunFault.TheVariants as faults
-use Rattle.fbl_input.specs.declared.input_fault.InputFault.{InputFault}
-use Rattle.fbl_input.specs.declared.misfit.InputKind.{InputKind}
 use Rattle.fbl_input.specs.declared.misfit.InputKind.TheVariants as kinds
 use Rattle.fbl_input.specs.declared.misfit.Misfit.{Misfit}
 use Rattle.fbl_input.specs.declared.misfit.Misfit.TheVariants as misfits
+use Rattle.fbl_texts.proofs.Common.{Breach, DumpInput, DumpRefusal, InputFault, InputKind, parts_of}
 use Rattle.fbl_texts.proofs.Common.{Data, IsFirstFault, IsOfParts, Parts, RefusesDump, RefusesParts, RunFault, json_of, longest, or_fault, parts_of_input, refused, run_fault, value_of_input, ◌>>=◌}
 use Rattle.fbl_texts.specs.Dumps.{IsNoDump}
 use Rattle.fbl_texts.specs.RawDumps.{IsNoRawDump, IsRawDumpOf, IsRefusalOf, RefusesNone}
-use Rattle.fbl_texts.specs.declared.reading.DumpInput.{DumpInput}
 
 -- ---- inputs
 

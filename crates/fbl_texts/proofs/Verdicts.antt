@@ -1,8 +1,8 @@
 -- The verdict of a check, by the receipts that are said to be unsafe.
-use Rattle.fbl_texts.proofs.Common.{◌≡◌, ◌↔◌, ℕ, List, [], ◌∷◌, Option, Result, Ok, Err, refl, PutsOut, Verdict}
+use Rattle.fbl_texts.proofs.Common.{◌≡◌, ◌↔◌, ℕ, List, [], ◌∷◌, Option, Result, Ok, Err, refl, PutsOut, Verdict, verdict_of}
 use Rattle.fbl_input.specs.declared.output.OutputFault.{OutputFault}
 use Rattle.fbl_input.specs.declared.output.OutputFault.TheVariants as outputs
-use Rattle.fbl_texts.specs.Auditing.{IsVerdictThat, verdict_of}
+use Rattle.fbl_texts.specs.Auditing.{IsVerdictThat}
 
 verdict_is : {X : Type 0} (Holds : Type 0) (said : List X) → (said ≡ []) ↔ Holds → IsVerdictThat Holds (verdict_of said)
 verdict_is Holds [] safe = safe.0 refl

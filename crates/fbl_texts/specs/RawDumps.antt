@@ -10,7 +10,7 @@ use Rattle.fbl_input.specs.declared.misfit.InputKind.TheVariants as kinds
 use Rattle.fbl_input.specs.declared.misfit.Misfit.{Misfit}
 use Rattle.fbl_input.specs.declared.misfit.Misfit.TheVariants as misfits
 use Rattle.fbl_input.specs.Misfits.{IsOfParts}
-use Rattle.fbl_input.specs.Faults.{IsFaultOf, IsFirstFault, IsReadFault}
+use Rattle.fbl_input.specs.Faults.{IsFaultOf, IsReadFault}
 use Rattle.fbl_texts.specs.Dumps.{parts_of_input}
 use Rattle.fbl_texts.specs.declared.reading.DumpInput.{DumpInput}
 

@@ -26,23 +26,26 @@ pub enum Verdict {
     Unsafe,
 }
 
-/// Writes the numbers of a determinant, each behind a space.
-pub(crate) fn push_numbers(text: &mut String, determinant: Determinant) -> Result<(), AllocError>
-    ensures { OnOk result (string_bytes text.new ≡ string_bytes text.old ++ determinant_words determinant) }
+/// Writes the name, and the numbers of a determinant, each behind a space.
+pub(crate) fn push_numbers(
+    text: &mut String,
+    name: &str,
+    determinant: Determinant,
+) -> Result<(), AllocError>
+    ensures { OnOk result (string_bytes text.new ≡ string_bytes text.old ++ name.now ++ determinant_words determinant) }
 {
     let from = determinant.from.number();
     let ssn = determinant.ssn;
     let to = determinant.to.number();
     let rsn = determinant.rsn;
-    Ok(write!(text, " {from} {ssn} {to} {rsn}")?)
+    Ok(write!(text, "{name} {from} {ssn} {to} {rsn}")?)
 }
 
 /// Writes the line of a lost determinant.
 fn push_lost(text: &mut String, determinant: Determinant) -> Result<(), AllocError>
     ensures { OnOk result (string_bytes text.new ≡ string_bytes text.old ++ determinant_line determinant) }
 {
-    text.push_str("determinant")?;
-    push_numbers(text, determinant)?;
+    push_numbers(text, "determinant", determinant)?;
     Ok(text.push_str("\n")?)
 }
 
@@ -60,8 +63,7 @@ fn push_determinants(text: &mut String, lost: &[Determinant]) -> Result<(), Allo
 fn push_orphans(text: &mut String, alloc: Global, orphans: MemberSet) -> Result<(), AllocError>
     ensures { OnOk result (string_bytes text.new ≡ string_bytes text.old ++ orphans_line orphans) }
 {
-    text.push_str("orphans ")?;
-    push_set(text, alloc, orphans)?;
+    push_set(text, alloc, "orphans ", orphans)?;
     Ok(text.push_str("\n")?)
 }
 
@@ -119,10 +121,8 @@ pub(crate) fn push_outcome(
 ) -> Result<(), AllocError>
     ensures { OnOk result (string_bytes text.new ≡ string_bytes text.old ++ outcome_line strike orphans) }
 {
-    text.push_str(" strike ")?;
-    push_set(text, alloc, strike)?;
-    text.push_str(" orphans ")?;
-    push_set(text, alloc, orphans)?;
+    push_set(text, alloc, " strike ", strike)?;
+    push_set(text, alloc, " orphans ", orphans)?;
     Ok(text.push_str("\n")?)
 }
 
@@ -130,8 +130,7 @@ pub(crate) fn push_outcome(
 fn push_unsafe(text: &mut String, alloc: Global, receipt: &UnsafeReceipt) -> Result<(), AllocError>
     ensures { OnOk result (string_bytes text.new ≡ string_bytes text.old ++ unsafe_line receipt.now) }
 {
-    text.push_str("unsafe")?;
-    push_numbers(text, receipt.determinant)?;
+    push_numbers(text, "unsafe", receipt.determinant)?;
     push_outcome(text, alloc, receipt.strike, receipt.orphans)
 }
 

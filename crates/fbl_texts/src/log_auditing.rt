@@ -43,8 +43,7 @@ fn push_line(
 ) -> Result<(), AllocError>
     ensures { OnOk result (string_bytes text.new ≡ string_bytes text.old ++ unsafe_moment_line place file.now moment.now) }
 {
-    text.push_str("unsafe")?;
-    push_numbers(text, moment.determinant)?;
+    push_numbers(text, "unsafe", moment.determinant)?;
     write!(text, " at {place}{file}")?;
     push_outcome(text, alloc, moment.strike, moment.orphans)
 }

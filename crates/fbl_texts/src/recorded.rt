@@ -71,8 +71,8 @@ fn recorded_of(alloc: Global, value: &Value) -> Result<Recorded, Misfit>
     ensures misfit { IfErr result (IsMisfit (recorded_kind (view value.now)) (view value.now)) }
 {
     match kind_of(value) {
-        InputKind::Log => Ok(Recorded::Log(raw_log_of(alloc, value)?)),
-        _ => Ok(Recorded::Dump(raw_dump_of(alloc, value)?)),
+        InputKind::Log => raw_log_of(alloc, value).map(Recorded::Log),
+        _ => raw_dump_of(alloc, value).map(Recorded::Dump),
     }
 }
 

@@ -31,11 +31,17 @@ fn push_listed(text: &mut String, members: &[Member]) -> Result<(), AllocError>
     }
 }
 
-/// Writes the set as it is printed.
-pub(crate) fn push_set(text: &mut String, alloc: Global, set: MemberSet) -> Result<(), AllocError>
-    ensures { OnOk result (string_bytes text.new ≡ string_bytes text.old ++ set_words set) }
+/// Writes the name, and the set as it is printed.
+pub(crate) fn push_set(
+    text: &mut String,
+    alloc: Global,
+    name: &str,
+    set: MemberSet,
+) -> Result<(), AllocError>
+    ensures { OnOk result (string_bytes text.new ≡ string_bytes text.old ++ name.now ++ set_words set) }
 {
     let members = set.members(alloc)?;
+    text.push_str(name)?;
     push_listed(text, members.as_slice())
 }
 
@@ -45,6 +51,6 @@ pub fn set_text(alloc: Global, set: MemberSet) -> Result<String, AllocError>
     ensures { IfOk result (λ text. string_bytes text ≡ set_words set) }
 {
     let mut text = String::new(alloc);
-    push_set(&mut text, alloc, set)?;
+    push_set(&mut text, alloc, "", set)?;
     Ok(text)
 }

@@ -6,14 +6,14 @@ ghost use Rattle.fbl_base.specs.Events.{At, receipt_of};
 ghost use Rattle.fbl_base.specs.Precedence.{Has};
 ghost use Rattle.fbl_texts.specs.Auditing.{ArePathsFrom, IsLossReason, TellsLost, TellsUnsafe};
 
-use fbl_audit::{Paths, unsafe_receipts};
+use fbl_audit::{Paths, UnsafeReceipt, unsafe_receipts};
 use fbl_base::audit::{Audit, Dump};
 use fbl_base::{Determinant, Mark, Member, MemberSet};
 use std::alloc::{AllocError, Global};
 use std::fmt;
 
 /// A member that depends on a receipt, and a path from the receipt to it.
-#[derive(Drop, Debug)]
+#[derive(Drop)]
 pub struct OrphanPath {
     pub orphan: Member,
     /// The places of the events on the path, from 0: the first is that of the receipt, the last that of the member's first
@@ -22,7 +22,7 @@ pub struct OrphanPath {
 }
 
 /// A receipt that a strike loses.
-#[derive(Drop, Debug)]
+#[derive(Drop)]
 pub struct LossReason {
     /// What names the receipt.
     pub determinant: Determinant,
@@ -131,6 +131,21 @@ pub fn why_lost<'a>(alloc: Global, dump: &'a Dump) -> Result<Why<'a>, AllocError
     Ok(Why { dump, receipts })
 }
 
+/// Why each of these unsafe receipts is unsafe.
+fn reasons_of(
+    alloc: Global,
+    audit: &Audit,
+    found: &[UnsafeReceipt],
+) -> Result<Vec<LossReason>, AllocError>
+    ensures { IfOk result (λ reasons. AllZip (λ u. IsLossReason audit.now u.determinant u.strike) found.now reasons.items) }
+{
+    let mut reasons = Vec::new(alloc);
+    for receipt in found {
+        reasons.push(loss_reason(alloc, audit, &receipt.determinant, receipt.strike)?)?;
+    }
+    Ok(reasons)
+}
+
 /// Why each unsafe receipt of the dump is unsafe: the least members that may be lost and lose it, and a path from it to each
 /// orphan that they leave. The time taken is that of a pass over the events for each. `Err` comes only where there is no memory
 /// for the paths.
@@ -140,10 +155,7 @@ pub fn why_unsafe<'a>(alloc: Global, dump: &'a Dump) -> Result<Why<'a>, AllocErr
 {
     let audit = Audit::of(alloc, dump)?;
     let found = unsafe_receipts(alloc, &audit)?;
-    let mut receipts = Vec::new(alloc);
-    for receipt in &found {
-        receipts.push(loss_reason(alloc, &audit, &receipt.determinant, receipt.strike)?)?;
-    }
+    let receipts = reasons_of(alloc, &audit, found.as_slice())?;
     Ok(Why { dump, receipts })
 }
 

@@ -1,6 +1,5 @@
-use Rattle.fbl_texts.proofs.Common.{◌≡◌, ◌∙◌, ap, IsSafe, SaysUnsafe, check_lines, receipts}
+use Rattle.fbl_texts.proofs.Common.{◌≡◌, ◌∙◌, ap, IsSafe, SaysUnsafe, check_lines, receipts, verdict_of}
 use Rattle.fbl_texts.proofs.Verdicts.{puts_verdict}
-use Rattle.fbl_texts.specs.Auditing.{verdict_of}
 use Rattle.fbl_texts.proofs.auditing.write_check.Goals as goal
 
 pub returns : goal.returns

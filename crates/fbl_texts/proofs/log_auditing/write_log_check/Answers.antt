@@ -1,9 +1,8 @@
-use Rattle.fbl_texts.proofs.Common.{◌∙◌, ap}
+use Rattle.fbl_texts.proofs.Common.{◌∙◌, ap, verdict_of}
 use Rattle.fbl_moments.specs.Entries.{receipts_in}
 use Rattle.fbl_moments.specs.Logs.{run_of}
 use Rattle.fbl_moments.specs.Runs.{AlwaysSafe}
 use Rattle.fbl_moments.specs.Unsafe.{SaysUnsafe}
-use Rattle.fbl_texts.specs.Auditing.{verdict_of}
 use Rattle.fbl_texts.specs.LogAuditing.{IsLogCheckText}
 use Rattle.fbl_texts.proofs.Verdicts.{puts_verdict}
 use Rattle.fbl_texts.proofs.log_auditing.write_log_check.Goals as goal
