@@ -44,8 +44,7 @@ pub(crate) struct Spot<'a> {
 
 impl fmt::Display for Spot<'_> {
     fn fmt<W: fmt::Write>(&self, f: &mut fmt::Formatter<W>) -> fmt::Result {
-        let place = self.place;
-        let file = self.file;
+        let Spot { place, file } = self;
         write!(f, "{place}{file}")
     }
 }
@@ -56,17 +55,11 @@ impl<'a> Sources<'a> {
         ensures place { result.place ≡ own_place self.now place }
         ensures file { option_map (λ name. name.now) result.file.name ≡ own_file self.now place }
     {
-        match self.origins.get(place) {
-            Some(origin) => {
-                let name = self.names.get(origin.log).copied();
-                let place = origin.place;
-                let file = InFile { name };
-                Spot { place, file }
-            }
-            None => {
-                let file = InFile { name: None };
-                Spot { place, file }
-            }
-        }
+        let (place, name) = match self.origins.get(place) {
+            Some(origin) => (origin.place, self.names.get(origin.log).copied()),
+            None => (place, None),
+        };
+        let file = InFile { name };
+        Spot { place, file }
     }
 }

@@ -219,8 +219,10 @@ pub(crate) fn write_path<W: fmt::Write, E: OnPath>(
     write!(f, "orphan {orphan} depends on it")?;
     let mut before = ":";
     for place in places {
-        if let Some(event) = list.get(*place).and_then(|item| item.event()) {
-            write_step(f, before, &event)?;
+        if let Some(item) = list.get(*place) {
+            if let Some(event) = item.event() {
+                write_step(f, before, &event)?;
+            }
         }
         before = ",";
     }
