@@ -39,8 +39,10 @@ pub use Rattle.serde_json.specs.View.{items_of, view}
 pub use Rattle.serde_json.specs.Written.{compact_text, has_float, items_have_float}
 pub use Rattle.serde_json.specs.declared.value.Value.{Value}
 pub use Rattle.fbl_texts.specs.Auditing.{ArePathsFrom, IsAuditText, IsChecked, IsLossReason, IsPathFrom, IsVerdict, check_lines, unsafe_lines, verdict_of}
-pub use Rattle.fbl_texts.specs.DumpLines.{ReadsBack, event_data, list_data, number_data, pair_data}
+pub use Rattle.fbl_texts.specs.DumpLines.{IsWritable, ReadsBack, event_data, list_data, number_data, pair_data}
 pub use Rattle.fbl_texts.specs.Dumps.{IsDumpFault, IsDumpOf, RefusesParts, event_shape, pair_shape, parts_of_data, parts_of_input}
+pub use Rattle.fbl_texts.specs.Lines.{audit_lines, unsafe_line, unsafe_moment_line}
+pub use Rattle.fbl_texts.specs.RawDumps.{IsNoRawDump, IsRawDumpOf, IsRefusalOf, RefusesNone}
 pub use Rattle.fbl_texts.specs.declared.auditing.Verdict.{Verdict}
 pub use Rattle.fbl_texts.specs.declared.reading.DumpInput.{DumpInput}
 pub use Rattle.fbl_base.proofs.ClockLaws.{member_within}

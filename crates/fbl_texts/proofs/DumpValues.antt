@@ -1,8 +1,8 @@
 -- The value of a dump, and how it is read back.
 use Rattle.fbl_texts.proofs.Common.{◌≡◌, ◌≤◌, refl, arith, false, Some, Ok, All, Parts, IsDump, Mark, Send, Receipt, member_list, member_shape, depth, has_float}
-use Rattle.fbl_texts.proofs.Common.{event_data, pair_data, number_data, event_shape, pair_shape}
+use Rattle.fbl_texts.proofs.Common.{IsWritable, event_data, pair_data, number_data, event_shape, pair_shape}
 use Rattle.fbl_texts.specs.Dumps.{parts_of_data}
-use Rattle.fbl_texts.specs.DumpLines.{IsWritable, dump_data}
+use Rattle.fbl_texts.specs.DumpLines.{dump_data}
 use Rattle.fbl_texts.proofs.Values.{flat, list_read, number_read, set_read}
 
 -- the parts of a dump are read back

@@ -1,5 +1,5 @@
 -- The value of a log, and how it is read back.
-use Rattle.fbl_texts.proofs.Common.{◌≡◌, ◌≤◌, refl, arith, false, Some, Ok, All, member_list, member_shape, depth, has_float, number_data}
+use Rattle.fbl_texts.proofs.Common.{IsWritable, ◌≡◌, ◌≤◌, refl, arith, false, Some, Ok, All, member_list, member_shape, depth, has_float, number_data}
 use Rattle.fbl_input.specs.Items.{entry_shape}
 use Rattle.fbl_moments.specs.Logs.{IsLog, LogParts}
 use Rattle.fbl_moments.specs.declared.entry.Entry.{Entry}
@@ -8,7 +8,6 @@ use Rattle.fbl_texts.specs.LogLines.{entry_data, log_data}
 use Rattle.fbl_texts.specs.Logs.{log_of_data, recorded_of_data}
 use Rattle.fbl_texts.specs.declared.recorded.Checked.TheVariants.{Log}
 use Rattle.fbl_texts.proofs.DumpValues.{flat_event}
-use Rattle.fbl_texts.specs.DumpLines.{IsWritable}
 use Rattle.fbl_texts.proofs.Values.{flat, list_read, number_read, set_read}
 
 -- the parts of a log are read back

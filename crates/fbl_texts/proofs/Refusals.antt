@@ -9,10 +9,9 @@ use Rattle.fbl_input.specs.declared.fault.RunFault.TheVariants as faults
 use Rattle.fbl_input.specs.declared.misfit.InputKind.TheVariants as kinds
 use Rattle.fbl_input.specs.declared.misfit.Misfit.{Misfit}
 use Rattle.fbl_input.specs.declared.misfit.Misfit.TheVariants as misfits
-use Rattle.fbl_texts.proofs.Common.{Breach, DumpInput, DumpRefusal, InputFault, InputKind, parts_of}
+use Rattle.fbl_texts.proofs.Common.{Breach, DumpInput, DumpRefusal, InputFault, InputKind, IsNoRawDump, IsRawDumpOf, IsRefusalOf, RefusesNone, parts_of}
 use Rattle.fbl_texts.proofs.Common.{Data, IsFirstFault, IsOfParts, Parts, RefusesDump, RefusesParts, RunFault, json_of, longest, or_fault, parts_of_input, refused, run_fault, value_of_input, ◌>>=◌}
 use Rattle.fbl_texts.specs.Dumps.{IsNoDump}
-use Rattle.fbl_texts.specs.RawDumps.{IsNoRawDump, IsRawDumpOf, IsRefusalOf, RefusesNone}
 
 -- ---- inputs
 

@@ -1,5 +1,4 @@
-use Rattle.fbl_texts.proofs.Common.{ap, ◌∙◌, ◌≡◌, IfOk-weaker, lost_determinants}
-use Rattle.fbl_texts.specs.Lines.{audit_lines}
+use Rattle.fbl_texts.proofs.Common.{ap, ◌∙◌, ◌≡◌, IfOk-weaker, audit_lines, lost_determinants}
 use Rattle.fbl_texts.proofs.auditing.audit_text.Goals as goal
 
 pub returns : goal.returns

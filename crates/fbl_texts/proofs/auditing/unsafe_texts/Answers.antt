@@ -1,6 +1,5 @@
 use Rattle.std.proofs.lemmas.List.{flat_map_more}
-use Rattle.fbl_texts.proofs.Common.{[], ◌++◌, ◌∙◌, ap, take_more}
-use Rattle.fbl_texts.specs.Lines.{unsafe_line}
+use Rattle.fbl_texts.proofs.Common.{[], ◌++◌, ◌∙◌, ap, take_more, unsafe_line}
 use Rattle.fbl_texts.proofs.auditing.unsafe_texts.Goals as goal
 
 pub loop-receipt-preserved : goal.loop-receipt-preserved

@@ -1,5 +1,4 @@
-use Rattle.fbl_texts.proofs.Common.{ap, ◌∙◌, IfOk-weaker}
-use Rattle.fbl_texts.specs.Lines.{audit_lines}
+use Rattle.fbl_texts.proofs.Common.{ap, ◌∙◌, IfOk-weaker, audit_lines}
 use Rattle.fbl_texts.proofs.log_auditing.log_audit_text.Goals as goal
 
 pub returns : goal.returns

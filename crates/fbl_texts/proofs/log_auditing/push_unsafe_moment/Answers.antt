@@ -1,5 +1,4 @@
-use Rattle.fbl_texts.proofs.Common.{ap}
-use Rattle.fbl_texts.specs.Lines.{unsafe_moment_line}
+use Rattle.fbl_texts.proofs.Common.{ap, unsafe_moment_line}
 use Rattle.fbl_texts.proofs.log_auditing.push_unsafe_moment.Goals as goal
 
 pub returns : goal.returns

@@ -1,7 +1,6 @@
-use Rattle.fbl_texts.proofs.Common.{refl, sym, IsOfParts, parts_of_data}
+use Rattle.fbl_texts.proofs.Common.{refl, sym, IsNoRawDump, IsOfParts, IsRawDumpOf, RefusesNone, parts_of_data}
 use Rattle.fbl_input.specs.declared.misfit.InputKind.TheVariants.{Dump}
 use Rattle.fbl_texts.proofs.Refusals.{has_input, of_bytes, unread}
-use Rattle.fbl_texts.specs.RawDumps.{IsNoRawDump, IsRawDumpOf, RefusesNone}
 use Rattle.fbl_texts.proofs.reading.read_raw_dump.Goals as goal
 
 pub returns-in_err-bytes-clause-fault : goal.returns-in_err-bytes-clause-fault
