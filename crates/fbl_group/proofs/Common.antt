@@ -1,21 +1,22 @@
 -- The names that proofs of this crate take from outside: of the standard library, of the crates below, and of the definitions here.
 pub use Rattle.std.proofs.Common.{All, Bool, Fits, IfSome, List, None, Option, Some, Vec, [], add-one, ap, append-nil, append_assoc, arith, cond, count_by, deque_capacity, deque_items, deque_len}
-pub use Rattle.std.proofs.Common.{drop, false, get_or, inl, inr, length, length-append, map, nat_lt, not, option_map, refl, replicate, rules, set, slice_get, slice_index_or, slice_set, subst, suc}
-pub use Rattle.std.proofs.Common.{sym, take, true, vec_capacity, vec_len, w32, w64, zero, ℕ, ◌*◌, ◌++◌, ◌+◌, ◌-◌, ◌<◌, ◌==◌, ◌^◌, ◌||◌, ◌∙◌, ◌&&◌, ◌∷◌, ◌≡◌, ◌≢◌, ◌≤◌, ◌⊎◌}
-pub use Rattle.std.proofs.lemmas.Bool.{eq-eqb, false≢true, true_from_ne_false}
+pub use Rattle.std.proofs.Common.{drop, false, get_or, inl, inr, length, length-append, map, nat_lt, not, refl, replicate, rules, set, slice_get, slice_index_or, slice_set, subst, suc}
+pub use Rattle.std.proofs.Common.{sym, take, true, vec_capacity, vec_len, w32, w64, zero, ℕ, ◌*◌, ◌++◌, ◌+◌, ◌-◌, ◌<◌, ◌==◌, ◌^◌, ◌||◌, ◌∙◌, ◌∷◌, ◌≡◌, ◌≢◌, ◌≤◌, ◌⊎◌}
+pub use Rattle.std.proofs.Math.ListN.{drop_of_length-le}
+pub use Rattle.std.proofs.lemmas.Bool.{false≢true, true_from_ne_false}
 pub use Rattle.std.proofs.lemmas.Bool.Decides.{nat_tests}
 pub use Rattle.std.proofs.lemmas.Fn.{filter_same}
 pub use Rattle.std.proofs.lemmas.Grind.{common_steps}
 pub use Rattle.std.proofs.lemmas.List.{at_drop_more, get_or-map, get_or-replicate, get_or-set_other, get_or-set_same, get_or_default, get_or_past, length-map, length-replicate}
-pub use Rattle.std.proofs.lemmas.List.{length-set, map-append, map-set, set-get_or}
+pub use Rattle.std.proofs.lemmas.List.{length-set, map-append, map-set, set-get_or, length-take, map_more, replicate_more, take_all}
 pub use Rattle.std.proofs.lemmas.List.Elements.{filter-append, filter_map-append}
 pub use Rattle.std.proofs.lemmas.List.Folds.{Any-from_list_any, list_any-from_Any}
-pub use Rattle.std.proofs.lemmas.List.Sums.{AllPass-from_list_all, count_by_more_no, count_by_more_yes, fold-append, list_all-from_AllPass, sum_by-cons}
+pub use Rattle.std.proofs.lemmas.List.Sums.{AllPass-from_list_all, count_by_more_no, count_by_more_yes, fold-append, list_all-from_AllPass, sum_by-cons, count_by-le-length}
 pub use Rattle.std.proofs.lemmas.Option.{get_or_from_slice_get, slice_get-get_or}
 pub use Rattle.std.specs.Cmp.{nat_cmp_total, unsigned_tied}
 pub use Rattle.std.specs.List.{filter, filter_map, list_any}
 pub use Rattle.std.specs.Ordering.{eq_by_cmp, nat_cmp}
-pub use Rattle.std.specs.Prelude.{slice_index, sum_by, ◌↔◌}
+pub use Rattle.std.specs.Prelude.{sum_by, ◌↔◌}
 pub use Rattle.std.specs.Vec.{with_item}
 pub use Rattle.std.specs.Vec.Iter.{into_iter_items}
 pub use Rattle.std.specs.declared.collections.VecDeque.{VecDeque}
@@ -51,16 +52,17 @@ pub use Rattle.fbl_law.proofs.Safe.{IsRecorded-before, down_or_both_up, down_or_
 pub use Rattle.fbl_law.proofs.WeightKept.{flow, into, out, weight_in, weight_on}
 pub use Rattle.fbl_law.specs.Promises.{pairs_from, pairs_of}
 pub use Rattle.fbl_law.specs.GroupSteps.{IsCheckpoint, IsDelivery, IsRecovery, IsStrike, delivery_events, message_of_send, start_events, step_of, between, gathered_all, is_on}
-pub use Rattle.fbl_law.specs.GroupSteps.{recovery_table, saved_tables, taken_off, IsRebuilt, IsReplaying, IsWaiting, count_in, is_replayed, recovered_trace, replayed_in, resent}
+pub use Rattle.fbl_law.specs.GroupSteps.{recovery_table, saved_tables, taken_off, IsRebuilt, IsReplaying, is_replayed, recovered_trace, replayed_in, resent}
 pub use Rattle.fbl_law.specs.GroupSteps.{resent_to, sent_again, stays_by, working}
 pub use Rattle.fbl_law.specs.Groups.{GroupRecord, HasChannels, channel, channel_in, is_recorded, knowledge, marks, member, member_checkpoint, messages_in, messages_in_flight}
 pub use Rattle.fbl_law.specs.Groups.{receipts, sum_below, IsSound, received_notes}
 pub use Rattle.fbl_law.specs.Knowledge.{IsDown, IsInFlight, IsUp, MatchesTrace, send_mark, table}
-pub use Rattle.fbl_member.proofs.Made.{Made, made-more}
+pub use Rattle.fbl_member.proofs.Made.{Made, made-more, made_none}
+pub use Rattle.fbl_member.proofs.Once.{IsOnce-none, IsOnce-piggybacked}
 pub use Rattle.fbl_member.specs.Carried.{IsOnce}
-pub use Rattle.fbl_member.specs.Members.{MemberRecord, Message, blank, fresh, last_from, logged_note, messages_from, next_determinant, received_by, replayed_by, table_after}
+pub use Rattle.fbl_member.specs.Members.{MemberRecord, Message, blank, fresh, logged_note, messages_from, received_by, replayed_by, table_after}
 pub use Rattle.fbl_table.specs.Receipts.{IsByNumber, receipt_at}
-pub use Rattle.fbl_table.specs.Tables.{found, is_held, piggybacked}
+pub use Rattle.fbl_table.specs.Tables.{found, piggybacked}
 pub use Rattle.fbl_table.specs.declared.entry.Entry.{Entry}
 pub use Rattle.fbl_group.specs.Channels.{AreReplaced, each, first_message, front, front_message, room_in, rooms, rows, send_of_message, taken_and_sent, value_of, with_at, with_sent}
 pub use Rattle.fbl_group.specs.Deliveries.{Delivered, Delivers, IsDeliverRefusal, IsPlanned, MayTakeIn, TakesIn, deliver_refusal, of_commit, IsCurrent, IsFresh, IsTicket, MayCommit, RefusesCommit, is_full, record_at, sends_at, take_refusal}

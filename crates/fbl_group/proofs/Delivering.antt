@@ -1,10 +1,12 @@
 -- Deliveries: what is known of one that is planned, and which refusal of a delivery, a ticket or a commit holds.
-use Rattle.fbl_group.proofs.Common.{Some, None, ◌≡◌, ◌≢◌, ℕ, ◌+◌, ◌<◌, ◌≤◌, false, List, [], ◌∷◌, ◌++◌, length, map, refl, sym, subst, ap, ◌∙◌, append_assoc, arith, get_or, length-append, Fits, w32}
-use Rattle.fbl_group.proofs.Common.{slice_get, slice_set, All, nat_tests, Event, Outcome, Next, Entry, piggybacked, Message, MemberRecord, messages_from, IsUp, taken_off, between, GroupRecord}
-use Rattle.fbl_group.proofs.Common.{HasChannels, member, channel, channel_in, knowledge, IsSound, step_of, up_if_none, receipts_fit, flight_at, IsOnce, front_message, send_of_message, taken_and_sent}
-use Rattle.fbl_group.proofs.Common.{IsPlanned, MayTakeIn, TakesIn, record_at, Receipt, SendsAllowed, received_by, table_after, IsInFlight, delivery_events, IsDelivery, SendsWell, sends_fit}
-use Rattle.fbl_group.proofs.Common.{receipt_is_new, new_not_held, new_not_carried, front_is_later, carried_fits, length-step_events, Delivered, cond, is_full, front, deliver_refusal, of_commit}
-use Rattle.fbl_group.proofs.Common.{IsDeliverRefusal, Delivers, Receipted, Ticket, CommitRefusal, take_refusal, IsTicket, IsCurrent, IsFresh, MayCommit, RefusesCommit, sends_at, flight_ends}
+pub use Rattle.fbl_group.proofs.Common.{Some, None, ◌≡◌, ◌≢◌, ℕ, ◌+◌, ◌<◌, ◌≤◌, false, List, [], ◌∷◌, ◌++◌, length, map, refl, sym, subst, ap, ◌∙◌, append_assoc, arith}
+pub use Rattle.fbl_group.proofs.Common.{get_or, length-append, Fits, w32, slice_get, slice_set, All, nat_tests, Event, Outcome, Next, Entry, piggybacked, Message}
+pub use Rattle.fbl_group.proofs.Common.{MemberRecord, messages_from, IsUp, taken_off, between, GroupRecord, HasChannels, member, channel, channel_in, knowledge, IsSound}
+pub use Rattle.fbl_group.proofs.Common.{step_of, up_if_none, receipts_fit, flight_at, IsOnce, front_message, send_of_message, taken_and_sent, IsPlanned, MayTakeIn, TakesIn}
+pub use Rattle.fbl_group.proofs.Common.{record_at, Receipt, SendsAllowed, received_by, table_after, IsInFlight, delivery_events, IsDelivery, SendsWell, sends_fit}
+pub use Rattle.fbl_group.proofs.Common.{receipt_is_new, new_not_held, new_not_carried, front_is_later, carried_fits, length-step_events, Delivered, cond, is_full, front}
+pub use Rattle.fbl_group.proofs.Common.{deliver_refusal, of_commit, IsDeliverRefusal, Delivers, Receipted, Ticket, CommitRefusal, take_refusal, IsTicket, IsCurrent}
+pub use Rattle.fbl_group.proofs.Common.{IsFresh, MayCommit, RefusesCommit, sends_at, flight_ends, false≢true}
 use Rattle.fbl_law.specs.GroupSteps.{made as made_by}
 use Rattle.fbl_group.proofs.Queues.{first-is, messages-all, sends-messages, settled-in}
 use Rattle.std.specs.FinSet as set
@@ -49,10 +51,6 @@ module _ {S N : Type 0} {next : Next S N} {r now : GroupRecord S N} {q p : ℕ} 
 
   -- of channels that are still the group's: there is a front, what is read there is the message, and receivers are members
   module _ {cs : List (List (List (Message N)))} (same : cs ≡ r.channels) where
-    -- where memory ran out, all is as it was
-    pub stays : {members : List (MemberRecord S N)} {trace : List (Event N)} → members ≡ r.members → trace ≡ r.trace → record r { members = members; channels = cs; trace = trace } ≡ r
-    stays unchanged kept = rw (kept, same, unchanged) refl
-
     pub not_empty : slice_get (channel_in cs q p) 0 ≡ None → ⊥
     not_empty none = (let first = rw none at (rw (← same) at plan.first) in cc)
 

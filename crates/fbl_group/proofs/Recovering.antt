@@ -1,14 +1,17 @@
 -- The steps of a recovery: gathering, replay in rounds, putting records in place, and what it leaves.
-use Rattle.fbl_group.proofs.Common.{get_or-set_same, get_or-set_other, count_in-same, sum_below-none, replayed_in, AreReplaying, nat_lt, ◌≡◌, ℕ, ◌+◌, ◌<◌, ◌≤◌, Bool, true, false, List, [], length}
-use Rattle.fbl_group.proofs.Common.{Option, Some, get_or, refl, sym, ap, ◌∙◌, arith, slice_index_or, slice_set, nat_tests, get_or_default, Determinant, Next, MemberRecord, blank, IsDown}
-use Rattle.fbl_group.proofs.Common.{recovery_table, GroupRecord, member_checkpoint, knowledge, IsSound, working, IsReplaying, found, receipt_at, logged_note, replayed_by, replay_begins}
-use Rattle.fbl_group.proofs.Common.{replaying-next, replay_is_right, replayed_in-step, replaying-tables, AreByNumber, Tries, Rounds, Made, cond, common_steps, Members, AreRecordsReplaced, ◌||◌, ◌⊎◌}
-use Rattle.fbl_group.proofs.Common.{◌-◌, map, Fits, filter, get_or_past, Event, mark_of, Message, IsUp, channel_in, channel, member, marks, receipts, sum_below-agree, Recovers, AreReplaced}
-use Rattle.fbl_group.proofs.Common.{AreSentAgain, IsReady, w32, w64, ◌^◌, messages_in, is_replayed, stays_by, recovered_trace, resent_to, IsRebuilt, cut-undone, recovered_trace-cut, sent_again-short}
-use Rattle.fbl_group.proofs.Common.{with-table, working-log, replayed_in-all, recovered_trace-rebuilt, rebuilt_is_recovered, messages_at, IsRecovery}
+pub use Rattle.fbl_group.proofs.Common.{get_or-set_same, get_or-set_other, count_in-same, sum_below-none, replayed_in, AreReplaying, nat_lt, ◌≡◌, ℕ, ◌+◌, ◌<◌, ◌≤◌, Bool}
+pub use Rattle.fbl_group.proofs.Common.{true, false, List, [], length, Option, Some, get_or, refl, sym, ap, ◌∙◌, arith, slice_index_or, slice_set, nat_tests}
+pub use Rattle.fbl_group.proofs.Common.{get_or_default, Determinant, Next, MemberRecord, blank, IsDown, recovery_table, GroupRecord, member_checkpoint, knowledge, IsSound}
+pub use Rattle.fbl_group.proofs.Common.{working, IsReplaying, found, receipt_at, logged_note, replayed_by, replay_begins, replaying-next, replay_is_right, replayed_in-step}
+pub use Rattle.fbl_group.proofs.Common.{replaying-tables, AreByNumber, Tries, Rounds, Made, cond, common_steps, Members, AreRecordsReplaced, ◌||◌, ◌⊎◌, ◌-◌, map, Fits}
+pub use Rattle.fbl_group.proofs.Common.{filter, get_or_past, Event, mark_of, Message, IsUp, channel_in, channel, member, marks, receipts, sum_below-agree, Recovers}
+pub use Rattle.fbl_group.proofs.Common.{AreReplaced, AreSentAgain, IsReady, w32, w64, ◌^◌, messages_in, is_replayed, stays_by, recovered_trace, resent_to, IsRebuilt}
+pub use Rattle.fbl_group.proofs.Common.{cut-undone, recovered_trace-cut, sent_again-short, with-table, working-log, replayed_in-all, recovered_trace-rebuilt}
+pub use Rattle.fbl_group.proofs.Common.{rebuilt_is_recovered, messages_at, IsRecovery, set-get_or, made-more, Entry, made_none, rows, subst, group_recovery_keeps}
+pub use Rattle.fbl_group.proofs.Common.{replaying-room, replayed_in-short, deque_items, length-map, sent_again, length-set}
 use Rattle.std.specs.FinSet as set
 use mir.Val.{bool_byte}
-use Rattle.fbl_group.proofs.Queues.{Turned}
+pub use Rattle.fbl_group.proofs.Queues.{Turned, made-mapped}
 use Rattle.fbl_group.proofs.Reading.{received-twice}
 
 module _ {S N : Type 0} where
@@ -31,9 +34,6 @@ one-at-most false = omega arith
 -- a loop over the numbers below n is done
 pub all-done : {i n m : ℕ} → n ≤ i → i ≤ n → n ≡ m → i ≡ m
 all-done past within is = omega (arith, past, within, is)
-
-pub fits-few : {count : ℕ} → count ≤ 2097152 → Fits w32 count
-fits-few few = omega (arith, few)
 
 module _ {S N : Type 0} {next : Next S N} {r : GroupRecord S N} {i count : ℕ} {first before : List (MemberRecord S N)} (so_far : Rounds next r i first before count) where
   -- one more member that replays or waits
@@ -199,9 +199,6 @@ module _ {S N : Type 0} {next : Next S N} {old now : GroupRecord S N} {rebuilt :
         abbrev new : GroupRecord S N
         new = record old { members = members; channels = channels; trace = rest; down = down; undone_ever = old.undone_ever + undone }
 
-        again-is : AreSentAgain old rebuilt again
-        again-is = made again all each
-
         placed : AreRecordsReplaced old.outside old.down (λ m. slice_index_or rebuilt m (blank old.outside)) old.members members
         placed = (rw same-down at put)
 
@@ -214,7 +211,7 @@ module _ {S N : Type 0} {next : Next S N} {old now : GroupRecord S N} {rebuilt :
         -- a channel with an end that was down has what its sender sends again
         resent_on : (q p : ℕ) → IsDown (knowledge old) q ⊎ IsDown (knowledge old) p → q < old.config.members → p < old.config.members
             → channel new q p ≡ resent_to old.config.f q p (member new q) (member new p)
-        resent_on q p down below_q below_p = grind (arith, remade.each q p, again-is q p, works q, works p)
+        resent_on q p down below_q below_p = grind (arith, remade.each q p, made again all each q p, works q, works p)
 
         -- the others stay
         survive : (q p : ℕ) → IsUp (knowledge old) q → IsUp (knowledge old) p → channel new q p ≡ channel old q p
@@ -225,7 +222,7 @@ module _ {S N : Type 0} {next : Next S N} {old now : GroupRecord S N} {rebuilt :
         counted = sum_below-agree old.config.members _ _ (λ q below_q. sum_below-agree old.config.members _ _ (λ p below_p. one q p below_q below_p)) where
           one : (q p : ℕ) → q < old.config.members → p < old.config.members
               → length (channel_in again q p) ≡ cond (set.contains old.down q || set.contains old.down p) (length (channel new q p)) 0
-          one q p below_q below_p = grind (arith, remade.each q p, again-is q p)
+          one q p below_q below_p = grind (arith, remade.each q p, made again all each q p)
 
         marks_left : length (receipts (marks new)) ≡ length (receipts (map mark_of left))
         marks_left = ap (λ (es : List (Event N)). length (receipts (map mark_of es))) cut-left

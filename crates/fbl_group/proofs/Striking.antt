@@ -1,17 +1,19 @@
 -- Strikes and checkpoints: when a strike is refused, what they leave, and the theorem.
-use Rattle.fbl_group.proofs.Common.{◌≡◌, ◌≢◌, ℕ, suc, ◌<◌, ◌≤◌, ◌==◌, ◌||◌, true, false, cond, List, [], ◌∷◌, length, map, None, refl, sym, ◌∙◌, arith, nat_lt, count_by, slice_index_or}
-use Rattle.fbl_group.proofs.Common.{nat_tests, get_or_default, get_or_past, sum_by-cons, Determinant, Event, mark_of, Members, Next, MemberRecord, blank, IsUp, GroupRecord, channel}
-use Rattle.fbl_group.proofs.Common.{marks, knowledge, IsSound, IsStrike, AreReplaced, lost_receipts, filter, not, receipts, is_lost_receipt_of, Message, no_orphan, nat_cmp, eq_by_cmp}
-use Rattle.fbl_group.proofs.Common.{unsigned_tied, nat_cmp_total, false≢true, true_from_ne_false, ◌↔◌, Any-from_list_any, list_any-from_Any, AllPass-from_list_all, list_all-from_AllPass}
-use Rattle.fbl_group.proofs.Common.{receipt_of, Has, itself, AllBelow, eqb-self, is_recorded, group_strike_keeps, recorded_test, is_within, strike_refusal, AreRecordsReplaced, get_or}
-use Rattle.fbl_group.proofs.Common.{slice_set, IsCheckpoint, sound_holds_each_receipt, recovery_leaves_recorded}
+pub use Rattle.fbl_group.proofs.Common.{◌≡◌, ℕ, suc, ◌<◌, ◌≤◌, ◌==◌, ◌||◌, true, false, cond, List, [], ◌∷◌, length, map, None, refl, sym, ◌∙◌, arith, nat_lt, count_by}
+pub use Rattle.fbl_group.proofs.Common.{slice_index_or, nat_tests, get_or_default, get_or_past, sum_by-cons, Determinant, Event, mark_of, Members, Next, MemberRecord}
+pub use Rattle.fbl_group.proofs.Common.{blank, IsUp, GroupRecord, channel, marks, knowledge, IsSound, IsStrike, AreReplaced, lost_receipts, filter, not, receipts}
+pub use Rattle.fbl_group.proofs.Common.{is_lost_receipt_of, Message, no_orphan, nat_cmp, eq_by_cmp, unsigned_tied, nat_cmp_total, false≢true, true_from_ne_false, ◌↔◌}
+pub use Rattle.fbl_group.proofs.Common.{Any-from_list_any, list_any-from_Any, AllPass-from_list_all, list_all-from_AllPass, receipt_of, Has, itself, AllBelow, eqb-self}
+pub use Rattle.fbl_group.proofs.Common.{is_recorded, group_strike_keeps, recorded_test, is_within, strike_refusal, AreRecordsReplaced, get_or, slice_set, IsCheckpoint}
+pub use Rattle.fbl_group.proofs.Common.{sound_holds_each_receipt, recovery_leaves_recorded, cut-undone, group_recovery_gains_holders, subst, group_checkpoint_keeps, ap}
+pub use Rattle.fbl_group.proofs.Common.{trace_fits}
 use Rattle.std.specs.FinSet as set
 use Rattle.fbl_base.specs.declared.trace.Event.TheVariants as event
 use Rattle.std.specs.Prelude.{Bool}
 use Rattle.fbl_group.proofs.Recovering.{read_at}
 use Rattle.fbl_group.specs.declared.answers.Recovered.{Recovered}
 use Rattle.fbl_group.specs.Strikes.{Recovers}
-use Rattle.fbl_group.specs.Theorem.{AreStruck, HasNoOrphan, IsRecoverable, Restores}
+use Rattle.fbl_group.specs.Theorem.{AreStruck, IsRecoverable, Restores}
 use Rattle.fbl_group.specs.Theorem.AreStruck.{nobody, and_these}
 
 -- the test of who is below n
@@ -33,14 +35,6 @@ below-within s n below = list_all-from_AllPass (λ m. nat_lt m n) (set.items s) 
 pub within-tested : (s : Members) (n : ℕ) (b : Bool) → (b ≡ true) ↔ AllBelow s n → b ≡ is_within s n
 within-tested s n true is = sym (below-within s n (is.0 refl))
 within-tested s n false is = grind (arith, within-below s n)
-
-module _ {S N : Type 0} where
-  -- a strike of some members of the group is allowed where with those that are down they are few
-  pub is_allowed : (struck : Members) {r now : GroupRecord S N} → r ≡ now → {n : ℕ} → n ≡ r.config.members → AllBelow struck n → set.len struck ≢ 0
-      → {both : Members} → both ≡ set.union r.down struck → set.len both ≤ r.config.f → strike_refusal now struck ≡ None
-  is_allowed struck {r = r} view {n = n} all below some joined few =
-      let inside : is_within struck r.config.members ≡ true = rw (← all) (below-within struck n below) in
-      rw (← view) grind (arith, nat_tests)
 
 -- what a strike that is allowed leaves
 module _ {S N : Type 0} {next : Next S N} {old : GroupRecord S N} {struck down : Members} {members : List (MemberRecord S N)} {channels : List (List (List (Message N)))} (sound : IsSound next old)
@@ -91,13 +85,10 @@ module _ {S N : Type 0} where
 -- a record that is read at the member's place is copied there, in a group as its contract has it
 module _ {S N : Type 0} {next : Next S N} {old now : GroupRecord S N} (sound : IsSound next old) (view : old ≡ now) {p place : ℕ} (is_place : place ≡ p) (below : p < now.config.members)
     (none_down : set.len now.down ≡ 0) {copy read : MemberRecord S N} (same : copy ≡ read) (is : read ≡ get_or old.members place read) where
-  abbrev saved : GroupRecord S N
-  saved = record old { checkpoints = slice_set old.checkpoints place copy }
-
   within : p < old.config.members
   within = rw view below
 
-  pub is_checkpoint : IsCheckpoint now saved p
+  pub is_checkpoint : IsCheckpoint now (record old { checkpoints = slice_set old.checkpoints place copy }) p
   is_checkpoint = rw (← view) (record {
     nobody_down = set.empty_of_len old.down (rw view none_down);
     below = within;
@@ -118,9 +109,6 @@ module _ {S N : Type 0} (next : Next S N) where
   struck_is_sound first sound last (and_these {old} {new} {struck} {answer} before allowed strikes) =
       strike_keeps old last struck allowed strikes.0 (struck_is_sound first sound old before)
 
-  has_no_orphan : (r : GroupRecord S N) → IsSound next r → HasNoOrphan r
-  has_no_orphan r sound m = no_orphan r.config.f (knowledge r) sound.causes.closed m
-
   -- a recovery of a sound group restores it
   pub restores : (old new : GroupRecord S N) (answer : Recovered) → IsSound next old → Recovers next old new answer → Restores next old new
   restores old new answer sound recovers = record {
@@ -133,6 +121,6 @@ module _ {S N : Type 0} (next : Next S N) where
   pub sound_is_recoverable : (r : GroupRecord S N) → IsSound next r → IsRecoverable next r
   sound_is_recoverable r sound = record {
     held = sound_holds_each_receipt S N next r sound;
-    no_orphan = λ struck among. has_no_orphan struck (struck_is_sound r sound struck among);
+    no_orphan = λ struck among. no_orphan struck.config.f (knowledge struck) (struck_is_sound r sound struck among).causes.closed;
     recovery = λ struck new answer among. restores struck new answer (struck_is_sound r sound struck among);
   }

@@ -33,10 +33,14 @@ impl<B: Behaviour, A: Allocator + Copy> Group<B, A> {
         if self.down().count() != 0 {
             return Err(CheckpointRefusal::Down);
         }
-        self.save(member).map_err(|_| CheckpointRefusal::Memory)?;
-        // the group is sound, so that each checkpoint is at the fold of its receipts
-        self.recoverable();
-        Ok(())
+        match self.save(member) {
+            Ok(()) => {
+                // the group is sound, so that each checkpoint is at the fold of its receipts
+                self.recoverable();
+                Ok(())
+            }
+            Err(AllocError) => Err(CheckpointRefusal::Memory),
+        }
     }
 
     /// How many receipts the member's checkpoint has, 0 where none was taken. They are the member's first ones, the

@@ -40,7 +40,6 @@ impl<B: Behaviour, A: Allocator + Copy> Group<B, A> {
 
 /// The starts' sends in their order, each with its sender's next number, and channels with their messages. These carry
 /// nothing.
-#[tactic(auto, using(fbl_member::proofs::Once::carried_once))]
 fn send_starts<N: Content, A: Allocator + Copy>(
     alloc: A,
     config: &Config<N, A>,

@@ -1,5 +1,4 @@
-use Rattle.fbl_group.proofs.Common.{◌∙◌, arith, refl, set-get_or}
-use Rattle.fbl_group.proofs.Recovering.{read_at}
+use Rattle.fbl_group.proofs.Recovering.{◌∙◌, arith, refl, set-get_or, read_at}
 use Rattle.fbl_group.proofs.deliver.take_in.Goals as goal
 
 pub returns-in_err-made-clause-unchanged : goal.returns-in_err-made-clause-unchanged

@@ -1,6 +1,4 @@
-use Rattle.fbl_group.proofs.Common.{◌≡◌, ℕ, ◌+◌, ◌<◌, ◌++◌, ◌∷◌, [], List, Entry, length, get_or, take, refl, resent}
-use Rattle.std.proofs.lemmas.List.{map_more}
-use Rattle.fbl_member.proofs.Once.{IsOnce-piggybacked}
+use Rattle.fbl_group.proofs.Common.{◌≡◌, ℕ, ◌+◌, ◌<◌, ◌++◌, ◌∷◌, [], List, Entry, length, get_or, take, refl, resent, map_more, IsOnce-piggybacked}
 use Rattle.fbl_group.proofs.resend.put_again.Goals as goal
 
 -- one message more

@@ -1,5 +1,5 @@
-use Rattle.fbl_group.proofs.Common.{arith, at_drop_more, refl, sym, ◌∙◌, start_events}
-use Rattle.fbl_group.proofs.Queues.{none-shape, none-in, start-places, start-shape, start-sent}
+use Rattle.fbl_group.proofs.Queues.{ap, arith, length, at_drop_more, refl, sym, ◌∙◌, start_events, drop_of_length-le, IsOnce-none, none-shape, none-in, start-places}
+use Rattle.fbl_group.proofs.Queues.{start-shape, start-sent}
 use Rattle.fbl_group.proofs.start.send_starts.Goals as goal
 
 pub loop-start-init : goal.loop-start-init
@@ -7,13 +7,16 @@ loop-start-init g c =
     let none = rw c.members.ensures.value at c.in_ok-channels.ensures in
     rw c.in_ok-trace.ensures.items (record { so_far = refl; made = c.in_ok-trace.ensures.len; shape = none-shape _ _ none; sent = λ q p. none-in _ _ q p none })
 
-pub send-requires-clause-from : goal.send-requires-clause-from
-send-requires-clause-from g c =
-    rw c.new.ensures (start-places c.members.ensures.rules c.starts-start-items.ensures c.loop-start-test.true c.start-item.is c.loop-start.invariant.shape).0
+pub count_sends-ssn-requires : goal.count_sends-ssn-requires
+count_sends-ssn-requires g c = omega (arith, c.deref.ensures.len, c.loop-start.invariant.made, c.loop-start-test.true, ap length c.starts-start-items.ensures, c.members.ensures.rules.few_starts)
 
-pub send-requires-clause-to : goal.send-requires-clause-to
-send-requires-clause-to g c =
-    rw c.new.ensures (start-places c.members.ensures.rules c.starts-start-items.ensures c.loop-start-test.true c.start-item.is c.loop-start.invariant.shape).1
+pub new-requires : goal.new-requires
+new-requires g c = rw c.none.ensures IsOnce-none
+
+pub send-requires : goal.send-requires
+send-requires g c =
+    let places = start-places c.members.ensures.rules c.starts-start-items.ensures c.loop-start-test.true c.start-item.is c.loop-start.invariant.shape in
+    rw c.new.ensures (record { from = places.0; to = places.1 })
 
 pub loop-start-preserved : goal.loop-start-preserved
 loop-start-preserved g c =
@@ -30,3 +33,10 @@ loop-start-preserved g c =
           start-sent c.members.ensures.rules c.starts-start-items.ensures c.loop-start-test.true c.start-item.is so_far.shape _ (rw number at put) q p
           c.loop-start.trace.items (so_far.sent q p);
     })
+
+pub returns : goal.returns
+returns g c = record {
+  trace = rw (drop_of_length-le _ c.loop-start-test.false, c.starts-start-items.ensures) at c.loop-start.invariant.so_far;
+  shape = c.loop-start.invariant.shape;
+  channels = c.loop-start.invariant.sent;
+}

@@ -1,6 +1,4 @@
-use Rattle.fbl_group.proofs.Common.{blank}
-use Rattle.fbl_group.proofs.Queues.{Turned}
-use Rattle.fbl_group.proofs.Recovering.{IsPut}
+use Rattle.fbl_group.proofs.Recovering.{blank, Turned, IsPut}
 use Rattle.fbl_group.proofs.strike.blank_members.Given as goal
 
 abbrev pub invariant-loop-number : goal.invariant-loop-number

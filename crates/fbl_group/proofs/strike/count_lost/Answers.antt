@@ -1,6 +1,4 @@
-use Rattle.fbl_group.proofs.Common.{arith, take, is_lost_receipt_of, count_by_more_yes, count_by_more_no}
-use Rattle.std.proofs.lemmas.List.{length-take, take_all}
-use Rattle.std.proofs.lemmas.List.Sums.{count_by-le-length}
+use Rattle.fbl_group.proofs.Common.{arith, take, is_lost_receipt_of, count_by_more_yes, count_by_more_no, length-take, take_all, count_by-le-length}
 use Rattle.fbl_group.proofs.strike.count_lost.Goals as goal
 
 pub overflow_add-lost : goal.overflow_add-lost

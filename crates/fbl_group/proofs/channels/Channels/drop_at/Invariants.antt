@@ -1,5 +1,4 @@
-use Rattle.fbl_group.proofs.Common.{[], rows}
-use Rattle.fbl_group.proofs.Queues.{Replacing}
+use Rattle.fbl_group.proofs.Queues.{[], rows, Replacing}
 use Rattle.fbl_group.proofs.channels.Channels.drop_at.Given as goal
 
 abbrev pub invariant-loop-sender : goal.invariant-loop-sender

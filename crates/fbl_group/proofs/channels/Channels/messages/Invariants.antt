@@ -2,7 +2,4 @@ use Rattle.fbl_group.proofs.Common.{◌≡◌, ◌≤◌, ◌*◌, length, chann
 use Rattle.fbl_group.proofs.channels.Channels.messages.Given as goal
 
 abbrev pub invariant-loop-number : goal.invariant-loop-number
-invariant-loop-number g l = record {
-  counted : l.messages ≡ sum_below l.number (λ q. sum_below l.n (λ p. length (channel_in (rows l.self) q p)));
-  few : l.messages ≤ l.number * 131072;
-}
+invariant-loop-number g l = (l.messages ≡ sum_below l.number (λ q. sum_below l.n (λ p. length (channel_in (rows l.self) q p)))) × (l.messages ≤ l.number * 131072)

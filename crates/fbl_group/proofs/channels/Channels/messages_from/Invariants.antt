@@ -2,7 +2,4 @@ use Rattle.fbl_group.proofs.Common.{◌≡◌, ◌≤◌, ◌*◌, length, chann
 use Rattle.fbl_group.proofs.channels.Channels.messages_from.Given as goal
 
 abbrev pub invariant-loop-number : goal.invariant-loop-number
-invariant-loop-number g l = record {
-  counted : l.messages ≡ sum_below l.number (λ p. length (channel_in (rows l.self) l.from p));
-  few : l.messages ≤ l.number * 8192;
-}
+invariant-loop-number g l = record { counted : l.messages ≡ sum_below l.number (λ p. length (channel_in (rows l.self) l.from p)); few : l.messages ≤ l.number * 8192 }

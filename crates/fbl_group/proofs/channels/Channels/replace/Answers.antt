@@ -1,6 +1,5 @@
-use Rattle.fbl_group.proofs.Common.{◌≡◌, ◌||◌, inr, refl, ap, ◌∙◌, arith, deque_items}
+use Rattle.fbl_group.proofs.Queues.{◌≡◌, ◌||◌, inr, refl, ap, ◌∙◌, arith, deque_items, found, in-channels, replacing-kept, replacing-other, within_row}
 use Rattle.std.specs.FinSet as set
-use Rattle.fbl_group.proofs.Queues.{found, in-channels, replacing-kept, replacing-other, within_row}
 use Rattle.fbl_group.proofs.channels.Channels.replace.Goals as goal
 
 pub index_mut-requires-then-has_either : goal.index_mut-requires-then-has_either

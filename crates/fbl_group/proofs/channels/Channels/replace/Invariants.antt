@@ -1,5 +1,4 @@
-use Rattle.fbl_group.proofs.Common.{channel_in, rows}
-use Rattle.fbl_group.proofs.Queues.{Replacing}
+use Rattle.fbl_group.proofs.Queues.{channel_in, rows, Replacing}
 use Rattle.fbl_group.proofs.channels.Channels.replace.Given as goal
 
 abbrev pub invariant-loop-sender : goal.invariant-loop-sender

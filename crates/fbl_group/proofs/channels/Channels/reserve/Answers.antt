@@ -1,5 +1,4 @@
-use Rattle.fbl_group.proofs.Common.{◌∙◌}
-use Rattle.fbl_group.proofs.Queues.{found, reads}
+use Rattle.fbl_group.proofs.Queues.{◌∙◌, found, reads}
 use Rattle.fbl_group.proofs.channels.Channels.reserve.Goals as goal
 
 pub returns : goal.returns

@@ -1,5 +1,4 @@
-use Rattle.fbl_group.proofs.Common.{◌++◌, ◌∷◌, [], ap, ◌∙◌}
-use Rattle.fbl_group.proofs.Queues.{found}
+use Rattle.fbl_group.proofs.Queues.{◌++◌, ◌∷◌, [], ap, ◌∙◌, found}
 use Rattle.fbl_group.proofs.channels.Channels.send.Goals as goal
 
 pub returns : goal.returns

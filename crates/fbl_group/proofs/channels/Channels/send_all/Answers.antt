@@ -1,8 +1,26 @@
-use Rattle.fbl_group.proofs.Common.{◌≡◌, ◌+◌, ◌-◌, ◌++◌, ◌∷◌, [], List, length, map, get_or, sym, ap, ◌∙◌, arith, append_assoc, into_iter_items, Event, Message, rows}
-use Rattle.fbl_group.proofs.Common.{rooms, with_sent, send_of_message}
+use Rattle.fbl_group.proofs.Queues.{◌≡◌, ◌+◌, ◌-◌, ◌++◌, ◌∷◌, [], List, length, map, get_or, refl, sym, ap, ◌∙◌, arith, append-nil, append_assoc, into_iter_items, Event}
+use Rattle.fbl_group.proofs.Queues.{Message, rows, rooms, with_sent, send_of_message, Sending, sending-more, found, within_row}
 use Rattle.std.specs.VecDeque.{deque_len, deque_capacity}
-use Rattle.fbl_group.proofs.Queues.{Sending, sending-more, found, within_row}
+use Rattle.std.proofs.lemmas.List.{nil_from_length}
 use Rattle.fbl_group.proofs.channels.Channels.send_all.Goals as goal
+
+pub loop-wire-init : goal.loop-wire-init
+loop-wire-init g c = rw c.into_iter-wire-iterator.ensures.into_iter_gives.0 (record {
+  sending = record { from = c.requires.from; channels = refl; receivers = c.requires.receivers; fits = c.requires.room };
+  trace = refl;
+  trace_room = omega (arith, c.requires.trace, c.args.wires.ok.0);
+})
+
+pub push_reserved-requires : goal.push_reserved-requires
+push_reserved-requires g c = omega (arith, c.loop-wire.invariant.trace_room, ap length c.in-Some.ensures.steps.0)
+
+pub returns : goal.returns
+returns g c =
+    let none : into_iter_items c.loop-wire.wire-iterator ≡ [] = nil_from_length _ (sym c.loop-wire.wire-iterator.rest.ok.0 ∙ c.in-None.ensures.steps.0) in
+    record {
+      channels = (rw none at c.loop-wire.invariant.sending).channels;
+      trace = sym (append-nil _) ∙ ap (λ (vs : List (Message _)). c.loop-wire.trace.items ++ map send_of_message vs) (sym none) ∙ c.loop-wire.invariant.trace;
+    }
 
 pub index_mut-requires-in-loop-wire : goal.index_mut-requires-in-loop-wire
 index_mut-requires-in-loop-wire g c =
@@ -31,8 +49,6 @@ loop-wire-preserved g c =
     let one_less : left + 1 ≡ get_or (get_or (rooms c.loop-wire.self) c.args.from []) w.to 0 =
     omega (arith, channel.room, so_far.fits 0 w (omega arith), c.push_back_reserved.ensures.len, c.push_back_reserved.ensures.capacity) in
     record {
-      can = c.loop-wire.invariant.can;
-      finite = c.loop-wire.invariant.finite;
       sending = rw (channel.changed c.push_back_reserved.new.self (c.push_back_reserved.ensures.items ∙ ap (λ vs. vs ++ w ∷ []) channel.messages), channel.room_set c.push_back_reserved.new.self)
           (sending-more left so_far channel.in_room one_less);
       trace =

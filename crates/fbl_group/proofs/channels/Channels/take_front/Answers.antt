@@ -1,5 +1,4 @@
-use Rattle.fbl_group.proofs.Common.{drop, ap, ◌∙◌, arith, get_or-set_other}
-use Rattle.fbl_group.proofs.Queues.{found}
+use Rattle.fbl_group.proofs.Queues.{drop, ap, ◌∙◌, arith, get_or-set_other, found}
 use Rattle.fbl_group.proofs.channels.Channels.take_front.Goals as goal
 
 pub returns : goal.returns

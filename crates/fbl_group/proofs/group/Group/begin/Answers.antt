@@ -1,6 +1,4 @@
-use Rattle.fbl_group.proofs.Common.{arith, made-more, ap, ◌∙◌, List, Entry, member_checkpoint}
-use Rattle.fbl_group.proofs.Recovering.{all-done, begun, none-replayed}
-use Rattle.fbl_member.proofs.Made.{made_none}
+use Rattle.fbl_group.proofs.Recovering.{arith, made-more, ap, ◌∙◌, List, Entry, member_checkpoint, made_none, all-done, begun, none-replayed}
 use Rattle.fbl_group.proofs.group.Group.begin.Goals as goal
 
 pub loop-number-init : goal.loop-number-init
@@ -16,10 +14,7 @@ loop-number-preserved g c =
       left = λ p past down. c.begin_one.ensures.left p (omega (arith, past, c.at-member.ensures)) down ∙ so_far.left p (omega (arith, past)) down;
     }
 
-pub returns-clause-replaying : goal.returns-clause-replaying
-returns-clause-replaying g c =
-    begun c.recoverable.ensures.sound (all-done c.loop-number-test.false c.loop-number.auto.number-end c.size-number-end.ensures.value) c.loop-number.invariant.made
-
-pub returns-clause-none : goal.returns-clause-none
-returns-clause-none g c =
-    none-replayed c.recoverable.ensures.sound (all-done c.loop-number-test.false c.loop-number.auto.number-end c.size-number-end.ensures.value) c.loop-number.invariant.made
+pub returns : goal.returns
+returns g c =
+    let all = all-done c.loop-number-test.false c.loop-number.auto.number-end c.size-number-end.ensures.value in
+    record { replaying = begun c.recoverable.ensures.sound all c.loop-number.invariant.made; none = none-replayed c.recoverable.ensures.sound all c.loop-number.invariant.made }

@@ -4,11 +4,10 @@ use Rattle.fbl_group.proofs.group.Group.crash.Goals as goal
 -- the recovery takes no receipt that is left from anybody who held it before the strike: a survivor holds it still, and who is down gets it
 pub returns-in-Ok-clause-holders : goal.returns-in-Ok-clause-holders
 returns-in-Ok-clause-holders g c d m left holds =
-    let struck = c.in_ok-struck.ensures.struck.1.0 in
     let gains = c.in-Ok.ensures.holders d m in
     elim (down_or_up c.strike.new.self.down m) [
       | inl is ↦ gains.1 (inr (is, ((c.in-Ok.ensures.restored.left.exactly d).0 left).1))
-      | inr up ↦ gains.1 (inl (up, rw (struck.survivors m up, table) holds.1))
+      | inr up ↦ gains.1 (inl (up, rw (c.in_ok-struck.ensures.struck.1.0.survivors m up, table) holds.1))
     ]
 
 pub returns-in-Ok-clause-crashed : goal.returns-in-Ok-clause-crashed

@@ -1,5 +1,5 @@
 use Rattle.fbl_group.proofs.Common.{◌++◌, ◌∙◌, List, ap, sym, refl, length, map, subst, at_drop_more, gathered_all, saved_tables, MemberRecord, IsSound, GroupRecord}
-use Rattle.std.proofs.Math.ListN.{drop_of_length-le}
+use Rattle.fbl_group.proofs.Common.{drop_of_length-le}
 use Rattle.fbl_group.proofs.group.Group.gather_tables.Goals as goal
 
 pub loop-record-preserved : goal.loop-record-preserved
@@ -15,7 +15,6 @@ pub returns : goal.returns
 returns g c =
     let r = c.args.self.now in
     let sound = subst (IsSound g.B.Behaviour.next) c.self.view_is c.self.invariant in
-    let none = drop_of_length-le c.deref-record-items.result.now c.loop-record-test.false in
-    let all = rw none at c.loop-record.invariant in
+    let all = rw (drop_of_length-le c.deref-record-items.result.now c.loop-record-test.false) at c.loop-record.invariant in
     let down = ap (λ (x : GroupRecord _ _). x.down) c.self.view_is in
     rw (c.mark_all.ensures, c.in_ok-gather_saved.ensures, down, ← sound.checkpoints, all) refl

@@ -1,5 +1,4 @@
-use Rattle.fbl_group.proofs.Common.{arith}
-use Rattle.fbl_group.proofs.Reading.{held_fits}
+use Rattle.fbl_group.proofs.Reading.{arith, held_fits}
 use Rattle.fbl_group.proofs.group.Group.held.Goals as goal
 
 pub overflow_cast-result : goal.overflow_cast-result

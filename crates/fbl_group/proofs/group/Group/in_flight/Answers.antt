@@ -1,6 +1,5 @@
-use Rattle.fbl_group.proofs.Common.{arith}
 use Rattle.fbl_group.proofs.Queues.{in-channels}
-use Rattle.fbl_group.proofs.Reading.{channel_fits}
+use Rattle.fbl_group.proofs.Reading.{arith, channel_fits}
 use Rattle.fbl_group.proofs.group.Group.in_flight.Goals as goal
 
 pub between-requires : goal.between-requires

@@ -1,6 +1,4 @@
-use Rattle.fbl_group.proofs.Common.{◌∙◌, made-more}
-use Rattle.fbl_group.proofs.Recovering.{all-done}
-use Rattle.fbl_member.proofs.Made.{made_none}
+use Rattle.fbl_group.proofs.Recovering.{◌∙◌, made-more, made_none, all-done}
 use Rattle.fbl_group.proofs.group.Group.number_receipts.Goals as goal
 
 pub loop-number-init : goal.loop-number-init

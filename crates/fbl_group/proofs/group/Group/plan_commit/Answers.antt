@@ -1,6 +1,14 @@
-use Rattle.fbl_group.proofs.Common.{◌≡◌, length, arith, sym, ◌∙◌, false≢true, is_full}
-use Rattle.fbl_group.proofs.Delivering.{is_current, is_fresh, is_planned}
+use Rattle.fbl_group.proofs.Delivering.{◌≡◌, length, arith, sym, ◌∙◌, false≢true, is_full, is_current, is_fresh, is_planned}
 use Rattle.fbl_group.proofs.group.Group.plan_commit.Goals as goal
+
+pub returns-then-count-ne0-clause-refused : goal.returns-then-count-ne0-clause-refused
+returns-then-count-ne0-clause-refused g c = rw (c.count.ensures, c.down.ensures.down) at c.if-count-ne0.true
+
+pub returns-then-size-ticket-clause-refused : goal.returns-then-size-ticket-clause-refused
+returns-then-size-ticket-clause-refused g c = (rw (c.count.ensures, c.down.ensures.down) at c.if-count-ne0.false, λ fresh. c.if-size-ticket.true (c.size.ensures.value ∙ fresh.0))
+
+pub returns-in_default-clause-refused : goal.returns-in_default-clause-refused
+returns-in_default-clause-refused g c = (rw (c.count.ensures, c.down.ensures.down) at c.if-count-ne0.false, λ fresh. (let both = sym c.in_default.ensures.none ∙ fresh.1.1 in cc))
 
 pub returns-then-not-is_current-clause-refused : goal.returns-then-not-is_current-clause-refused
 returns-then-not-is_current-clause-refused g c = (
@@ -22,8 +30,7 @@ returns-then-is_full-clause-refused g c =
 
 pub returns-clause-planned : goal.returns-clause-planned
 returns-clause-planned g c =
-    let told = c.if-not-is_current.false in
-    let current = c.is_current.ensures.0 told in
+    let current = c.is_current.ensures.0 c.if-not-is_current.false in
     let asked : c.is_full.result ≡ is_full c.args.self.now (length c.args.done.now.outcome.sends.items) = grind arith in (
       record {
         nobody_down = grind arith;

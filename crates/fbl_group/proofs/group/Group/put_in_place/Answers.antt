@@ -1,17 +1,16 @@
-use Rattle.fbl_group.proofs.Common.{arith, rows, ap, subst, ◌∙◌, GroupRecord, IsSound, group_recovery_keeps}
-use Rattle.fbl_group.proofs.Recovering.{fits-few, size, short-again, fewer, undone-few, undone-fits, recovers}
+use Rattle.fbl_group.proofs.Recovering.{arith, rows, ap, subst, ◌∙◌, GroupRecord, IsSound, group_recovery_keeps, size, short-again, fewer, undone-few}
+use Rattle.fbl_group.proofs.Recovering.{undone-fits, recovers}
 use Rattle.fbl_group.proofs.group.Group.put_in_place.Goals as goal
 
 pub messages-resent-requires : goal.messages-resent-requires
-messages-resent-requires g c =
-    record {
-      shape = rw (c.members-n.ensures.value ∙ ap (λ (r : GroupRecord _ _). r.config.members) c.self.view_is) c.in_ok-again.ensures.shape;
-      few = short-again c.self.invariant c.self.view_is c.requires.ready (rows c.in_ok-again.again) c.members-n.ensures.value (rw c.as_slice.ensures.value at c.in_ok-again.ensures.each);
-      members = rw c.members-n.ensures.value c.self.invariant.config.members.1;
-    }
+messages-resent-requires g c = record {
+  shape = rw (c.members-n.ensures.value ∙ ap (λ (r : GroupRecord _ _). r.config.members) c.self.view_is) c.in_ok-again.ensures.shape;
+  few = short-again c.self.invariant c.self.view_is c.requires.ready (rows c.in_ok-again.again) c.members-n.ensures.value (rw c.as_slice.ensures.value at c.in_ok-again.ensures.each);
+  members = rw c.members-n.ensures.value c.self.invariant.config.members.1;
+}
 
 pub overflow_cast-resent : goal.overflow_cast-resent
-overflow_cast-resent g c = fits-few c.messages-resent.ensures.few
+overflow_cast-resent g c = omega (arith, c.messages-resent.ensures.few)
 
 pub overflow_sub-undone : goal.overflow_sub-undone
 overflow_sub-undone g c =
@@ -19,20 +18,18 @@ overflow_sub-undone g c =
     c.receipt_count-before.ensures c.count_receipts.ensures c.as_slice-2.ensures.value
 
 pub put_back-requires : goal.put_back-requires
-put_back-requires g c =
-    record {
-      members = omega (arith, c.self.inside.members.ok.0, c.self.invariant.members, c.members-n.ensures.value);
-      records = omega (arith, c.args.rebuilt.now.records.ok.0, size c.self.invariant c.self.view_is c.requires.ready, c.members-n.ensures.value);
-      few = rw c.members-n.ensures.value c.self.invariant.config.members.1;
-    }
+put_back-requires g c = record {
+  members = omega (arith, c.self.inside.members.ok.0, c.self.invariant.members, c.members-n.ensures.value);
+  records = omega (arith, c.args.rebuilt.now.records.ok.0, size c.self.invariant c.self.view_is c.requires.ready, c.members-n.ensures.value);
+  few = rw c.members-n.ensures.value c.self.invariant.config.members.1;
+}
 
 pub replace-requires : goal.replace-requires
-replace-requires g c =
-    record {
-      shape = rw c.members-n.ensures.value c.self.invariant.shape;
-      again = rw (c.members-n.ensures.value ∙ ap (λ (r : GroupRecord _ _). r.config.members) c.self.view_is) c.in_ok-again.ensures.shape;
-      few = rw c.members-n.ensures.value c.self.invariant.config.members.1;
-    }
+replace-requires g c = record {
+  shape = rw c.members-n.ensures.value c.self.invariant.shape;
+  again = rw (c.members-n.ensures.value ∙ ap (λ (r : GroupRecord _ _). r.config.members) c.self.view_is) c.in_ok-again.ensures.shape;
+  few = rw c.members-n.ensures.value c.self.invariant.config.members.1;
+}
 
 pub overflow_add-self : goal.overflow_add-self
 overflow_add-self g c =

@@ -1,6 +1,5 @@
 use Rattle.std.specs.FinSet as set
-use Rattle.fbl_group.proofs.Common.{arith, cut-undone, group_recovery_gains_holders}
-use Rattle.fbl_group.proofs.Striking.{restores}
+use Rattle.fbl_group.proofs.Striking.{arith, cut-undone, group_recovery_gains_holders, restores}
 use Rattle.fbl_group.proofs.group.Group.recover.Goals as goal
 
 pub returns-in-Ok-clause-restored : goal.returns-in-Ok-clause-restored

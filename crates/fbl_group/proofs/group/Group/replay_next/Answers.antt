@@ -1,5 +1,4 @@
-use Rattle.fbl_group.proofs.Common.{◌∙◌, arith, replaying-next, replaying-room}
-use Rattle.fbl_group.proofs.Recovering.{is-record, replays-one}
+use Rattle.fbl_group.proofs.Recovering.{◌∙◌, arith, replaying-next, replaying-room, is-record, replays-one}
 use Rattle.fbl_group.proofs.group.Group.replay_next.Goals as goal
 
 pub index_mut-record-requires : goal.index_mut-record-requires

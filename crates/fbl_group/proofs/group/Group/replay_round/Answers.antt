@@ -1,5 +1,4 @@
-use Rattle.fbl_group.proofs.Common.{arith, replayed_in-short}
-use Rattle.fbl_group.proofs.Recovering.{all-done, one-at-most, round-step, round-up}
+use Rattle.fbl_group.proofs.Recovering.{arith, replayed_in-short, all-done, one-at-most, round-step, round-up}
 use Rattle.fbl_group.proofs.group.Group.replay_round.Goals as goal
 
 pub overflow_add-replayed : goal.overflow_add-replayed
@@ -17,6 +16,4 @@ loop-number-preserved g c =
     ]
 
 pub returns : goal.returns
-returns g c =
-    let same = all-done c.loop-number-test.false c.loop-number.auto.number-end c.size-number-end.ensures.value in
-    rw same at c.loop-number.invariant
+returns g c = rw (all-done c.loop-number-test.false c.loop-number.auto.number-end c.size-number-end.ensures.value) at c.loop-number.invariant

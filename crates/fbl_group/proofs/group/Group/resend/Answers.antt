@@ -1,7 +1,4 @@
-use Rattle.fbl_group.proofs.Common.{map, sym, ap, ◌∙◌, deque_items, length-map, working, sent_again}
-use Rattle.fbl_group.proofs.Queues.{made-mapped}
-use Rattle.fbl_group.proofs.Recovering.{all-done}
-use Rattle.fbl_member.proofs.Made.{made_none}
+use Rattle.fbl_group.proofs.Recovering.{map, sym, ap, ◌∙◌, deque_items, length-map, working, sent_again, made_none, made-mapped, all-done}
 use Rattle.fbl_group.proofs.group.Group.resend.Goals as goal
 
 pub loop-number-init : goal.loop-number-init
@@ -9,11 +6,10 @@ loop-number-init g c = rw c.new-rows.ensures.items (made_none _ _)
 
 pub loop-number-preserved : goal.loop-number-preserved
 loop-number-preserved g c =
-    let member = c.at-from.ensures in
     rw c.in_ok-push.ensures.items (made-mapped (λ row. map deque_items row.items) _ _ c.loop-number.invariant (
       length-map c.in_ok-resend_from.field-0.items deque_items ∙ sym c.in_ok-resend_from.field-0.ok.0 ∙ c.in_ok-resend_from.ensures.size,
       λ p below. c.in_ok-resend_from.ensures.each p below
-          ∙ ap (λ k. sent_again c.args.self.now.config.f c.args.self.now.down (working c.args.self.now c.args.rebuilt.now) k p) member,
+          ∙ ap (λ k. sent_again c.args.self.now.config.f c.args.self.now.down (working c.args.self.now c.args.rebuilt.now) k p) c.at-from.ensures,
     ))
 
 pub returns : goal.returns

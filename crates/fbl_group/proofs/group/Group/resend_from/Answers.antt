@@ -1,7 +1,4 @@
-use Rattle.fbl_group.proofs.Common.{◌≡◌, sym, ap, ◌∙◌, deque_items, length-map, working, sent_again}
-use Rattle.fbl_group.proofs.Queues.{made-mapped}
-use Rattle.fbl_group.proofs.Recovering.{all-done}
-use Rattle.fbl_member.proofs.Made.{made_none}
+use Rattle.fbl_group.proofs.Recovering.{◌≡◌, sym, ap, ◌∙◌, deque_items, length-map, working, sent_again, made_none, made-mapped, all-done}
 use Rattle.fbl_group.proofs.group.Group.resend_from.Goals as goal
 
 pub loop-number-init : goal.loop-number-init

@@ -1,12 +1,38 @@
-use Rattle.fbl_group.proofs.Common.{◌<◌, ◌≡◌, length, vec_len, arith, rules, refl, ap, subst, ◌∙◌, room_in, IsSound, group_delivery_keeps}
-use Rattle.std.proofs.Common.{Option, Some, None, IfNone, IsSome}
-use Rattle.fbl_group.proofs.Queues.{length-messages, made-fits}
+use Rattle.std.proofs.Common.{◌<◌, ◌≡◌, length, vec_len, arith, rules, refl, ap, subst, ◌∙◌, Option, Some, None, IfNone, IsSome, Result, Ok, Err, OnErr}
+use Rattle.fbl_group.proofs.Queues.{room_in, IsSound, group_delivery_keeps, length-messages, made-fits}
 use Rattle.fbl_group.proofs.Delivering as planning
 use Rattle.fbl_group.proofs.group.Group.settle.Goals as goal
 
-pub reserve_from-requires-clause-receivers : goal.reserve_from-requires-clause-receivers
-reserve_from-requires-clause-receivers g c =
-    planning.receivers_in g.met.B.Behaviour.laws.sends c.self.invariant c.self.view_is c.requires refl c.as_slice-sends.ensures.value
+on_err : {T E P : Type 0} (r : Result T E) → P → OnErr r P
+on_err (Ok x) p = tt
+on_err (Err e) p = p
+
+pub reserve_from-requires : goal.reserve_from-requires
+reserve_from-requires g c = record {
+  from = omega (arith, c.self.invariant.shape.senders, rw (← c.self.view_is) at c.requires.to_member);
+  receivers = planning.receivers_in g.met.B.Behaviour.laws.sends c.self.invariant c.self.view_is c.requires refl c.as_slice-sends.ensures.value;
+}
+
+pub front-requires : goal.front-requires
+front-requires g c = record {
+  from = rw c.reserve_from.ensures.same (omega (arith, c.self.invariant.shape.senders, rw (← c.self.view_is) at c.requires.from_member));
+  to = rw c.reserve_from.ensures.same (rw (← c.self.view_is) at c.requires.channel);
+}
+
+pub push_reserved-requires : goal.push_reserved-requires
+push_reserved-requires g c = omega (arith, c.in_ok-reserve.ensures.ok)
+
+pub invariant_of-self : goal.invariant_of-self
+invariant_of-self g c = rw c.reserve.ensures.items c.self.invariant
+
+pub returns-in_err-reserve-clause-unchanged : goal.returns-in_err-reserve-clause-unchanged
+returns-in_err-reserve-clause-unchanged g c = on_err c.from_residual.result (rw c.reserve.ensures.items c.self.view_is)
+
+pub invariant_of-self-in_err-reserve_from : goal.invariant_of-self-in_err-reserve_from
+invariant_of-self-in_err-reserve_from g c = rw (c.reserve_from.ensures.same, c.reserve.ensures.items) c.self.invariant
+
+pub returns-in_err-reserve_from-clause-unchanged : goal.returns-in_err-reserve_from-clause-unchanged
+returns-in_err-reserve_from-clause-unchanged g c = on_err c.from_residual-in_err-reserve_from.result (rw (c.reserve_from.ensures.same, c.reserve.ensures.items) c.self.view_is)
 
 is_some_if : {X P : Type 0} (o : Option X) → ¬ P → IfNone o P → IsSome o
 is_some_if None never h = absurd (never h)
@@ -30,38 +56,31 @@ take_in-requires g c =
     search (rules, place, may)
 
 pub invariant_of-self-in_err-rsn : goal.invariant_of-self-in_err-rsn
-invariant_of-self-in_err-rsn g c =
-    rw (planning.stays g.met.B.Behaviour.laws.sends c.self.invariant c.self.view_is c.requires c.reserve_from.ensures.same
-    c.in_err-rsn.ensures.unchanged c.reserve.ensures.items) c.self.invariant
+invariant_of-self-in_err-rsn g c = rw (c.reserve_from.ensures.same, c.in_err-rsn.ensures.unchanged, c.reserve.ensures.items) c.self.invariant
 
 pub returns-in_err-rsn-clause-unchanged : goal.returns-in_err-rsn-clause-unchanged
-returns-in_err-rsn-clause-unchanged g c =
-    grind (
-      arith,
-      planning.stays g.met.B.Behaviour.laws.sends c.self.invariant c.self.view_is c.requires c.reserve_from.ensures.same
-          c.in_err-rsn.ensures.unchanged c.reserve.ensures.items ∙ c.self.view_is,
-    )
+returns-in_err-rsn-clause-unchanged g c = on_err c.from_residual-in_err-rsn.result (rw (c.reserve_from.ensures.same, c.in_err-rsn.ensures.unchanged, c.reserve.ensures.items) c.self.view_is)
 
-pub take_and_send-requires-clause-receivers : goal.take_and_send-requires-clause-receivers
-take_and_send-requires-clause-receivers g c =
-    planning.sent_in g.met.B.Behaviour.laws.sends c.self.invariant c.self.view_is c.requires c.reserve_from.ensures.same _ _ c.in_ok-rsn.ensures.taken.sent
-
-pub take_and_send-requires-clause-room : goal.take_and_send-requires-clause-room
-take_and_send-requires-clause-room g c =
-    made-fits (λ k. room_in c.reserve_from.new.self c.args.done.now.ticket.to k) c.args.done.now.ticket.to _ _
-    c.as_slice-sends.ensures.value c.in_ok-rsn.ensures.taken.sent c.in_ok-reserve_from.ensures.room
-
-pub take_and_send-requires-clause-trace : goal.take_and_send-requires-clause-trace
-take_and_send-requires-clause-trace g c =
+pub take_and_send-requires : goal.take_and_send-requires
+take_and_send-requires g c =
     let count : length c.in_ok-rsn.made.items ≡ length c.args.done.now.outcome.sends.items = ap length c.in_ok-rsn.ensures.taken.sent ∙ length-messages _ _ _ c.args.done.now.outcome.sends.items in
     let given : length c.as_slice-sends.result.now ≡ length c.args.done.now.outcome.sends.items = ap length c.as_slice-sends.ensures.value in
-    omega (arith, c.in_ok-rsn.made.ok.0, count, given, c.push_reserved.ensures.len, c.push_reserved.ensures.capacity, c.in_ok-reserve.ensures.ok)
+    record {
+      from = rw c.reserve_from.ensures.same (omega (arith, c.self.invariant.shape.senders, rw (← c.self.view_is) at c.requires.from_member));
+      to = rw c.reserve_from.ensures.same (omega (arith, c.self.invariant.shape.senders, rw (← c.self.view_is) at c.requires.to_member));
+      channel = rw c.reserve_from.ensures.same (rw (← c.self.view_is) at c.requires.channel);
+      apart = c.requires.apart;
+      receivers = planning.sent_in g.met.B.Behaviour.laws.sends c.self.invariant c.self.view_is c.requires c.reserve_from.ensures.same _ _ c.in_ok-rsn.ensures.taken.sent;
+      room =
+          made-fits (λ k. room_in c.reserve_from.new.self c.args.done.now.ticket.to k) c.args.done.now.ticket.to _ _
+          c.as_slice-sends.ensures.value c.in_ok-rsn.ensures.taken.sent c.in_ok-reserve_from.ensures.room;
+      trace = omega (arith, c.in_ok-rsn.made.ok.0, count, given, c.push_reserved.ensures.len, c.push_reserved.ensures.capacity, c.in_ok-reserve.ensures.ok);
+    }
 
 pub overflow_add-self : goal.overflow_add-self
 overflow_add-self g c =
     let room = planning.room g.met.B.Behaviour.laws.sends c.self.invariant c.self.view_is c.requires in
-    let ranges = c.self.ranges in
-    omega (arith, room.1, ranges.1.1.1.1.1.1.0.1)
+    omega (arith, room.1, c.self.ranges.1.1.1.1.1.1.0.1)
 
 pub returns-clause-delivered : goal.returns-clause-delivered
 returns-clause-delivered g c =
@@ -73,18 +92,3 @@ pub invariant_of-self-2 : goal.invariant_of-self-2
 invariant_of-self-2 g c =
     group_delivery_keeps g.B.Behaviour.next _ _ _ g.met.B.Behaviour.laws.sends (returns-clause-delivered g c).delivery
     (subst (IsSound g.B.Behaviour.next) c.self.view_is c.self.invariant)
-
-pub take_and_send-requires-clause-from : goal.take_and_send-requires-clause-from
-take_and_send-requires-clause-from g c =
-    let from = rw (← c.self.view_is) at c.requires.from_member in
-    rw c.reserve_from.ensures.same (omega (arith, c.self.invariant.shape.senders, from))
-
-pub take_and_send-requires-clause-to : goal.take_and_send-requires-clause-to
-take_and_send-requires-clause-to g c =
-    let to = rw (← c.self.view_is) at c.requires.to_member in
-    rw c.reserve_from.ensures.same (omega (arith, c.self.invariant.shape.senders, to))
-
-pub take_and_send-requires-clause-channel : goal.take_and_send-requires-clause-channel
-take_and_send-requires-clause-channel g c =
-    let channel = rw (← c.self.view_is) at c.requires.channel in
-    rw c.reserve_from.ensures.same channel

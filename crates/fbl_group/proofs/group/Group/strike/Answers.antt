@@ -1,5 +1,4 @@
-use Rattle.fbl_group.proofs.Common.{◌∙◌, length, ap, arith, trace_fits}
-use Rattle.fbl_group.proofs.Striking.{is_strike, strike_keeps, count-lost}
+use Rattle.fbl_group.proofs.Striking.{◌∙◌, length, ap, arith, trace_fits, is_strike, strike_keeps, count-lost}
 use Rattle.fbl_group.proofs.group.Group.strike.Goals as goal
 
 pub invariant_of-self : goal.invariant_of-self

@@ -4,8 +4,7 @@ use Rattle.fbl_group.proofs.group.Group.sum_of_states.Goals as goal
 
 pub loop-number-preserved : goal.loop-number-preserved
 loop-number-preserved g c =
-    let r = c.args.self.now in
-    let asked : set.contains r.down c.loop-number.number ≡ c.has.result = cc in
+    let asked : set.contains c.args.self.now.down c.loop-number.number ≡ c.has.result = cc in
     elim c.if-not-has.branch [
       | goal.then-not-has w ↦
           rw (w.sum-is, add-one) (record {

@@ -1,6 +1,5 @@
-use Rattle.fbl_group.proofs.Common.{◌∙◌, ap, arith, GroupRecord}
+use Rattle.fbl_group.proofs.Reading.{◌∙◌, ap, arith, GroupRecord, received-twice, unreceived-fly}
 use Rattle.std.specs.FinSet as set
-use Rattle.fbl_group.proofs.Reading.{received-twice, unreceived-fly}
 use Rattle.fbl_group.proofs.group.Group.unreceived.Goals as goal
 
 pub overflow_mul-result : goal.overflow_mul-result

@@ -1,5 +1,4 @@
-use Rattle.fbl_group.proofs.Common.{◌∙◌, sym}
-use Rattle.fbl_group.proofs.Recovering.{read_at}
+use Rattle.fbl_group.proofs.Recovering.{◌∙◌, sym, read_at}
 use Rattle.fbl_group.proofs.group.Group.working.Goals as goal
 
 pub returns-then-has : goal.returns-then-has

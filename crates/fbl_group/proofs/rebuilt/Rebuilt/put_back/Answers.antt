@@ -1,6 +1,5 @@
-use Rattle.fbl_group.proofs.Common.{◌≡◌, ◌∙◌, arith, length-set}
+use Rattle.fbl_group.proofs.Recovering.{◌≡◌, ◌∙◌, arith, length-set, put-down, put-up, replaced-end}
 use Rattle.std.specs.FinSet as set
-use Rattle.fbl_group.proofs.Recovering.{put-down, put-up, replaced-end}
 use Rattle.fbl_group.proofs.rebuilt.Rebuilt.put_back.Goals as goal
 
 pub loop-number-preserved : goal.loop-number-preserved

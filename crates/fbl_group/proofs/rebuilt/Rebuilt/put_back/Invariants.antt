@@ -1,5 +1,4 @@
-use Rattle.fbl_group.proofs.Common.{◌≡◌, length}
-use Rattle.fbl_group.proofs.Recovering.{Putting}
+use Rattle.fbl_group.proofs.Recovering.{◌≡◌, length, Putting}
 use Rattle.fbl_group.proofs.rebuilt.Rebuilt.put_back.Given as goal
 
 abbrev pub invariant-loop-number : goal.invariant-loop-number

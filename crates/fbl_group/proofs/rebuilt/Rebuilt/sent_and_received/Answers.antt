@@ -1,5 +1,4 @@
-use Rattle.fbl_group.proofs.Common.{◌∙◌, ap, length, MemberRecord}
-use Rattle.fbl_group.proofs.Recovering.{read_within, read_past}
+use Rattle.fbl_group.proofs.Recovering.{◌∙◌, ap, length, MemberRecord, read_within, read_past}
 use Rattle.fbl_group.proofs.rebuilt.Rebuilt.sent_and_received.Goals as goal
 
 pub returns-in-Some : goal.returns-in-Some
