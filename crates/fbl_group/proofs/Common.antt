@@ -1,8 +1,8 @@
 -- The names that proofs of this crate take from outside: of the standard library, of the crates below, and of the definitions here.
-pub use Rattle.std.proofs.Common.{All, Bool, Fits, IfSome, List, None, Option, Some, Vec, [], add-one, ap, append-nil, append_assoc, arith, cond, count_by, deque_capacity, deque_items, deque_len}
-pub use Rattle.std.proofs.Common.{drop, false, get_or, inl, inr, length, length-append, map, nat_lt, not, refl, replicate, rules, set, slice_get, slice_index_or, slice_set, subst, suc}
-pub use Rattle.std.proofs.Common.{sym, take, true, vec_capacity, vec_len, w32, w64, zero, ℕ, ◌*◌, ◌++◌, ◌+◌, ◌-◌, ◌<◌, ◌==◌, ◌^◌, ◌||◌, ◌∙◌, ◌∷◌, ◌≡◌, ◌≢◌, ◌≤◌, ◌⊎◌}
-pub use Rattle.std.proofs.Math.ListN.{drop_of_length-le}
+pub use Rattle.std.proofs.Common.{All, Bool, Fits, IfSome, List, None, Option, Some, Vec, [], add-one, ap, append-nil, append_assoc, arith, cond, count_by, deque_capacity}
+pub use Rattle.std.proofs.Common.{deque_items, deque_len, drop, drop_of_length-le, false, get_or, inl, inr, length, length-append, map, nat_lt, not, refl, replicate, rules}
+pub use Rattle.std.proofs.Common.{set, slice_get, slice_index_or, slice_set, subst, suc, sum_by, sym, take, true, vec_capacity, vec_len, w32, w64, zero, ℕ, ◌*◌, ◌++◌, ◌+◌}
+pub use Rattle.std.proofs.Common.{◌-◌, ◌<◌, ◌==◌, ◌^◌, ◌||◌, ◌↔◌, ◌∙◌, ◌∷◌, ◌≡◌, ◌≢◌, ◌≤◌, ◌⊎◌}
 pub use Rattle.std.proofs.lemmas.Bool.{false≢true, true_from_ne_false}
 pub use Rattle.std.proofs.lemmas.Bool.Decides.{nat_tests}
 pub use Rattle.std.proofs.lemmas.Fn.{filter_same}
@@ -14,9 +14,9 @@ pub use Rattle.std.proofs.lemmas.List.Folds.{Any-from_list_any, list_any-from_An
 pub use Rattle.std.proofs.lemmas.List.Sums.{AllPass-from_list_all, count_by_more_no, count_by_more_yes, fold-append, list_all-from_AllPass, sum_by-cons, count_by-le-length}
 pub use Rattle.std.proofs.lemmas.Option.{get_or_from_slice_get, slice_get-get_or}
 pub use Rattle.std.specs.Cmp.{nat_cmp_total, unsigned_tied}
+pub use Rattle.std.specs.FinSet.{contains, empty_of_len, len-empty}
 pub use Rattle.std.specs.List.{filter, filter_map, list_any}
 pub use Rattle.std.specs.Ordering.{eq_by_cmp, nat_cmp}
-pub use Rattle.std.specs.Prelude.{sum_by, ◌↔◌}
 pub use Rattle.std.specs.Vec.{with_item}
 pub use Rattle.std.specs.Vec.Iter.{into_iter_items}
 pub use Rattle.std.specs.declared.collections.VecDeque.{VecDeque}

@@ -148,9 +148,8 @@ module _ {S N : Type 0} (next : Next S N) (r : GroupRecord S N) (t : Ticket S N)
     is_planned sound current room =
         let first : front_message t.note r t.from t.to ≡ w = first-is t.note (channel r t.from t.to) w at in
         let flight = flight_at sound.causes t.from t.to 0 w at in
-        let ends = flight_ends sound.causes w flight.0 in
         let steps : outcome ≡ next.step t.to r.config.members (member r t.to).state w.note = rw (size, ← read, current.state, current.note) step in
-        grind (arith, set.empty_of_len r.down nobody, t.ends, flight, ends, sound.shape)
+        grind (arith, set.empty_of_len r.down nobody, t.ends, flight, flight_ends sound.causes w flight.0, sound.shape)
 
 -- a step whose ticket was just taken is refused only for want of room or of memory, so that its commit answers for the delivery
 module _ {S N : Type 0} (next : Next S N) (r : GroupRecord S N) (p q : ℕ) (t : Ticket S N)

@@ -6,7 +6,7 @@ pub use Rattle.fbl_group.proofs.Common.{taken_off, HasChannels, channel_in, rows
 pub use Rattle.fbl_group.proofs.Common.{deque_len, deque_capacity, VecDeque, get_or-replicate, length-replicate, map-set, get_or-map, Channels, with_item, step_events}
 pub use Rattle.fbl_group.proofs.Common.{first_message, with_at, Made, made-more, filter_map-append, Event, message_of_send, filter_map, Start, Settings, IsConfig}
 pub use Rattle.fbl_group.proofs.Common.{StartAllowed, slice_get-get_or, inr, into_iter_items, vec_len, vec_capacity, at_drop_more, start_events, drop_of_length-le}
-pub use Rattle.fbl_group.proofs.Common.{IsOnce-none, IsSound, group_delivery_keeps}
+pub use Rattle.fbl_group.proofs.Common.{IsOnce-none, IsSound, group_delivery_keeps, contains}
 use Rattle.std.specs.FinSet as set
 use Rattle.fbl_base.specs.declared.trace.Event.TheVariants.{Send}
 

@@ -11,9 +11,8 @@ pub ruleset nobody_counted = (set.empty_of_len, set.len-empty)
 
 in_flight-fits : (t : List Mark) (q p : ℕ) → length (in_flight t q p) ≤ length t
 in_flight-fits t q p =
-    let sent : List ℕ = filter_map (sent_on q p) t in
     let untaken : ℕ → Bool = (λ ssn. not (list_any (λ taken. taken == ssn) (filter_map (taken_on q p) t))) in
-    omega (arith, length-left untaken sent, length-filter_map (sent_on q p) t)
+    omega (arith, length-left untaken (filter_map (sent_on q p) t), length-filter_map (sent_on q p) t)
 
 -- each message weighs one, so that the weight is their number
 abbrev one : ℕ → ℕ → ℕ

@@ -8,7 +8,7 @@ pub use Rattle.fbl_group.proofs.Common.{filter, get_or_past, Event, mark_of, Mes
 pub use Rattle.fbl_group.proofs.Common.{AreReplaced, AreSentAgain, IsReady, w32, w64, ◌^◌, messages_in, is_replayed, stays_by, recovered_trace, resent_to, IsRebuilt}
 pub use Rattle.fbl_group.proofs.Common.{cut-undone, recovered_trace-cut, sent_again-short, with-table, working-log, replayed_in-all, recovered_trace-rebuilt}
 pub use Rattle.fbl_group.proofs.Common.{rebuilt_is_recovered, messages_at, IsRecovery, set-get_or, made-more, Entry, made_none, rows, subst, group_recovery_keeps}
-pub use Rattle.fbl_group.proofs.Common.{replaying-room, replayed_in-short, deque_items, length-map, sent_again, length-set}
+pub use Rattle.fbl_group.proofs.Common.{replaying-room, replayed_in-short, deque_items, length-map, sent_again, length-set, contains}
 use Rattle.std.specs.FinSet as set
 use mir.Val.{bool_byte}
 pub use Rattle.fbl_group.proofs.Queues.{Turned, made-mapped}

@@ -6,7 +6,7 @@ pub use Rattle.fbl_group.proofs.Common.{is_lost_receipt_of, Message, no_orphan, 
 pub use Rattle.fbl_group.proofs.Common.{Any-from_list_any, list_any-from_Any, AllPass-from_list_all, list_all-from_AllPass, receipt_of, Has, itself, AllBelow, eqb-self}
 pub use Rattle.fbl_group.proofs.Common.{is_recorded, group_strike_keeps, recorded_test, is_within, strike_refusal, AreRecordsReplaced, get_or, slice_set, IsCheckpoint}
 pub use Rattle.fbl_group.proofs.Common.{sound_holds_each_receipt, recovery_leaves_recorded, cut-undone, group_recovery_gains_holders, subst, group_checkpoint_keeps, ap}
-pub use Rattle.fbl_group.proofs.Common.{trace_fits}
+pub use Rattle.fbl_group.proofs.Common.{trace_fits, len-empty}
 use Rattle.std.specs.FinSet as set
 use Rattle.fbl_base.specs.declared.trace.Event.TheVariants as event
 use Rattle.std.specs.Prelude.{Bool}
@@ -27,8 +27,7 @@ within-below s n within q among =
 below-within : (s : Members) (n : ℕ) → AllBelow s n → is_within s n ≡ true
 below-within s n below = list_all-from_AllPass (λ m. nat_lt m n) (set.items s) (λ k d less.
     let m : ℕ = slice_index_or (set.items s) k d in
-    let itself : eq_by_cmp nat_cmp m m ≡ true = unsigned_tied m m ∙ eqb-self m in
-    let among = list_any-from_Any (eq_by_cmp nat_cmp m) (set.items s) (k, m, less, get_or_default (set.items s) k m d less, itself) in
+    let among = list_any-from_Any (eq_by_cmp nat_cmp m) (set.items s) (k, m, less, get_or_default (set.items s) k m d less, unsigned_tied m m ∙ eqb-self m) in
     let within : m < n = below m (set.contains-items s m ∙ among) in
     grind (arith, nat_tests))
 

@@ -7,9 +7,7 @@ use Rattle.fbl_group.specs.declared.refusals.CheckpointRefusal.TheVariants.{BadM
 
 -- the first refusal of a checkpoint of the member that holds, but for lack of memory
 abbrev pub checkpoint_refusal : {S N : Type 0} → GroupRecord S N → ℕ → Option CheckpointRefusal
-checkpoint_refusal r p =
-    if not (nat_lt p r.config.members) then Some BadMember
-    else (if not (set.len r.down == 0) then Some Down else None)
+checkpoint_refusal r p = if not (nat_lt p r.config.members) then Some BadMember else (if not (set.len r.down == 0) then Some Down else None)
 
 -- the refusal is the first that holds; lack of memory is answered only where no other holds
 abbrev pub IsCheckpointRefusal : Option CheckpointRefusal → CheckpointRefusal → Type 0

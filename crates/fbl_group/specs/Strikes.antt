@@ -60,8 +60,7 @@ Strikes next old new struck answer = IsStrike next old new struck × (answer.los
 
 -- how many messages are in the channels with an end in the set
 abbrev pub messages_at : {S N : Type 0} → Members → GroupRecord S N → ℕ
-messages_at s r =
-    sum_below r.config.members (λ q. sum_below r.config.members (λ p. if set.contains s q || set.contains s p then length (channel r q p) else 0))
+messages_at s r = sum_below r.config.members (λ q. sum_below r.config.members (λ p. if set.contains s q || set.contains s p then length (channel r q p) else 0))
 
 -- a recovery leads from old to new, and answers how many receipts were replayed (those beyond the checkpoints of the
 -- members that were down), how many messages are now in channels with an end that was down, and how many receipts the trace
@@ -108,8 +107,7 @@ pub record IsReady {S N : Type 0} (next : Next S N) (r : GroupRecord S N) (rebui
 
 -- the channels are made of what is sent again while these records stand for the members that are down
 abbrev pub AreSentAgain : {S N : Type 0} → GroupRecord S N → List (MemberRecord S N) → List (List (List (Message N))) → Type 0
-AreSentAgain r rebuilt again =
-    (q p : ℕ) → q < r.config.members → p < r.config.members → channel_in again q p ≡ sent_again r.config.f r.down (working r rebuilt) q p
+AreSentAgain r rebuilt again = (q p : ℕ) → q < r.config.members → p < r.config.members → channel_in again q p ≡ sent_again r.config.f r.down (working r rebuilt) q p
 
 -- ---- crashes
 

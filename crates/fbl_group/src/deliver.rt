@@ -41,8 +41,7 @@ impl<B: Behaviour, A: Allocator + Copy> Group<B, A> {
         let to = done.ticket.to;
         let from = done.ticket.from;
         let sends = done.outcome.sends.as_slice();
-        self.trace.reserve(1 + sends.len())?;
-        self.channels.reserve_from(to, sends)?;
+        self.channels.reserve_from(to, sends, &mut self.trace)?;
         let wire = self.channels.front(from, to).unwrap();
         let ssn = wire.ssn();
         let carried = wire.carried().len() as u32;

@@ -51,8 +51,10 @@ impl<B: Behaviour, A: Allocator + Copy> Group<B, A> {
         ensures recovered { IfOk result (λ answer. Recovers B.next self.old self.new answer) }
         ensures unchanged { OnErr result (self.new ≡ self.old) }
     {
-        let mut rebuilt = self.rebuild()?;
-        self.put_in_place(&mut rebuilt)
+        match self.rebuild() {
+            Ok(mut rebuilt) => self.put_in_place(&mut rebuilt),
+            Err(AllocError) => Err(AllocError),
+        }
     }
 
     /// Sends again what is lost, puts the records that were rebuilt in their places, and cuts the trace.

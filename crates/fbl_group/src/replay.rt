@@ -31,8 +31,10 @@ impl<B: Behaviour, A: Allocator + Copy> Group<B, A> {
             gathered: Table::for_limit(alloc, self.config().f()),
             receipts: Vec::new(alloc),
         };
-        self.replay(&mut rebuilt)?;
-        Ok(rebuilt)
+        match self.replay(&mut rebuilt) {
+            Ok(()) => Ok(rebuilt),
+            Err(AllocError) => Err(AllocError),
+        }
     }
 
     /// Gathers the tables, begins at the checkpoints, and replays what the gathered table has.

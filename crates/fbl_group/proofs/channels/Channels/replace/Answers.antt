@@ -1,12 +1,10 @@
-use Rattle.fbl_group.proofs.Queues.{◌≡◌, ◌||◌, inr, refl, ap, ◌∙◌, arith, deque_items, found, in-channels, replacing-kept, replacing-other, within_row}
-use Rattle.std.specs.FinSet as set
+use Rattle.fbl_group.proofs.Queues.{◌≡◌, ◌||◌, inr, refl, ap, ◌∙◌, arith, deque_items, found, in-channels, replacing-kept, replacing-other, within_row, contains}
 use Rattle.fbl_group.proofs.channels.Channels.replace.Goals as goal
 
 pub index_mut-requires-then-has_either : goal.index_mut-requires-then-has_either
 index_mut-requires-then-has_either g c =
     let places = in-channels c.loop-receiver.invariant.replaced.shape c.loop-sender-test.true c.loop-receiver-test.true in
-    let within = within_row c.loop-receiver.self c.from.ensures c.from-then-has_either.ensures places c.index_mut.ensures.value in
-    omega (arith, within, c.index_mut.result.now.ok.0)
+    omega (arith, within_row c.loop-receiver.self c.from.ensures c.from-then-has_either.ensures places c.index_mut.ensures.value, c.index_mut.result.now.ok.0)
 
 pub index_mut-requires-then-has_either-3 : goal.index_mut-requires-then-has_either-3
 index_mut-requires-then-has_either-3 g c =
@@ -22,7 +20,7 @@ loop-receiver-preserved g c =
     let below_p = c.loop-receiver-test.true in
     let ours = c.loop-receiver.invariant.replaced in
     let theirs = c.loop-receiver.invariant.left in
-    let asked : c.has_either.result ≡ (set.contains c.args.down q || set.contains c.args.down p) = cc in
+    let asked : c.has_either.result ≡ (contains c.args.down q || contains c.args.down p) = cc in
     elim c.if-has_either.branch [
       | goal.then-has_either w ↦
           let channel = found c.loop-receiver.self w.from.ensures w.from-then-has_either.ensures (in-channels ours.shape below_q below_p)

@@ -11,9 +11,6 @@ loop-wire-init g c = rw c.into_iter-wire-iterator.ensures.into_iter_gives.0 (rec
   trace_room = omega (arith, c.requires.trace, c.args.wires.ok.0);
 })
 
-pub push_reserved-requires : goal.push_reserved-requires
-push_reserved-requires g c = omega (arith, c.loop-wire.invariant.trace_room, ap length c.in-Some.ensures.steps.0)
-
 pub returns : goal.returns
 returns g c =
     let none : into_iter_items c.loop-wire.wire-iterator ≡ [] = nil_from_length _ (sym c.loop-wire.wire-iterator.rest.ok.0 ∙ c.in-None.ensures.steps.0) in

@@ -10,6 +10,3 @@ send_all-requires g c =
       room = λ k d below. rw (c.take_front.ensures.room c.args.to _ other) (c.requires.room k d below);
       trace = c.requires.trace;
     }
-
-pub returns : goal.returns
-returns g c = record { channels = rw c.take_front.ensures.taken at c.send_all.ensures.channels; trace = c.send_all.ensures.trace }

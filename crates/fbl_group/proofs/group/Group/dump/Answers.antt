@@ -5,9 +5,8 @@ use Rattle.fbl_group.proofs.group.Group.dump.Goals as goal
 pub lawful-requires : goal.lawful-requires
 unfolding DumpObeysRules
 lawful-requires g c =
-    let below = (rw c.size.ensures.value at (c.within.ensures.0 c.if-not-within.false)) in
     rw c.in-Ok.ensures
-    (dump_obeys_rules _ _ g.B.Behaviour.next c.args.self.now c.args.strike c.promises.ensures.sound below)
+    (dump_obeys_rules _ _ g.B.Behaviour.next c.args.self.now c.args.strike c.promises.ensures.sound (rw c.size.ensures.value at (c.within.ensures.0 c.if-not-within.false)))
 
 pub returns-in-Ok-clause-no_orphan : goal.returns-in-Ok-clause-no_orphan
 unfolding DumpHasNoOrphan

@@ -1,9 +1,6 @@
 use Rattle.fbl_group.proofs.Delivering.{◌≡◌, length, arith, sym, ◌∙◌, false≢true, is_full, is_current, is_fresh, is_planned}
 use Rattle.fbl_group.proofs.group.Group.plan_commit.Goals as goal
 
-pub returns-then-count-ne0-clause-refused : goal.returns-then-count-ne0-clause-refused
-returns-then-count-ne0-clause-refused g c = rw (c.count.ensures, c.down.ensures.down) at c.if-count-ne0.true
-
 pub returns-then-size-ticket-clause-refused : goal.returns-then-size-ticket-clause-refused
 returns-then-size-ticket-clause-refused g c = (rw (c.count.ensures, c.down.ensures.down) at c.if-count-ne0.false, λ fresh. c.if-size-ticket.true (c.size.ensures.value ∙ fresh.0))
 

@@ -9,8 +9,7 @@ rounds-smaller g c =
 pub overflow_add-replayed : goal.overflow_add-replayed
 overflow_add-replayed g c =
     let round = c.in_ok-more.ensures in
-    let few = replayed_in-short g.B.Behaviour.next _ c.recoverable.ensures.sound _ round.replaying.replaying in
-    omega (arith, c.rounds.invariant.counted, round.counted, few)
+    omega (arith, c.rounds.invariant.counted, round.counted, replayed_in-short g.B.Behaviour.next _ c.recoverable.ensures.sound _ round.replaying.replaying)
 
 pub returns-then-more-eq0 : goal.returns-then-more-eq0
 returns-then-more-eq0 g c =

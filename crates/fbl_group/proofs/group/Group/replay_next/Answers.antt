@@ -10,10 +10,9 @@ pub replay_one-requires : goal.replay_one-requires
 replay_one-requires g c =
     let sound = c.next_replay.ensures.sound in
     let down = sound.down c.args.member c.requires.down in
-    let read = is-record sound c.requires.replaying.replaying c.requires.down (c.from.ensures ∙ c.number.ensures.value) c.index_mut-record.ensures.value in
     let next = replaying-next g.B.Behaviour.next _ sound _ c.requires.replaying.replaying c.args.member down c.requires.down _ c.in-Some.ensures.found in
     let room = replaying-room g.B.Behaviour.next _ sound _ c.requires.replaying.replaying c.args.member down c.requires.down _ c.in-Some.ensures.found _ c.in-Some.ensures.sent in
-    rw read (record {
+    rw (is-record sound c.requires.replaying.replaying c.requires.down (c.from.ensures ∙ c.number.ensures.value) c.index_mut-record.ensures.value) (record {
       least = omega (arith, c.size.ensures.value, sound.config.members.0);
       most = omega (arith, c.size.ensures.value, sound.config.members.1);
       member = omega (arith, c.size.ensures.value, down);

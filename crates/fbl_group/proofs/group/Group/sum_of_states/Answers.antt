@@ -1,10 +1,9 @@
-use Rattle.fbl_group.proofs.Common.{◌≡◌, arith, add-one}
-use Rattle.std.specs.FinSet as set
+use Rattle.fbl_group.proofs.Common.{◌≡◌, arith, add-one, contains}
 use Rattle.fbl_group.proofs.group.Group.sum_of_states.Goals as goal
 
 pub loop-number-preserved : goal.loop-number-preserved
 loop-number-preserved g c =
-    let asked : set.contains c.args.self.now.down c.loop-number.number ≡ c.has.result = cc in
+    let asked : contains c.args.self.now.down c.loop-number.number ≡ c.has.result = cc in
     elim c.if-not-has.branch [
       | goal.then-not-has w ↦
           rw (w.sum-is, add-one) (record {

@@ -1,12 +1,10 @@
-use Rattle.fbl_group.proofs.Common.{flight_at, arith, ap, nat_tests, receipts_fit, up_if_none, MemberRecord}
-use Rattle.std.specs.FinSet as set
+use Rattle.fbl_group.proofs.Common.{flight_at, arith, ap, nat_tests, receipts_fit, up_if_none, MemberRecord, empty_of_len}
 use Rattle.fbl_group.proofs.group.Group.take.Goals as goal
 
 pub overflow_add-result : goal.overflow_add-result
 overflow_add-result g c =
     let sound = c.record-member.ensures.sound in
-    let nobody = set.empty_of_len c.args.self.now.down (grind arith) in
-    let fits = receipts_fit g.B.Behaviour.next _ sound c.args.to (omega arith) (up_if_none nobody c.args.to) in
+    let fits = receipts_fit g.B.Behaviour.next _ sound c.args.to (omega arith) (up_if_none (empty_of_len c.args.self.now.down (grind arith)) c.args.to) in
     omega (arith, c.received.ensures.value, ap (λ (m : MemberRecord _ _). m.received) c.record-member.ensures.value, fits, sound.room, sound.config.limit.1)
 
 pub returns-clause-taken : goal.returns-clause-taken

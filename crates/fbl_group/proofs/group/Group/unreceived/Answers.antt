@@ -9,6 +9,4 @@ pub overflow_sub-result : goal.overflow_sub-result
 overflow_sub-result g c = grind (arith, c.self.view_is, received-twice g.B.Behaviour.next _ c.self.invariant)
 
 pub returns : goal.returns
-returns g c nobody =
-    let flying = unreceived-fly g.B.Behaviour.next _ c.self.invariant (ap (λ (r : GroupRecord _ _). set.len r.down) c.self.view_is ∙ nobody) in
-    grind (arith, c.self.view_is, flying)
+returns g c nobody = grind (arith, c.self.view_is, unreceived-fly g.B.Behaviour.next _ c.self.invariant (ap (λ (r : GroupRecord _ _). set.len r.down) c.self.view_is ∙ nobody))

@@ -1,10 +1,9 @@
-use Rattle.fbl_group.proofs.Recovering.{◌≡◌, ◌∙◌, arith, length-set, put-down, put-up, replaced-end}
-use Rattle.std.specs.FinSet as set
+use Rattle.fbl_group.proofs.Recovering.{◌≡◌, ◌∙◌, arith, length-set, put-down, put-up, replaced-end, contains}
 use Rattle.fbl_group.proofs.rebuilt.Rebuilt.put_back.Goals as goal
 
 pub loop-number-preserved : goal.loop-number-preserved
 loop-number-preserved g c =
-    let asked : set.contains c.args.self.now.down c.loop-number.number ≡ c.has.result = cc in
+    let asked : contains c.args.self.now.down c.loop-number.number ≡ c.has.result = cc in
     elim c.if-has.branch [
       | goal.then-has w ↦
           rw (w.members-is, w.records-is) (record {

@@ -1,0 +1,4 @@
+use Rattle.fbl_group.proofs.group.Group.begin_one.Goals as goal
+
+pub initial-first-requires : goal.initial-first-requires
+initial-first-requires g c = record { least = rw (c.size.ensures.value, ← c.self.view_is) c.self.invariant.config.members.0; most = c.size.ensures.few; member = rw c.size.ensures.value c.requires }
