@@ -118,8 +118,7 @@ module _ {S N : Type 0} {next : Next S N} {r now : GroupRecord S N} {q p : ℕ} 
           longer : length trace ≡ length r.trace + 1 + length outcome.sends.items
           longer =
               let sent = length-step_events v.to (length (member r v.to).log) (step_of next r v).sends.items in
-              let step : (step_of next r v).sends.items ≡ outcome.sends.items = ap (λ (o : Outcome S N). o.sends.items) (sym plan.step) in
-              omega (arith, ap length trace_is, length-append r.trace (delivery_events next r v), sent, ap length step)
+              omega (arith, ap length trace_is, length-append r.trace (delivery_events next r v), sent, ap (λ (o : Outcome S N). length o.sends.items) (sym plan.step))
 
           is_delivery : IsDelivery next r new v
           is_delivery = grind (arith, plan, of_sender, to_receiver, room, longer, trace_is, receives, settled)

@@ -2,7 +2,7 @@
 pub use Rattle.fbl_group.proofs.Common.{◌≡◌, ℕ, ◌+◌, ◌-◌, ◌*◌, ◌≤◌, ◌==◌, not, Bool, List, [], ◌∷◌, length, map, refl, sym, ap, ◌∙◌, arith, length-map, sum_by-cons}
 pub use Rattle.fbl_group.proofs.Common.{length-left, determinant_of, mark_of, Next, IsUp, GroupRecord, member, channel, marks, knowledge, receipts, sum_below, IsSound}
 pub use Rattle.fbl_group.proofs.Common.{up_if_none, sum_below-agree, inl, inr, sum_by, filter_map, list_any, length-filter_map, Mark, Send, in_flight, sent_on, taken_on}
-pub use Rattle.fbl_group.proofs.Common.{send_mark, MatchesTrace, messages_in_flight, down_or_both_up, trace_fits, weight_in, weight_on, into, out, flow, table_fits}
+pub use Rattle.fbl_group.proofs.Common.{send_mark, messages_in_flight, down_or_both_up, trace_fits, weight_in, weight_on, into, out, flow, table_fits}
 use Rattle.std.specs.FinSet as set
 use Rattle.fbl_base.specs.declared.trace.Mark.TheVariants.{Receipt}
 
@@ -45,8 +45,7 @@ module _ {S N : Type 0} (next : Next S N) (r : GroupRecord S N) (sound : IsSound
   -- a channel between members that are up has as many messages as are in flight by the trace
   as-in-flight : (q p : ℕ) → IsUp (knowledge r) q → IsUp (knowledge r) p → length (channel r q p) ≡ length (in_flight (marks r) q p)
   as-in-flight q p up_q up_p =
-      let matches : MatchesTrace (knowledge r) q p = sound.causes.channels q p up_q up_p in
-      let same : length (map send_mark (channel r q p)) ≡ length (map (λ ssn. Send q ssn p) (in_flight (marks r) q p)) = ap length matches in
+      let same : length (map send_mark (channel r q p)) ≡ length (map (λ ssn. Send q ssn p) (in_flight (marks r) q p)) = ap length (sound.causes.channels q p up_q up_p) in
       omega (arith, same, length-map (channel r q p) send_mark, length-map (in_flight (marks r) q p) (λ ssn. Send q ssn p))
 
   -- while nobody is down that is in flight

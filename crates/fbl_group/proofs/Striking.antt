@@ -1,5 +1,5 @@
 -- Strikes and checkpoints: when a strike is refused, what they leave, and the theorem.
-pub use Rattle.fbl_group.proofs.Common.{◌≡◌, ℕ, suc, ◌<◌, ◌≤◌, ◌==◌, ◌||◌, true, false, cond, List, [], ◌∷◌, length, map, None, refl, sym, ◌∙◌, arith, nat_lt, count_by}
+pub use Rattle.fbl_group.proofs.Common.{◌≡◌, ◌≢◌, ℕ, suc, ◌<◌, ◌≤◌, ◌==◌, ◌||◌, true, false, cond, List, [], ◌∷◌, length, map, None, refl, sym, ◌∙◌, arith, nat_lt, count_by}
 pub use Rattle.fbl_group.proofs.Common.{slice_index_or, nat_tests, get_or_default, get_or_past, sum_by-cons, Determinant, Event, mark_of, Members, Next, MemberRecord}
 pub use Rattle.fbl_group.proofs.Common.{blank, IsUp, GroupRecord, channel, marks, knowledge, IsSound, IsStrike, AreReplaced, lost_receipts, filter, not, receipts}
 pub use Rattle.fbl_group.proofs.Common.{is_lost_receipt_of, Message, no_orphan, nat_cmp, eq_by_cmp, unsigned_tied, nat_cmp_total, false≢true, true_from_ne_false, ◌↔◌}
@@ -58,6 +58,13 @@ module _ {S N : Type 0} {next : Next S N} {old : GroupRecord S N} {struck down :
   is_strike = grind (arith, struck_blank, blanked.size, blanked.others, emptied, emptied_where, both_down, sound.blanks, sound.down, sound.causes.down.channels)
 
 module _ {S N : Type 0} where
+  -- a strike of some members of the group is allowed where with those that are down they are few
+  pub is_allowed : (struck : Members) {r now : GroupRecord S N} → r ≡ now → {n : ℕ} → n ≡ r.config.members → AllBelow struck n → set.len struck ≢ 0
+      → {both : Members} → both ≡ set.union r.down struck → set.len both ≤ r.config.f → strike_refusal now struck ≡ None
+  is_allowed struck {r = r} view {n = n} all below some joined few =
+      let inside : is_within struck r.config.members ≡ true = rw (← all) (below-within struck n below) in
+      rw (← view) grind (arith, nat_tests)
+
   -- in a sound group each receipt of a member that is up is recorded
   up-recorded : (next : Next S N) (r : GroupRecord S N) (d : Determinant) → IsSound next r → Has (marks r) (receipt_of d) → IsUp (knowledge r) d.to → is_recorded r d ≡ true
   up-recorded next r d sound there up =

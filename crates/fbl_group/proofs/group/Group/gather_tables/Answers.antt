@@ -13,6 +13,5 @@ loop-record-preserved g c =
 
 pub returns : goal.returns
 returns g c =
-    let r = c.args.self.now in
     let all = rw (drop_of_length-le c.deref-record-items.result.now c.loop-record-test.false) at c.loop-record.invariant in
     rw (c.mark_all.ensures, c.in_ok-gather_saved.ensures, ap (λ (x : GroupRecord _ _). x.down) c.self.view_is, ← (subst (IsSound g.B.Behaviour.next) c.self.view_is c.self.invariant).checkpoints, all) refl

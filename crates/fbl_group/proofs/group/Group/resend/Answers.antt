@@ -14,7 +14,6 @@ loop-number-preserved g c =
 
 pub returns : goal.returns
 returns g c =
-    let r = c.args.self.now in
     let made = c.loop-number.invariant in
     let all = all-done c.loop-number-test.false c.loop-number.auto.number-end c.size-number-end.ensures.value in
     record {

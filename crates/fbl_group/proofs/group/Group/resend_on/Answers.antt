@@ -5,7 +5,6 @@ put_again-requires g c = rw (c.f.ensures, c.config.ensures, c.table.ensures, c.w
 
 pub returns : goal.returns
 returns g c =
-    let ends = (rw c.down.ensures.down at c.has_either.ensures) in
     let sent = rw (c.last_from-last.ensures, c.working-sender.ensures, c.working.ensures) at c.in_ok-unsent.ensures in
     let put = rw (c.f.ensures, c.config.ensures, c.table.ensures, c.working-sender.ensures) at c.put_again.ensures in
-    record { passed = put.passed; made = rw (← ends, c.if-not-has_either.false) (rw (c.as_slice.ensures.value, sent) at put.made) }
+    record { passed = put.passed; made = rw (← (rw c.down.ensures.down at c.has_either.ensures), c.if-not-has_either.false) (rw (c.as_slice.ensures.value, sent) at put.made) }
