@@ -33,14 +33,12 @@ impl<B: Behaviour, A: Allocator + Copy> Group<B, A> {
         if self.down().count() != 0 {
             return Err(CheckpointRefusal::Down);
         }
-        match self.save(member) {
-            Ok(()) => {
-                // the group is sound, so that each checkpoint is at the fold of its receipts
-                self.recoverable();
-                Ok(())
-            }
-            Err(AllocError) => Err(CheckpointRefusal::Memory),
-        }
+        let Ok(()) = self.save(member) else {
+            return Err(CheckpointRefusal::Memory);
+        };
+        // the group is sound, so that each checkpoint is at the fold of its receipts
+        self.recoverable();
+        Ok(())
     }
 
     /// How many receipts the member's checkpoint has, 0 where none was taken. They are the member's first ones, the

@@ -41,13 +41,18 @@ impl<B: Behaviour, A: Allocator + Copy> Group<B, A> {
         let to = done.ticket.to;
         let from = done.ticket.from;
         let sends = done.outcome.sends.as_slice();
-        self.channels.reserve_from(to, sends, &mut self.trace)?;
+        let Ok(()) = self.channels.reserve_from(to, sends, &mut self.trace) else {
+            return Err(AllocError);
+        };
         let wire = self.channels.front(from, to).unwrap();
         let ssn = wire.ssn();
         let carried = wire.carried().len() as u32;
         let n = self.config.members();
         let f = self.config.f();
-        let (rsn, made) = take_in::<B, A>(&mut self.members, to, n, f, wire, &done.outcome)?;
+        let Ok((rsn, made)) = take_in::<B, A>(&mut self.members, to, n, f, wire, &done.outcome)
+        else {
+            return Err(AllocError);
+        };
         self.trace
             .push_reserved(Event::Receipt { to, rsn, from, ssn });
         self.channels.take_and_send(from, to, made, &mut self.trace);

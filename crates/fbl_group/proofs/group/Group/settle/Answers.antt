@@ -6,10 +6,6 @@ use Rattle.fbl_group.proofs.group.Group.settle.Goals as goal
 one_fits : (len more capacity : ℕ) → len + (1 + more) ≤ capacity → len < capacity
 one_fits len more capacity room = omega (arith, room)
 
-on_err : {T E P : Type 0} (r : Result T E) → P → OnErr r P
-on_err (Ok x) p = tt
-on_err (Err e) p = p
-
 pub reserve_from-requires : goal.reserve_from-requires
 reserve_from-requires g c = record {
   from = rw c.self.invariant.shape.senders (rw (← c.self.view_is) at c.requires.to_member);
@@ -23,13 +19,13 @@ front-requires g c = record {
 }
 
 pub push_reserved-requires : goal.push_reserved-requires
-push_reserved-requires g c = one_fits _ _ _ c.in_ok-reserve_from.ensures.trace_room
+push_reserved-requires g c = one_fits _ _ _ c.in-Ok.ensures.trace_room
 
 pub invariant_of-self : goal.invariant_of-self
 invariant_of-self g c = rw (c.reserve_from.ensures.same, c.reserve_from.ensures.trace) c.self.invariant
 
-pub returns-in_err-reserve_from-clause-unchanged : goal.returns-in_err-reserve_from-clause-unchanged
-returns-in_err-reserve_from-clause-unchanged g c = on_err c.from_residual.result (rw (c.reserve_from.ensures.same, c.reserve_from.ensures.trace) c.self.view_is)
+pub returns-in_default-clause-unchanged : goal.returns-in_default-clause-unchanged
+returns-in_default-clause-unchanged g c = (rw (c.reserve_from.ensures.same, c.reserve_from.ensures.trace) c.self.view_is)
 
 is_some_if : {X P : Type 0} (o : Option X) → ¬ P → IfNone o P → IsSome o
 is_some_if None never h = absurd (never h)
@@ -51,26 +47,26 @@ take_in-requires g c =
     (rw c.unwrap-wire.ensures at c.front.ensures.some) refl c.members-n.ensures.value in
     search (rules, place, may)
 
-pub invariant_of-self-in_err-rsn : goal.invariant_of-self-in_err-rsn
-invariant_of-self-in_err-rsn g c = rw (c.reserve_from.ensures.same, c.in_err-rsn.ensures.unchanged, c.reserve_from.ensures.trace) c.self.invariant
+pub invariant_of-self-in_default-take_in : goal.invariant_of-self-in_default-take_in
+invariant_of-self-in_default-take_in g c = rw (c.reserve_from.ensures.same, c.in_default-take_in.ensures.unchanged, c.reserve_from.ensures.trace) c.self.invariant
 
-pub returns-in_err-rsn-clause-unchanged : goal.returns-in_err-rsn-clause-unchanged
-returns-in_err-rsn-clause-unchanged g c = on_err c.from_residual-in_err-rsn.result (rw (c.reserve_from.ensures.same, c.in_err-rsn.ensures.unchanged, c.reserve_from.ensures.trace) c.self.view_is)
+pub returns-in_default-take_in-clause-unchanged : goal.returns-in_default-take_in-clause-unchanged
+returns-in_default-take_in-clause-unchanged g c = (rw (c.reserve_from.ensures.same, c.in_default-take_in.ensures.unchanged, c.reserve_from.ensures.trace) c.self.view_is)
 
 pub take_and_send-requires : goal.take_and_send-requires
 take_and_send-requires g c =
-    let count : length c.in_ok-rsn.made.items ≡ length c.args.done.now.outcome.sends.items = ap length c.in_ok-rsn.ensures.taken.sent ∙ length-messages _ _ _ c.args.done.now.outcome.sends.items in
+    let count : length c.in-Ok-take_in.made.items ≡ length c.args.done.now.outcome.sends.items = ap length c.in-Ok-take_in.ensures.taken.sent ∙ length-messages _ _ _ c.args.done.now.outcome.sends.items in
     let given : length c.as_slice-sends.result.now ≡ length c.args.done.now.outcome.sends.items = ap length c.as_slice-sends.ensures.value in
     record {
       from = rw (c.reserve_from.ensures.same, c.self.invariant.shape.senders) (rw (← c.self.view_is) at c.requires.from_member);
       to = rw (c.reserve_from.ensures.same, c.self.invariant.shape.senders) (rw (← c.self.view_is) at c.requires.to_member);
       channel = rw c.reserve_from.ensures.same (rw (← c.self.view_is) at c.requires.channel);
       apart = c.requires.apart;
-      receivers = planning.sent_in g.met.B.Behaviour.laws.sends c.self.invariant c.self.view_is c.requires c.reserve_from.ensures.same _ _ c.in_ok-rsn.ensures.taken.sent;
+      receivers = planning.sent_in g.met.B.Behaviour.laws.sends c.self.invariant c.self.view_is c.requires c.reserve_from.ensures.same _ _ c.in-Ok-take_in.ensures.taken.sent;
       room =
           made-fits (λ k. room_in c.reserve_from.new.self c.args.done.now.ticket.to k) c.args.done.now.ticket.to _ _
-          c.as_slice-sends.ensures.value c.in_ok-rsn.ensures.taken.sent c.in_ok-reserve_from.ensures.room;
-      trace = omega (arith, c.in_ok-rsn.made.ok.0, count, given, c.push_reserved.ensures.len, c.push_reserved.ensures.capacity, c.in_ok-reserve_from.ensures.trace_room);
+          c.as_slice-sends.ensures.value c.in-Ok-take_in.ensures.taken.sent c.in-Ok.ensures.room;
+      trace = omega (arith, c.in-Ok-take_in.made.ok.0, count, given, c.push_reserved.ensures.len, c.push_reserved.ensures.capacity, c.in-Ok.ensures.trace_room);
     }
 
 pub overflow_add-self : goal.overflow_add-self
@@ -81,7 +77,7 @@ overflow_add-self g c =
 pub returns-clause-delivered : goal.returns-clause-delivered
 returns-clause-delivered g c =
     planning.is_delivered g.met.B.Behaviour.laws.sends c.self.invariant c.self.view_is c.requires c.reserve_from.ensures.same
-    (rw c.unwrap-wire.ensures at c.front.ensures.some) refl c.in_ok-rsn.ensures.taken c.f-f.ensures c.ssn-ssn.ensures
+    (rw c.unwrap-wire.ensures at c.front.ensures.some) refl c.in-Ok-take_in.ensures.taken c.f-f.ensures c.ssn-ssn.ensures
     c.reserve_from.ensures.trace c.push_reserved.ensures.items c.take_and_send.ensures.trace c.take_and_send.ensures.channels c.carried.ensures.value
 
 pub invariant_of-self-2 : goal.invariant_of-self-2
