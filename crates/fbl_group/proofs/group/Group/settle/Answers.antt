@@ -1,10 +1,7 @@
-use Rattle.std.proofs.Common.{ℕ, ◌+◌, ◌<◌, ◌≤◌, ◌≡◌, length, vec_len, arith, rules, refl, ap, subst, ◌∙◌, Option, Some, None, IfNone, IsSome, Result, Ok, Err, OnErr}
+use Rattle.std.proofs.Common.{◌<◌, ◌≡◌, length, vec_len, arith, rules, refl, ap, subst, ◌∙◌, Option, Some, None, IfNone, IsSome}
 use Rattle.fbl_group.proofs.Queues.{room_in, IsSound, group_delivery_keeps, length-messages, made-fits}
 use Rattle.fbl_group.proofs.Delivering as planning
 use Rattle.fbl_group.proofs.group.Group.settle.Goals as goal
-
-one_fits : (len more capacity : ℕ) → len + (1 + more) ≤ capacity → len < capacity
-one_fits len more capacity room = omega (arith, room)
 
 pub reserve_from-requires : goal.reserve_from-requires
 reserve_from-requires g c = record {
@@ -17,9 +14,6 @@ front-requires g c = record {
   from = rw (c.reserve_from.ensures.same, c.self.invariant.shape.senders) (rw (← c.self.view_is) at c.requires.from_member);
   to = rw c.reserve_from.ensures.same (rw (← c.self.view_is) at c.requires.channel);
 }
-
-pub push_reserved-requires : goal.push_reserved-requires
-push_reserved-requires g c = one_fits _ _ _ c.in-Ok.ensures.trace_room
 
 pub invariant_of-self : goal.invariant_of-self
 invariant_of-self g c = rw (c.reserve_from.ensures.same, c.reserve_from.ensures.trace) c.self.invariant

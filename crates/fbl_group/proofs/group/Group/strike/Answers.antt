@@ -8,14 +8,20 @@ invariant_of-self g c =
     (is_strike c.self.invariant allowed (rw c.members-n.ensures.value at c.blank_members.ensures) (rw c.members-n.ensures.value at c.drop_at.ensures) c.union-self-inside.ensures)
     c.self.invariant
 
-pub returns-clause-struck : goal.returns-clause-struck
-returns-clause-struck g c =
+pub returns : goal.returns
+returns g c =
     let allowed = (rw (← c.self.view_is) at c.in_ok-allow_strike.ensures.allowed) in
     let emptied = (rw c.members-n.ensures.value at c.drop_at.ensures) in
-    let lost = (rw (c.deref.ensures.value, c.deref-2.ensures.value, c.deref-3.ensures.value) at c.count_lost.ensures) in (
-      c.in_ok-allow_strike.ensures.allowed,
-      (rw (← c.self.view_is) (is_strike c.self.invariant allowed (rw c.members-n.ensures.value at c.blank_members.ensures) emptied c.union-self-inside.ensures), lost ∙ count-lost g.B.Behaviour.next _ c.promises-2.ensures.sound),
-    )
+    let lost = (rw (c.deref.ensures.value, c.deref-2.ensures.value, c.deref-3.ensures.value) at c.count_lost.ensures) in
+    record {
+      struck = (c.in_ok-allow_strike.ensures.allowed, (rw (← c.self.view_is) (is_strike c.self.invariant allowed (rw c.members-n.ensures.value at c.blank_members.ensures) emptied c.union-self-inside.ensures), lost ∙ count-lost g.B.Behaviour.next _ c.promises-2.ensures.sound));
+      refused = tt;
+      unchanged = tt;
+      no_orphan = c.promises-2.ensures.no_orphan;
+      survivors = c.promises-2.ensures.survivors;
+      first = c.promises-2.ensures.first;
+      causes = c.promises-2.ensures.causes;
+    }
 
 pub count_lost-requires : goal.count_lost-requires
 count_lost-requires g c = omega (arith, trace_fits g.B.Behaviour.next _ c.self.invariant, ap length c.deref-3.ensures.value)
