@@ -56,11 +56,11 @@ pub use Rattle.fbl_law.specs.GroupSteps.{recovery_table, saved_tables, taken_off
 pub use Rattle.fbl_law.specs.GroupSteps.{resent_to, sent_again, stays_by, working}
 pub use Rattle.fbl_law.specs.Groups.{GroupRecord, HasChannels, channel, channel_in, is_recorded, knowledge, marks, member, member_checkpoint, messages_in, messages_in_flight}
 pub use Rattle.fbl_law.specs.Groups.{receipts, sum_below, IsSound, received_notes}
-pub use Rattle.fbl_law.specs.Knowledge.{IsDown, IsInFlight, IsUp, MatchesTrace, send_mark, table}
+pub use Rattle.fbl_law.specs.Knowledge.{IsDown, IsInFlight, IsUp, send_mark, table}
 pub use Rattle.fbl_member.proofs.Made.{Made, made-more, made_none}
 pub use Rattle.fbl_member.proofs.Once.{IsOnce-none, IsOnce-piggybacked}
 pub use Rattle.fbl_member.specs.Carried.{IsOnce}
-pub use Rattle.fbl_member.specs.Members.{MemberRecord, Message, blank, fresh, logged_note, messages_from, received_by, replayed_by, table_after}
+pub use Rattle.fbl_member.specs.Members.{MemberRecord, Message, blank, logged_note, messages_from, received_by, replayed_by, table_after}
 pub use Rattle.fbl_table.specs.Receipts.{IsByNumber, receipt_at}
 pub use Rattle.fbl_table.specs.Tables.{found, piggybacked}
 pub use Rattle.fbl_table.specs.declared.entry.Entry.{Entry}

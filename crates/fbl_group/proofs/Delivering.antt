@@ -46,8 +46,7 @@ module _ {S N : Type 0} {next : Next S N} {r now : GroupRecord S N} {q p : ℕ} 
 
   receivers : All (λ (send : ℕ × N). send.0 < r.config.members) outcome.sends.items
   receivers k d below =
-      let allowed : SendsAllowed p r.config.members outcome = rw step (well p r.config.members m.state v.note sound.config.members.0 plan.to_member) in
-      (allowed.0 k d below).0
+      (let allowed : SendsAllowed p r.config.members outcome = rw step (well p r.config.members m.state v.note sound.config.members.0 plan.to_member) in (allowed.0 k d below).0)
 
   -- of channels that are still the group's: there is a front, what is read there is the message, and receivers are members
   module _ {cs : List (List (List (Message N)))} (same : cs ≡ r.channels) where

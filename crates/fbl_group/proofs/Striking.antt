@@ -107,8 +107,7 @@ module _ {S N : Type 0} (next : Next S N) where
   -- a strike that is allowed keeps a group sound
   pub strike_keeps : (old new : GroupRecord S N) (struck : Members) → strike_refusal old struck ≡ None → IsStrike next old new struck → IsSound next old → IsSound next new
   strike_keeps old new struck allowed strike sound =
-      let few : set.len (set.union old.down struck) ≤ old.config.f = grind (arith, nat_tests) in
-      group_strike_keeps next old new struck strike (within-below struck old.config.members (grind (arith, nat_tests))) (rw strike.down few) sound
+      group_strike_keeps next old new struck strike (within-below struck old.config.members (grind (arith, nat_tests))) (rw strike.down (grind (arith, nat_tests))) sound
 
   struck_is_sound : (first : GroupRecord S N) → IsSound next first → (last : GroupRecord S N) → AreStruck next first last → IsSound next last
   struck_is_sound first sound last nobody = sound

@@ -4,9 +4,6 @@ use Rattle.fbl_group.proofs.group.Group.plan_commit.Goals as goal
 pub returns-then-size-ticket-clause-refused : goal.returns-then-size-ticket-clause-refused
 returns-then-size-ticket-clause-refused g c = (rw (c.count.ensures, c.down.ensures.down) at c.if-count-ne0.false, λ fresh. c.if-size-ticket.true (c.size.ensures.value ∙ fresh.0))
 
-pub front-requires : goal.front-requires
-front-requires g c = (let ends = rw (← c.if-size-ticket.false, c.size.ensures.value) at c.args.done.now.ticket.ends in record { from = ends.1; to = ends.0 })
-
 pub returns-in_default-clause-refused : goal.returns-in_default-clause-refused
 returns-in_default-clause-refused g c = (rw (c.count.ensures, c.down.ensures.down) at c.if-count-ne0.false, λ fresh. (let both = sym c.in_default.ensures.none ∙ fresh.1.1 in cc))
 

@@ -2,9 +2,7 @@ use Rattle.fbl_group.proofs.Common.{arith, replayed_in-short}
 use Rattle.fbl_group.proofs.group.Group.replay_all.Goals as goal
 
 pub rounds-smaller : goal.rounds-smaller
-rounds-smaller g c =
-    let round = c.in_ok-more.ensures in
-    omega (arith, round.counted, replayed_in-short g.B.Behaviour.next _ c.recoverable.ensures.sound _ round.replaying.replaying)
+rounds-smaller g c = omega (arith, c.in_ok-more.ensures.counted, replayed_in-short g.B.Behaviour.next _ c.recoverable.ensures.sound _ c.in_ok-more.ensures.replaying.replaying)
 
 pub overflow_add-replayed : goal.overflow_add-replayed
 overflow_add-replayed g c =

@@ -16,3 +16,8 @@ loop-number-preserved g c =
             bound = omega (arith, c.loop-number.invariant.bound);
           })
     ]
+
+pub returns : goal.returns
+returns g c =
+    let all : c.loop-number.number ≡ c.args.self.now.config.members = rw (← c.self.view_is) (omega (arith, c.loop-number-test.false, c.loop-number.auto.number-end, c.members-number-end.ensures.value)) in
+    record { value = rw all at c.loop-number.invariant.summed; bound = omega (arith, c.loop-number.invariant.bound, c.loop-number.auto.number-end, c.members-number-end.ensures.value, c.self.invariant.config.members.1) }
