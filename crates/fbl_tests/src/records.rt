@@ -134,11 +134,13 @@ fn is_sent_on_by<A: Allocator + Copy>(
     receiver: &mut MemberRec<u64, Note, A>,
 ) -> Result<bool, AllocError> {
     let (from, me, to) = (Member::at(0), Member::at(1), Member::at(2));
-    let det = first_receipt(from, me);
-    let known = MemberSet::empty().with(me);
-    let carried = Entry { det, known };
-    let wires = deliver(alloc, receiver, me, det, NOTE)?;
-    Ok(is_first_message(&wires, me, to, PASSED_ON, carried))
+    let wires = deliver(alloc, receiver, me, first_receipt(from, me), NOTE)?;
+    let carried = Entry {
+        det: first_receipt(from, me),
+        known: MemberSet::empty().with(me),
+    };
+    let is_sent_on = is_first_message(&wires, me, to, PASSED_ON, carried);
+    Ok(is_sent_on)
 }
 
 /// Whether a copy of its receiver's record has the message.

@@ -38,7 +38,7 @@ impl BehaviourName {
 }
 
 /// The strikes that a run makes on its way, in the order given. Contracts see the list.
-#[derive(Drop)]
+#[derive(Debug, Drop)]
 pub struct Plan {
     strikes: Vec<Strike>,
 }
@@ -97,7 +97,7 @@ impl fmt::Display for Plan {
 }
 
 /// A command of a script.
-#[derive(Drop)]
+#[derive(Debug, Drop)]
 pub enum Command {
     /// Deliver the first message from `from` to `to`.
     Deliver { to: Member, from: Member },
@@ -143,7 +143,7 @@ impl fmt::Display for Command {
 }
 
 /// What a script asks for.
-#[derive(Drop)]
+#[derive(Debug, Drop)]
 pub struct Script {
     /// What each member does with a message.
     pub behaviour: BehaviourName,
