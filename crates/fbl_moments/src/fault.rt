@@ -11,7 +11,7 @@ pub enum RecordRule {
     #[error("there may be at most 131072 holds and stores")]
     TooMany,
     /// It is in the log of a member of the group.
-    #[error("{0}")]
+    #[error(transparent)]
     Outside(Outsider),
     /// The receipt that it names precedes it, by its member's own order and messages.
     #[error("nobody there can know the receipt yet")]
@@ -34,9 +34,9 @@ pub struct RecordFault {
 #[derive(Clone, Copy, PartialEq, Eq, Debug, Error)]
 pub enum LogBreach {
     /// The group's numbers, the strike set, or a send or receipt.
-    #[error("{0}")]
+    #[error(transparent)]
     Trace(Breach),
     /// A hold or a store.
-    #[error("{0}")]
+    #[error(transparent)]
     Record(RecordFault),
 }

@@ -10,7 +10,7 @@ use thiserror::Error;
 #[derive(Clone, Copy, PartialEq, Eq, Debug, Error)]
 pub enum Obstacle {
     /// It breaks this rule, whichever other events have come.
-    #[error("{0}")]
+    #[error(transparent)]
     Rule(EventRule),
     /// No event sends its message.
     #[error("no event sends its message")]
