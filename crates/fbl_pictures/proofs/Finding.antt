@@ -1,25 +1,15 @@
 -- What a check found, and where paths from it end.
-use Rattle.fbl_pictures.proofs.Common.{ℕ, zero, suc, ◌+◌, ◌-◌, ◌<◌, ◌==◌, ◌≡◌, ◌⊎◌, ◌↔◌, true, false, List, [], ◌∷◌, Option, Some, length, slice_get, inl, inr, refl, sym, ap, ◌∙◌, arith, slice_get_within, subst, false≢true}
-use Rattle.fbl_pictures.proofs.Common.{Determinant, Entry, Event, Hold, Store, IsPathTo, IsStart, HasOrphan, placed_from, nat_tests}
+use Rattle.fbl_pictures.proofs.Common.{ℕ, zero, suc, ◌+◌, ◌-◌, ◌<◌, ◌==◌, ◌≡◌, ◌⊎◌, ◌↔◌, true, false, List, [], ◌∷◌, Option, Some, length, slice_get, inl, inr, refl, sym, ap, ◌∙◌, arith, slice_get_within, subst, false≢true, Determinant, Entry, Event, Hold, Store, IsPathTo, IsStart, HasOrphan, placed_from, nat_tests, At-filter_map, Parts, IsDumpOrphan, determinant_of, receipt_of, receipts, IsPath, Origin, path_end, path_step, marks, IsFirstUnsafe, AreFoundShapes, column_of, column_of_end, Shape, Columns}
 use Rattle.std.specs.FinSet as set
 use Rattle.std.specs.Ordering.{nat_cmp}
 use Rattle.std.specs.Prelude.{option_and_then, map, MatchOption}
 use Rattle.fbl_base.proofs.AuditLaws.{is_receipt}
-use Rattle.fbl_base.proofs.Gets.{At-filter_map}
 use Rattle.fbl_base.proofs.Sets.{some_outside}
-use Rattle.fbl_base.specs.Audit.{Parts, IsDumpOrphan}
-use Rattle.fbl_base.specs.Events.{determinant_of, receipt_of, receipts}
 use Rattle.fbl_base.specs.MemberSets.{Members}
 use Rattle.fbl_base.specs.Precedence.{Has}
 use Rattle.fbl_base.specs.declared.trace.Mark.{Mark}
 use Rattle.fbl_audit.specs.Checking.{IsSafe, IsSaidOf, SaysUnsafe}
-use Rattle.fbl_audit.specs.Paths.{IsPath, Origin, path_end, path_step}
 use Rattle.fbl_audit.specs.declared.checking.UnsafeReceipt.{UnsafeReceipt}
-use Rattle.fbl_moments.specs.Entries.{marks}
-use Rattle.fbl_pictures.specs.DumpPictures.{IsFirstUnsafe}
-use Rattle.fbl_pictures.specs.FoundPictures.{AreFoundShapes, column_of, column_of_end}
-use Rattle.fbl_pictures.specs.declared.columns.Columns.{Columns}
-use Rattle.fbl_shapes.specs.declared.shape.Shape.{Shape}
 use Rattle.fbl_pictures.specs.declared.entries.Placed.{Placed}
 
 -- ---- events and their columns

@@ -1,21 +1,15 @@
 -- What is said first of a log, as an audit of its last moment has it.
-use Rattle.fbl_pictures.proofs.Common.{ℕ, ◌<◌, ◌≤◌, ◌≡◌, true, List, [], ◌∷◌, Some, None, length, slice_get, inl, inr, refl, sym, ap, subst, arith, slice_get_within}
+use Rattle.fbl_pictures.proofs.Common.{ℕ, ◌<◌, ◌≤◌, ◌≡◌, true, List, [], ◌∷◌, Some, None, length, slice_get, inl, inr, refl, sym, ap, subst, arith, slice_get_within, receipt_of, Determinant, log_of, marks, Entry, StandsAt, UnsafeMoment}
 use Rattle.std.specs.FinSet as set
 use Rattle.fbl_base.proofs.PrecedenceLaws.{Has-first}
-use Rattle.fbl_base.specs.Events.{receipt_of}
 use Rattle.fbl_base.specs.Precedence.{Depends, Has}
-use Rattle.fbl_base.specs.declared.trace.Determinant.{Determinant}
 use Rattle.fbl_moments.proofs.LastChecks.{depends_iff}
 use Rattle.fbl_moments.proofs.Listing.{stands_at}
-use Rattle.fbl_moments.specs.Clocks.{StandsAt}
-use Rattle.fbl_moments.specs.Entries.{log_of, marks}
 use Rattle.fbl_moments.specs.HappenedBefore.{Position}
 use Rattle.fbl_moments.specs.LastMoments.{last_of}
 use Rattle.fbl_moments.specs.Logs.{IsLog, LogParts}
 use Rattle.fbl_moments.specs.Moments.{Cut, IsLeastMoment, IsMoment}
 use Rattle.fbl_moments.specs.Unsafe.{IsSaidOf, SaysUnsafe}
-use Rattle.fbl_moments.specs.declared.check.UnsafeMoment.{UnsafeMoment}
-use Rattle.fbl_moments.specs.declared.entry.Entry.{Entry}
 
 -- the cut of all entries is a moment
 last_is_moment : (entries : List Entry) → IsMoment (log_of entries) (last_of entries)

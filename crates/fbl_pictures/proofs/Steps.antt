@@ -1,10 +1,39 @@
--- One column more.
-use Rattle.fbl_pictures.proofs.Common.{ℕ, ◌+◌, ◌<◌, ◌≡◌, List, ◌++◌, length, drop, get_or, sym, ap, ◌∙◌, append_assoc, at_drop_more, Column, Shape, drawn}
+-- Items one after another: what is drawn of them, what is of each, and where a message is received.
+use Rattle.fbl_pictures.proofs.Common.{ℕ, ◌+◌, ◌<◌, ◌≤◌, ◌≡◌, List, ◌++◌, length, drop, get_or, sym, ap, ◌∙◌, append_assoc, append-nil, at_drop_all, at_drop_more, Shape, drawn, ◌||◌, ◌∷◌, [], take, false, take_more, Determinant, Entry, is_stored, is_that, stored_by, true, cond, Option, Some, arith, option_or, is_some, same_message, MessageName, map, map_more, ◌-◌, flat_map, range_with_len}
+use Rattle.std.proofs.lemmas.List.Folds.{list_any-append}
+use Rattle.fbl_shapes.proofs.Columns.{Decides-same_message}
 
--- what is drawn from a column of a history on
-pub drawn_on : (columns : List Column) (i : ℕ) (c : Column) → i < length columns → c ≡ get_or columns i c → (draw : ℕ → Column → List Shape) (front base : List Shape)
-    → front ++ drawn draw i (drop i columns) ≡ base → (front ++ draw i c) ++ drawn draw (i + 1) (drop (i + 1) columns) ≡ base
-drawn_on columns i c within is draw front base drew =
-    append_assoc front (draw i c) _
-    ∙ ap (λ s. front ++ s) (sym (at_drop_more (drawn draw i) columns i c within ∙ ap (λ x. draw i x ++ drawn draw (i + 1) (drop (i + 1) columns)) (sym is)))
-    ∙ drew
+module _ {A : Type 0} (items : List A) (i : ℕ) (draw : ℕ → A → List Shape) (front base : List Shape) (drew : front ++ drawn draw i (drop i items) ≡ base) where
+  pub drawn_on : (x : A) → i < length items → x ≡ get_or items i x → (front ++ draw i x) ++ drawn draw (i + 1) (drop (i + 1) items) ≡ base
+  drawn_on x within is =
+      append_assoc front (draw i x) _
+      ∙ ap (λ s. front ++ s) (sym (at_drop_more (drawn draw i) items i x within ∙ ap (λ y. draw i y ++ drawn draw (i + 1) (drop (i + 1) items)) (sym is)))
+      ∙ drew
+
+  pub drawn_all : length items ≤ i → front ≡ base
+  drawn_all all = sym (at_drop_all (λ l. front ++ drawn draw i l) items i all ∙ append-nil front) ∙ drew
+
+-- and what is of each
+pub mapped_on : {A B : Type 0} (f : A → B) (items : List A) (i : ℕ) (x : A) → i < length items → x ≡ get_or items i x → (base : List B) → (base ++ map f (take i items)) ++ f x ∷ [] ≡ base ++ map f (take (i + 1) items)
+mapped_on f items i x within is base = append_assoc base _ _ ∙ ap (λ s. base ++ s) (sym (map_more f items i x within ∙ ap (λ y. map f (take i items) ++ f y ∷ []) (sym is)))
+
+-- and what is of each number
+pub rows_all : (f : ℕ → List Shape) (n i : ℕ) (before all : List Shape) → n ≤ i → before ++ flat_map f (range_with_len i (n - i)) ≡ all → before ≡ all
+rows_all f n i before all past drawn = (let none : n - i ≡ 0 = omega (arith, past) in rw (none, append-nil) at drawn)
+
+-- what is on stable storage
+pub stored_more : (entries : List Entry) (i : ℕ) (e : Entry) (d : Determinant) → i < length entries → e ≡ get_or entries i e
+    → is_stored (take (i + 1) entries) d ≡ (is_stored (take i entries) d || (is_that (stored_by e) d || false))
+stored_more entries i e d within is =
+    ap (λ x. is_stored x d) (take_more entries i e within ∙ ap (λ x. take i entries ++ x ∷ []) (sym is))
+    ∙ list_any-append (λ x. is_that (stored_by x) d) (take i entries) (e ∷ [])
+
+-- where a message is received, as the first of its receipts tells
+module _ (place : MessageName → Option ℕ) (taken m : MessageName) (i : ℕ) (later : Option ℕ) where
+  -- the event takes a message that has its place already
+  pub old_message : is_some (place taken) ≡ true → option_or (place m) later ≡ option_or (place m) (cond (same_message taken m) (Some i) later)
+  old_message there = (let same : same_message taken m ≡ true → taken ≡ m = (Decides-same_message taken m).0 in grind (arith, same, there))
+
+  -- the event takes a message that has no place yet
+  pub new_message : is_some (place taken) ≡ false → option_or (cond (same_message taken m) (Some i) (place m)) later ≡ option_or (place m) (cond (same_message taken m) (Some i) later)
+  new_message absent = (let same : same_message taken m ≡ true → taken ≡ m = (Decides-same_message taken m).0 in grind (arith, same, absent))

@@ -1,7 +1,5 @@
-use Rattle.fbl_pictures.proofs.Common.{ℕ, ◌==◌, ◌≡◌, ◌∙◌, Option, Some, ap, arith, cases_eq, cases_lt, column_in, cond, inl, inr, length, subst, sym}
-use Rattle.fbl_moments.specs.Reasons.{cut_in}
+use Rattle.fbl_pictures.proofs.Common.{ℕ, ◌==◌, ◌≡◌, ◌∙◌, Option, Some, ap, arith, cases_eq, cases_lt, column_in, cond, inl, inr, length, subst, sym, cut_in, HasPassed, IsCrossing, IsCrossingOf}
 use Rattle.fbl_pictures.proofs.Crossing.{column_kept, column_set}
-use Rattle.fbl_pictures.specs.Crossings.{HasPassed, IsCrossing, IsCrossingOf}
 use Rattle.fbl_pictures.proofs.cut.moment_columns.Goals as goal
 
 pub loop-place-init : goal.loop-place-init

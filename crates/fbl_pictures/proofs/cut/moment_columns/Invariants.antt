@@ -1,6 +1,4 @@
-use Rattle.fbl_pictures.proofs.Common.{ℕ, ◌<◌, ◌≤◌, ◌≡◌, None, Some, column_in}
-use Rattle.fbl_moments.specs.Reasons.{cut_in}
-use Rattle.fbl_pictures.specs.Crossings.{HasPassed, IsCrossing}
+use Rattle.fbl_pictures.proofs.Common.{ℕ, ◌<◌, ◌≤◌, ◌≡◌, None, Some, column_in, cut_in, HasPassed, IsCrossing}
 use Rattle.fbl_pictures.proofs.cut.moment_columns.Given as goal
 
 abbrev pub invariant-loop-place : goal.invariant-loop-place

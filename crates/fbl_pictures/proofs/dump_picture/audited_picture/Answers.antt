@@ -1,7 +1,5 @@
-use Rattle.fbl_pictures.proofs.Common.{◌≡◌, ◌∙◌, ap, length, vec_len, rules, IfOk-weaker, lost_determinants, picture}
-use Rattle.fbl_pictures.specs.DumpPictures.{dump_heading}
+use Rattle.fbl_pictures.proofs.Common.{◌≡◌, ◌∙◌, ap, length, vec_len, rules, IfOk-weaker, lost_determinants, picture, dump_heading, Dump}
 use Rattle.fbl_pictures.specs.Headings.{audit_words}
-use Rattle.fbl_shapes.specs.declared.shape.Legend.TheVariants.{Dump}
 use Rattle.fbl_pictures.proofs.dump_picture.audited_picture.Goals as goal
 
 pub returns : goal.returns

@@ -1,5 +1,4 @@
-use Rattle.fbl_pictures.proofs.Common.{◌∙◌, ap, refl, placed_from}
-use Rattle.fbl_pictures.specs.RunPictures.{run_shapes}
+use Rattle.fbl_pictures.proofs.Common.{◌∙◌, ap, refl, placed_from, run_shapes}
 use Rattle.fbl_pictures.proofs.dump_picture.audited_shapes.Goals as goal
 
 pub push_paths-requires : goal.push_paths-requires

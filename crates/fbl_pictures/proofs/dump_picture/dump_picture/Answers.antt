@@ -1,8 +1,6 @@
-use Rattle.fbl_pictures.proofs.Common.{◌⊎◌, inl, inr, subst, HasOrphan, IfOk-weaker, IsPicture}
+use Rattle.fbl_pictures.proofs.Common.{◌⊎◌, inl, inr, subst, HasOrphan, IfOk-weaker, IsPicture, Parts, IsFirstUnsafe}
 use Rattle.std.specs.Prelude.{IfOk, string_bytes}
-use Rattle.fbl_base.specs.Audit.{Parts}
 use Rattle.fbl_audit.specs.Checking.{IsSafe}
-use Rattle.fbl_pictures.specs.DumpPictures.{IsFirstUnsafe}
 use Rattle.fbl_pictures.proofs.dump_picture.dump_picture.Goals as goal
 
 pub returns-in-Some : goal.returns-in-Some

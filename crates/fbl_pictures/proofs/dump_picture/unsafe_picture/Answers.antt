@@ -1,10 +1,5 @@
-use Rattle.fbl_pictures.proofs.Common.{List, ◌≡◌, ◌∙◌, ap, length, subst, sym, Entry, IfOk-weaker, NoColumns, dump_entries, picture}
-use Rattle.fbl_base.specs.Events.{receipts}
-use Rattle.fbl_moments.specs.Entries.{marks}
+use Rattle.fbl_pictures.proofs.Common.{List, ◌≡◌, ◌∙◌, ap, length, subst, sym, Entry, IfOk-weaker, NoColumns, dump_entries, picture, receipts, marks, dump_heading, AreFoundShapes, UnsafeDump}
 use Rattle.fbl_pictures.proofs.Finding.{Has-receipt, first_is, marks-map, weaker_moment}
-use Rattle.fbl_pictures.specs.DumpPictures.{dump_heading}
-use Rattle.fbl_pictures.specs.FoundPictures.{AreFoundShapes}
-use Rattle.fbl_shapes.specs.declared.shape.Legend.TheVariants.{UnsafeDump}
 use Rattle.fbl_pictures.proofs.dump_picture.unsafe_picture.Goals as goal
 
 pub found_shapes-requires-clause-events : goal.found_shapes-requires-clause-events

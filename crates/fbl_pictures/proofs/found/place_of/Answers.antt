@@ -1,6 +1,4 @@
-use Rattle.fbl_pictures.proofs.Common.{◌≡◌, ◌∙◌, arith, get_or_from_slice_get, nat_tests, slice_get_within}
-use Rattle.std.proofs.Common.{below_more}
-use Rattle.fbl_base.specs.Events.{receipt_of}
+use Rattle.fbl_pictures.proofs.Common.{◌≡◌, ◌∙◌, arith, get_or_from_slice_get, nat_tests, slice_get_within, below_more, receipt_of}
 use Rattle.fbl_pictures.proofs.found.place_of.Goals as goal
 
 pub loop-place-preserved : goal.loop-place-preserved

@@ -1,5 +1,4 @@
-use Rattle.fbl_pictures.proofs.Common.{ℕ, ◌<◌}
-use Rattle.fbl_base.specs.Events.{At, receipt_of}
+use Rattle.fbl_pictures.proofs.Common.{ℕ, ◌<◌, At, receipt_of}
 use Rattle.fbl_pictures.proofs.found.place_of.Given as goal
 
 abbrev pub invariant-loop-place : goal.invariant-loop-place

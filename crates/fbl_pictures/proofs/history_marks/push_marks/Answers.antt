@@ -1,5 +1,11 @@
-use Rattle.fbl_pictures.proofs.Common.{arith, common_steps}
+use Rattle.fbl_pictures.proofs.Common.{arith, column_marks}
+use Rattle.fbl_pictures.proofs.Steps.{drawn_all, drawn_on}
 use Rattle.fbl_pictures.proofs.history_marks.push_marks.Goals as goal
 
 pub loop-place-preserved : goal.loop-place-preserved
-loop-place-preserved c = grind (arith, common_steps)
+loop-place-preserved c =
+    rw c.in_ok-push_mark.ensures (
+    drawn_on c.args.columns.now c.loop-place.place column_marks _ _ c.loop-place.invariant c.index-columns-place.result (omega arith) c.index-columns-place.is)
+
+pub returns : goal.returns
+returns c = drawn_all c.args.columns.now c.loop-place.place column_marks _ _ c.loop-place.invariant (omega arith)

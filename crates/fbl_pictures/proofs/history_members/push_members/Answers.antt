@@ -1,4 +1,5 @@
 use Rattle.fbl_pictures.proofs.Common.{None, ◌++◌, ◌∙◌, ap, append_assoc, arith, false, length, rows_on, history_member_shapes, label_and_names, line_parts}
+use Rattle.fbl_pictures.proofs.Steps.{rows_all}
 use Rattle.fbl_pictures.proofs.history_members.push_members.Goals as goal
 
 pub loop-number-preserved : goal.loop-number-preserved
@@ -11,3 +12,6 @@ loop-number-preserved c =
     ∙ append_assoc shapes (label_and_names (length columns) m None) (line_parts m None false 0 columns)
     ∙ ap (λ m. shapes ++ history_member_shapes columns m) c.at-member.ensures in
     rw pushed (rows_on (history_member_shapes columns) c.args.members c.loop-number.number _ _ (omega arith) c.loop-number.invariant)
+
+pub returns : goal.returns
+returns c = rows_all (history_member_shapes c.args.columns.now) c.args.members c.loop-number.number _ _ (omega arith) c.loop-number.invariant

@@ -1,8 +1,5 @@
-use Rattle.fbl_pictures.proofs.Common.{List, ◌≡◌, ◌∙◌, ap, length, rules, subst, vec_len, Entry, IfOk-weaker, picture}
-use Rattle.fbl_base.specs.Audit.{Parts}
+use Rattle.fbl_pictures.proofs.Common.{List, ◌≡◌, ◌∙◌, ap, length, rules, subst, vec_len, Entry, IfOk-weaker, picture, Parts, AreSafeShapes, log_heading, Log}
 use Rattle.fbl_pictures.specs.Headings.{audit_words}
-use Rattle.fbl_pictures.specs.LogPictures.{AreSafeShapes, log_heading}
-use Rattle.fbl_shapes.specs.declared.shape.Legend.TheVariants.{Log}
 use Rattle.fbl_pictures.proofs.log_picture.safe_picture.Goals as goal
 
 pub returns : goal.returns

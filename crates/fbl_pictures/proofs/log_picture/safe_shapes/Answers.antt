@@ -1,5 +1,4 @@
-use Rattle.fbl_pictures.proofs.Common.{◌∙◌, ap, append-nil, refl}
-use Rattle.fbl_pictures.specs.RunPictures.{run_shapes}
+use Rattle.fbl_pictures.proofs.Common.{◌∙◌, ap, append-nil, refl, run_shapes}
 use Rattle.fbl_pictures.proofs.log_picture.safe_shapes.Goals as goal
 
 pub returns : goal.returns

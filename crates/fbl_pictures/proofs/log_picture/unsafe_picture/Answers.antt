@@ -1,6 +1,4 @@
-use Rattle.fbl_pictures.proofs.Common.{◌∙◌, ap, length, IfOk-weaker, picture}
-use Rattle.fbl_pictures.specs.LogPictures.{log_heading}
-use Rattle.fbl_shapes.specs.declared.shape.Legend.TheVariants.{UnsafeLog}
+use Rattle.fbl_pictures.proofs.Common.{◌∙◌, ap, length, IfOk-weaker, picture, log_heading, UnsafeLog}
 use Rattle.fbl_pictures.proofs.log_picture.unsafe_picture.Goals as goal
 
 pub returns : goal.returns

@@ -1,16 +1,7 @@
-use Rattle.fbl_pictures.proofs.Common.{ℕ, List, ◌≡◌, ◌≤◌, length, subst, sym, Entry, IfOk-weaker}
-use Rattle.fbl_base.specs.Audit.{Parts}
-use Rattle.fbl_moments.specs.Clocks.{StandsAt}
-use Rattle.fbl_moments.specs.Entries.{log_of}
+use Rattle.fbl_pictures.proofs.Common.{ℕ, List, ◌≡◌, ◌≤◌, length, subst, sym, Entry, IfOk-weaker, Parts, log_of, cut_in, AreCrossings, AreFoundShapes, StandsAt, UnsafeMoment, found_in, Columns}
 use Rattle.fbl_moments.specs.LastMoments.{dump_of}
-use Rattle.fbl_moments.specs.Reasons.{cut_in}
-use Rattle.fbl_moments.specs.declared.check.UnsafeMoment.{UnsafeMoment}
 use Rattle.fbl_pictures.proofs.Finding.{weaker_moment}
 use Rattle.fbl_pictures.proofs.Moments.{least_within, orphans_depend, said_is_received}
-use Rattle.fbl_pictures.specs.Crossings.{AreCrossings}
-use Rattle.fbl_pictures.specs.FoundPictures.{AreFoundShapes}
-use Rattle.fbl_pictures.specs.LogPictures.{found_in}
-use Rattle.fbl_pictures.specs.declared.columns.Columns.{Columns}
 use Rattle.fbl_pictures.proofs.log_picture.unsafe_shapes.Goals as goal
 
 pub moment_columns-moment-requires-clause-within : goal.moment_columns-moment-requires-clause-within

@@ -1,7 +1,6 @@
-use Rattle.fbl_pictures.proofs.Common.{ℕ, Option, Some, None, ◌≡◌, ◌∙◌, ◌+◌, ◌∷◌, cond, sym, ap, arith, drop, position_from, option_or, at_drop_more, same_message}
-use Rattle.fbl_pictures.proofs.Common.{is_message, MessageName, takes, taken_in}
+use Rattle.fbl_pictures.proofs.Common.{ℕ, Option, Some, None, ◌≡◌, ◌∙◌, ◌+◌, ◌∷◌, cond, sym, ap, arith, drop, position_from, option_or, at_drop_more, same_message, is_message, MessageName, takes, taken_in}
 use Rattle.std.specs.HashMap as hash_map
-use Rattle.fbl_pictures.proofs.Indexing.{old_message, new_message}
+use Rattle.fbl_pictures.proofs.Steps.{old_message, new_message}
 use Rattle.fbl_pictures.proofs.run_events.receipt_places.Goals as goal
 
 pub loop-place-preserved : goal.loop-place-preserved

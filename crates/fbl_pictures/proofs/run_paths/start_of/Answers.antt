@@ -1,6 +1,5 @@
-use Rattle.fbl_pictures.proofs.Common.{◌≡◌, ◌∙◌, true, ap, IsPathTo}
+use Rattle.fbl_pictures.proofs.Common.{◌≡◌, ◌∙◌, true, ap, IsPathTo, column_of_end}
 use Rattle.std.specs.FinSet as set
-use Rattle.fbl_pictures.specs.FoundPictures.{column_of_end}
 use Rattle.fbl_pictures.proofs.Finding.{start_right}
 use Rattle.fbl_pictures.proofs.run_paths.start_of.Goals as goal
 

@@ -1,11 +1,6 @@
-use Rattle.fbl_pictures.proofs.Common.{ℕ, ◌+◌, ◌==◌, ◌<◌, ◌≤◌, ◌≡◌, ◌∙◌, None, Some, ap, arith, column_in, cond, false≢true, get_or, is_some, not, slice_get, slice_get-get_or, subst, sym}
-use Rattle.std.proofs.Common.{set}
+use Rattle.fbl_pictures.proofs.Common.{ℕ, ◌+◌, ◌==◌, ◌<◌, ◌≤◌, ◌≡◌, ◌∙◌, None, Some, ap, arith, column_in, cond, false≢true, get_or, is_some, not, slice_get, slice_get-get_or, subst, sym, set, entry_member, cut_in, IsBeyond, IsEnd, seen}
 use Rattle.fbl_moments.proofs.Passes.{seen-le}
-use Rattle.fbl_moments.specs.Clocks.{seen}
-use Rattle.fbl_moments.specs.Entries.{entry_member}
-use Rattle.fbl_moments.specs.Reasons.{cut_in}
 use Rattle.fbl_pictures.proofs.Crossing.{beyond_kept, beyond_set, end_come, end_kept, pass_more, is_none}
-use Rattle.fbl_pictures.specs.Crossings.{IsBeyond, IsEnd}
 use Rattle.fbl_pictures.specs.declared.cut.Pass.{Pass}
 use Rattle.fbl_pictures.proofs.cut.Pass.add.Goals as goal
 use Rattle.fbl_pictures.proofs.cut.Pass.add.Goals.{then-self-number, else-self-number+then-is_none, else-self-number+else-is_none}
@@ -39,24 +34,21 @@ returns c =
           let come : seen entries p m < cut m = omega (arith, count, w.if-self-number.true) in
           pass_more entries cut p e m here own old _ below passed (ap (λ (s : Pass). set s.counts m (get_or s.counts m 0 + 1)) w.self-is)
           (subst (λ (n : ℕ). IsEnd entries cut (p + 1) n) (sym (ap (λ (s : Pass). s.end) w.self-is)) (end_come entries cut p e m here own come))
-          (λ q within.
-          let kept = beyond_kept entries cut p e m here own q (column_in old.beyond q) (passed.beyond q within) (λ none same. come) in
-          subst (λ (s : Pass). IsBeyond entries cut (p + 1) q (column_in s.beyond q)) (sym w.self-is) kept)
+          (λ q within. subst (λ (s : Pass). IsBeyond entries cut (p + 1) q (column_in s.beyond q)) (sym w.self-is)
+          (beyond_kept entries cut p e m here own q (column_in old.beyond q) (passed.beyond q within) (λ none same. come)))
       | else-self-number+then-is_none w ↦
           let beyond : cut m ≤ seen entries p m = omega (arith, count, w.if-self-number.false) in
           let at : w.get.result ≡ column_in old.beyond m = w.get.ensures ∙ ap (column_in old.beyond) (w.number.ensures.value ∙ sym c.number-number.ensures.value) in
           let none : column_in old.beyond m ≡ None = sym at ∙ is_none w.get.result (w.is_none.ensures ∙ ap not w.if-is_none.true) in
           pass_more entries cut p e m here own old _ below passed (ap (λ (s : Pass). set s.counts m (get_or s.counts m 0 + 1)) w.self-is)
           (subst (λ (n : ℕ). IsEnd entries cut (p + 1) n) (sym (ap (λ (s : Pass). s.end) w.self-is)) (end_kept entries cut p e m here own beyond old.end passed.end))
-          (λ q within.
-          let set' = beyond_set entries cut p e m here own old.beyond w.set.new.self beyond none (λ k. w.set.ensures k ∙ ap (λ x. cond (k == x) (Some p) (column_in old.beyond k)) (sym c.number-number.ensures.value)) below passed.beyond q within in
-          subst (λ (s : Pass). IsBeyond entries cut (p + 1) q (column_in s.beyond q)) (sym w.self-is) set')
+          (λ q within. subst (λ (s : Pass). IsBeyond entries cut (p + 1) q (column_in s.beyond q)) (sym w.self-is)
+          (beyond_set entries cut p e m here own old.beyond w.set.new.self beyond none (λ k. w.set.ensures k ∙ ap (λ x. cond (k == x) (Some p) (column_in old.beyond k)) (sym c.number-number.ensures.value)) below passed.beyond q within))
       | else-self-number+else-is_none w ↦
           let beyond : cut m ≤ seen entries p m = omega (arith, count, w.if-self-number.false) in
           let at : w.get.result ≡ column_in old.beyond m = w.get.ensures ∙ ap (column_in old.beyond) (w.number.ensures.value ∙ sym c.number-number.ensures.value) in
           pass_more entries cut p e m here own old _ below passed (ap (λ (s : Pass). set s.counts m (get_or s.counts m 0 + 1)) w.self-is)
           (subst (λ (n : ℕ). IsEnd entries cut (p + 1) n) (sym (ap (λ (s : Pass). s.end) w.self-is)) (end_kept entries cut p e m here own beyond old.end passed.end))
-          (λ q within.
-          let kept = beyond_kept entries cut p e m here own q (column_in old.beyond q) (passed.beyond q within) (λ none same. absurd (false≢true (sym (ap is_some (at ∙ ap (column_in old.beyond) (sym same) ∙ none)) ∙ w.is_none.ensures ∙ ap not w.if-is_none.false))) in
-          subst (λ (s : Pass). IsBeyond entries cut (p + 1) q (column_in s.beyond q)) (sym w.self-is) kept)
+          (λ q within. subst (λ (s : Pass). IsBeyond entries cut (p + 1) q (column_in s.beyond q)) (sym w.self-is)
+          (beyond_kept entries cut p e m here own q (column_in old.beyond q) (passed.beyond q within) (λ none same. absurd (false≢true (sym (ap is_some (at ∙ ap (column_in old.beyond) (sym same) ∙ none)) ∙ w.is_none.ensures ∙ ap not w.if-is_none.false)))))
     ]

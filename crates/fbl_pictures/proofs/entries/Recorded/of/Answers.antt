@@ -1,5 +1,5 @@
 use Rattle.fbl_pictures.proofs.Common.{arith}
-use Rattle.fbl_pictures.proofs.Stores.{stored_more}
+use Rattle.fbl_pictures.proofs.Steps.{stored_more}
 use Rattle.fbl_pictures.proofs.entries.Recorded.of.Goals as goal
 
 pub loop-entry-preserved : goal.loop-entry-preserved
