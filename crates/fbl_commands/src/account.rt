@@ -2,7 +2,7 @@
 
 use crate::answer::Answer;
 use fbl_base::{Determinant, Strike};
-use fbl_group::{CrashRecord, Recovered, RecoveryRecord};
+use fbl_group::{CrashRecord, Recovered};
 use fbl_texts::Command;
 use fbl_threads::{Drained, Recorded};
 use std::fmt;
@@ -149,22 +149,15 @@ fn write_crashes<W: fmt::Write>(
 
 /// Writes what a crash lost, replayed, undid and sent again.
 fn write_crash<W: fmt::Write>(f: &mut fmt::Formatter<W>, crash: &CrashRecord) -> fmt::Result {
-    let Some(
-        RecoveryRecord {
-            struck,
-            recovered,
-            ..
-        },
-    ) = &crash.recovery
-    else {
+    let Some(record) = &crash.recovery else {
         return f.write_str("not recovered\n");
     };
-    let lost = struck.lost;
+    let lost = record.struck.lost;
     let Recovered {
         replayed,
         resent,
         undone,
-    } = *recovered;
+    } = record.recovered;
     write!(
         f,
         "receipts lost {lost}, replayed {replayed}, undone {undone}; messages sent again {resent}\n"
@@ -201,10 +194,8 @@ fn write_run<W: fmt::Write>(
 
 /// Writes what each worker did.
 fn write_workers<W: fmt::Write>(f: &mut fmt::Formatter<W>, drained: &Drained) -> fmt::Result {
-    let workers = drained
-        .by_worker
-        .iter()
-        .zip(drained.undone_by_worker.iter());
+    let undone = drained.undone_by_worker.iter();
+    let workers = drained.by_worker.iter().zip(undone);
     for (worker, (made, undone)) in workers.enumerate() {
         write!(f, "; worker {worker} made {made}, undid {undone}")?;
     }

@@ -1,9 +1,11 @@
 //! What commands answer, and the lines that they print.
 
-ghost use Rattle.std.specs.Prelude.{◌≡◌, ◌<◌, ◌++◌, IfOk, string_bytes};
+ghost use Rattle.std.specs.Prelude.{◌≡◌, ◌<◌, ◌++◌, ◌∷◌, [], IfOk, codes, decimal, string_bytes};
 ghost use Rattle.fbl_law.specs.Promises.{dump_of};
 ghost use Rattle.fbl_commands.specs.Steps.{is_refusal as is_refusal_of};
 ghost use Rattle.fbl_commands.specs.Texts.{AreTotals, IsReport, IsText, delivery_line, end_word as end_word_of, member_line as line_of, of_members, recovery_line, refusal_line, states_line, total_lines};
+ghost use Rattle.fbl_texts.specs.Lines.{line};
+ghost use Rattle.fbl_texts.specs.Sets.{set_words};
 
 use crate::reason::Reason;
 use fbl_base::audit::{Audit, Dump};
@@ -84,11 +86,7 @@ impl Answer {
                 members,
                 struck,
                 ..
-            } => {
-                let set = set_text(alloc, *members)?;
-                let lost = struck.lost;
-                format!(in alloc; "strike {set} lost {lost}\n")
-            }
+            } => strike_text(alloc, *members, struck),
             Answer::Recovery { recovered, .. } => recovery_text(alloc, recovered),
             Answer::Dump(dump) => dump_text(alloc, dump),
             Answer::Run { recorded, .. } => {
@@ -125,6 +123,15 @@ fn delivery_text(
         state,
     } = *receipt;
     format!(in alloc; "deliver {to} {from} receipt {rsn} carried {carried} state {state}\n")
+}
+
+/// The line of a strike of these members.
+fn strike_text(alloc: Global, members: MemberSet, struck: &Struck) -> Result<String, AllocError>
+    ensures { IfOk result (λ text. string_bytes text ≡ line (codes "strike " ∷ set_words members ∷ codes " lost " ∷ decimal struck.now.lost ∷ [])) }
+{
+    let set = set_text(alloc, members)?;
+    let lost = struck.lost;
+    format!(in alloc; "strike {set} lost {lost}\n")
 }
 
 /// The line of a recovery.
@@ -268,10 +275,10 @@ fn totals_text(alloc: Global, totals: &Totals) -> Result<String, AllocError>
         lost,
         orphans,
     } = *totals;
-    let orphans = set_text(alloc, orphans)?;
     let mut text = format!(in alloc; "flight {flight}\n")?;
     write!(text, "trace {trace}\n")?;
     write!(text, "lost {lost}\n")?;
+    let orphans = set_text(alloc, orphans)?;
     write!(text, "orphans {orphans}\n")?;
     Ok(text)
 }

@@ -28,6 +28,12 @@ impl fmt::Display for NamedMembers {
     }
 }
 
+/// Writes how many members would be down, which ones, and what `f` is.
+fn too_many<W: fmt::Write>(down: &MemberSet, f: &u8, to: &mut fmt::Formatter<W>) -> fmt::Result {
+    let count = down.count();
+    write!(to, "{count} members would be down, {down}, and f is {f}")
+}
+
 /// Why a command is refused, with the numbers of the group as it was then.
 #[derive(Clone, Copy, PartialEq, Eq, Debug, Error)]
 pub enum Reason {
@@ -47,7 +53,7 @@ pub enum Reason {
     #[error("it names nobody")]
     Nobody,
     /// These members would be down together, more than `f`.
-    #[error("{} members would be down, {down}, and f is {f}", .down.count())]
+    #[error(fmt = too_many)]
     TooMany { down: MemberSet, f: u8 },
     /// Nobody is down.
     #[error("nobody is down")]
