@@ -1,6 +1,6 @@
 //! The texts of marks.
 
-ghost use Rattle.std.specs.Prelude.{◌≡◌, ◌<◌, IfOk, length, string_bytes};
+ghost use Rattle.std.specs.Prelude.{◌≡◌, ◌<◌, IfOk, decimal, length, string_bytes};
 ghost use Rattle.fbl_pictures.specs.Marks.{drawn_checkpoint, cross, drawn_held_receipt, drawn_hold, drawn_moment, number, numbers, onward, drawn_receipt, receipt_words, drawn_recovery, drawn_send, drawn_store, drawn_strike, stroke};
 
 use crate::places::{before, below, x, y};
@@ -49,6 +49,21 @@ fn number_text(
     format!(in alloc; "{stroke}<text class='at{gone}' x='{x}' y='{y}'>{words}</text>\n")
 }
 
+/// The text of a count beside a mark.
+fn count_text(
+    alloc: Global,
+    x: u128,
+    y: u32,
+    undone: bool,
+    count: u64,
+) -> Result<String, AllocError>
+    requires { y < 30000 }
+    ensures { IfOk result (λ text. string_bytes text ≡ number x y undone (decimal count)) }
+{
+    let words = format!(in alloc; "{count}")?;
+    number_text(alloc, x, y, undone, words.as_str())
+}
+
 /// The text of the cross over the mark of an undone event.
 #[tactic(auto, unfolding(crate::specs::Marks::cross))]
 fn cross_text(
@@ -86,8 +101,7 @@ pub(crate) fn send_text(
     let class = words_if(undone, " undone");
     let end = words_if(undone, ", undone");
     let cross = cross_text(alloc, column, from, undone)?;
-    let words = format!(in alloc; "{ssn}")?;
-    let number = number_text(alloc, x, y - 11, undone, words.as_str())?;
+    let number = count_text(alloc, x, y - 11, undone, u64::from(ssn))?;
     format!(in alloc;
         "<circle class='send{class}' cx='{x}' cy='{y}' r='5'>\
          <title>member {sender} sends its message {ssn} to {receiver}{end}</title></circle>\n\
@@ -127,11 +141,9 @@ pub(crate) fn receipt_text(
     let top = y - 7;
     let title = receipt_title_text(alloc, determinant)?;
     let cross = cross_text(alloc, column, determinant.to, undone)?;
-    let words = format!(in alloc; "{rsn}")?;
-    let number = number_text(alloc, x, y + 20, undone, words.as_str())?;
+    let number = count_text(alloc, x, y + 20, undone, u64::from(rsn))?;
     let low = below(column, determinant.to.number(), 9999 < state);
-    let words = format!(in alloc; "{state}")?;
-    let after = number_text(alloc, x, low, undone, words.as_str())?;
+    let after = count_text(alloc, x, low, undone, state)?;
     format!(in alloc;
         "<rect class='receipt{class}' x='{left}' y='{top}' width='14' height='14'>\
          {title}, state {state}{end}</title></rect>\n\
@@ -157,8 +169,7 @@ pub(crate) fn held_text(
     let outline = outline(kind);
     let title = receipt_title_text(alloc, determinant)?;
     let holders = set_text(alloc, holders)?;
-    let words = format!(in alloc; "{rsn}")?;
-    let number = number_text(alloc, x, y + 20, false, words.as_str())?;
+    let number = count_text(alloc, x, y + 20, false, u64::from(rsn))?;
     format!(in alloc;
         "<path class='{class}' d='M{x} {y}{outline}'>{title}, held by {holders}</title></path>\n{number}"
     )
@@ -211,8 +222,7 @@ fn numbers_text(
     let x = x(column);
     let y = y(member.number());
     let rsn = determinant.rsn;
-    let words = format!(in alloc; "{rsn}")?;
-    let mut text = number_text(alloc, x, y + 20, false, words.as_str())?;
+    let mut text = count_text(alloc, x, y + 20, false, u64::from(rsn))?;
     let to = determinant.to.number();
     let words = format!(in alloc; "of {to}")?;
     let receiver = number_text(alloc, x, y + 32, false, words.as_str())?;

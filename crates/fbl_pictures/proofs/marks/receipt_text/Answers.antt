@@ -5,5 +5,4 @@ pub returns : goal.returns
 unfolding drawn_receipt
 returns c =
     rw (c.below-low.ensures.value, c.x-x.ensures.value, c.y-y.ensures.value, c.number.ensures.value, c.number-2.ensures.value) at (
-    rw (c.as_str.ensures.value, c.in_ok-words.ensures.ok, c.as_str-2.ensures.value, c.in_ok-words-2.ensures.ok) at (
-    rw (c.words_if-class.ensures, c.words_if-end.ensures, c.in_ok-title.ensures, c.in_ok-cross.ensures, c.in_ok-number.ensures, c.in_ok-after.ensures) at c.format-3.ensures.ok))
+    rw (c.words_if-class.ensures, c.words_if-end.ensures, c.in_ok-title.ensures, c.in_ok-cross.ensures, c.in_ok-number.ensures, c.in_ok-after.ensures, c.from.ensures) at c.format.ensures.ok)
