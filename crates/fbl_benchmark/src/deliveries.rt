@@ -56,7 +56,7 @@ fn time_group(rt: &HostRuntime, members: u8, f: u8, count: u32) -> Result<()> {
 
 /// Does it once.
 fn try_group(rt: &HostRuntime, members: u8, f: u8, count: u32) -> Result<Tried> {
-    let mut group = group_of::<Circulate>(rt.alloc(), members, f, NOTE)?;
+    let mut group = group_of::<Circulate>(rt.alloc(), (members, f), 1, NOTE)?;
     try_on(rt, &mut group, members, count)
 }
 

@@ -3,13 +3,12 @@
 use crate::circulate::Circulate;
 use crate::load::beside_load;
 use crate::long_circulate::LongCirculate;
-use crate::ring::LIMIT;
+use crate::ring::{LIMIT, NOTE, group_of};
 use crate::times::{TRIES, microseconds_since, print_rate};
 use anyhow::Result;
-use fbl_base::{Behaviour, Config, Member, Note, Start};
+use fbl_base::{Behaviour, Note};
 use fbl_group::Group;
 use fbl_threads::{NoGate, drain, drain_recorded};
-use std::alloc::{AllocError, Global};
 use std::sync::Wait;
 use std::thread::Threads;
 use std::time::Instant;
@@ -92,19 +91,12 @@ struct Drain {
     full: bool,
 }
 
-/// A group in which each of the first so many members has sent a message to the next.
-fn ring<B: Behaviour<State = u64, Note = Note>>(alloc: Global, messages: u8) -> Result<Group<B>> {
-    let mut starts = Vec::new(alloc);
-    for number in 0..messages {
-        let from = Member::new(number).unwrap_or_default();
-        let to = Member::new((number + 1) % MEMBERS).unwrap_or_default();
-        let note = Note { value: 1, hops: 1 };
-        starts
-            .push(Start { from, to, note })
-            .map_err(|_| AllocError)?;
+impl Drain {
+    /// A drain that left this group.
+    fn of<B: Behaviour>(group: &Group<B>, full: bool) -> Drain {
+        let receipts = group.receipts_ever().min(u64::from(LIMIT)) as u32;
+        Drain { receipts, full }
     }
-    let config = Config::new(alloc, MEMBERS, LOST, LIMIT, &starts)?;
-    Ok(Group::new(alloc, config)?)
 }
 
 /// Times the drains of a case by each number of workers.
@@ -148,20 +140,36 @@ fn try_drain<B: Behaviour<State = u64, Note = Note> + Send + Sync, T: Threads + 
     case: Case,
     workers: u8,
 ) -> Result<(u128, Drain)> {
-    let alloc = rt.alloc();
-    let group = ring::<B>(alloc, case.messages)?;
-    let start = Instant::now(rt)?;
-    let (group, full, turns) = if case.is_recorded {
-        let (group, recorded) = drain_recorded(threads, alloc, group, &[], workers, TURNS, &NoGate);
-        let recorded = recorded?;
-        (group, recorded.drained.full, Some(recorded.turns))
+    let group = group_of::<B>(rt.alloc(), (MEMBERS, LOST), case.messages, NOTE)?;
+    if case.is_recorded {
+        try_recorded(rt, threads, group, workers)
     } else {
-        let (group, drained) = drain(threads, alloc, group, &[], workers, TURNS, &NoGate);
-        (group, drained?.full, None)
-    };
+        try_counted(rt, threads, group, workers)
+    }
+}
+
+/// Drains the group, and answers that.
+fn try_counted<B: Behaviour<State = u64, Note = Note> + Send + Sync, T: Threads + Wait + Sync>(
+    rt: &HostRuntime,
+    threads: &T,
+    group: Group<B>,
+    workers: u8,
+) -> Result<(u128, Drain)> {
+    let start = Instant::now(rt)?;
+    let (group, answer) = drain(threads, rt.alloc(), group, &[], workers, TURNS, &NoGate);
     let taken = microseconds_since(rt, start)?;
-    let receipts = group.receipts_ever().min(u64::from(LIMIT)) as u32;
-    // the turns are given back to memory when the time is taken
-    drop(turns);
-    Ok((taken, Drain { receipts, full }))
+    Ok((taken, Drain::of(&group, answer?.full)))
+}
+
+/// Drains the group with its turns handed out, and answers that. The turns are given back to memory when the time is taken.
+fn try_recorded<B: Behaviour<State = u64, Note = Note> + Send + Sync, T: Threads + Wait + Sync>(
+    rt: &HostRuntime,
+    threads: &T,
+    group: Group<B>,
+    workers: u8,
+) -> Result<(u128, Drain)> {
+    let start = Instant::now(rt)?;
+    let (group, answer) = drain_recorded(threads, rt.alloc(), group, &[], workers, TURNS, &NoGate);
+    let taken = microseconds_since(rt, start)?;
+    Ok((taken, Drain::of(&group, answer?.drained.full)))
 }

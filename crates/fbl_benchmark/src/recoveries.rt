@@ -35,7 +35,7 @@ fn time_recovery<B: Behaviour<State = u64, Note = Note>>(
     name: &str,
     checkpointed: bool,
 ) -> Result<()> {
-    let mut group = group_of::<B>(rt.alloc(), MEMBERS, LOST, NOTE)?;
+    let mut group = group_of::<B>(rt.alloc(), (MEMBERS, LOST), 1, NOTE)?;
     deliver_and_checkpoint(&mut group, checkpointed)?;
     let (recovered, least) = try_recoveries(rt, &mut group)?;
     println!(rt;

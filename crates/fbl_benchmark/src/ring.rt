@@ -1,4 +1,4 @@
-//! One message that goes round a group.
+//! Groups with messages that go round, and deliveries of one that does.
 
 use anyhow::Result;
 use fbl_base::{Behaviour, Config, Member, Note, Start};
@@ -11,21 +11,22 @@ pub const LIMIT: u32 = 8192;
 /// What the message holds where nothing else is wanted.
 pub const NOTE: Note = Note { value: 1, hops: 1 };
 
-/// A group with one message in flight, from member 0 to member 1.
+/// A group in which so many messages are in flight: the members in turn, round the group, have sent one to the next.
 pub fn group_of<B: Behaviour>(
     alloc: Global,
-    members: u8,
-    f: u8,
+    (members, f): (u8, u8),
+    messages: u8,
     note: B::Note,
 ) -> Result<Group<B>> {
     let mut starts = Vec::new(alloc);
-    starts
-        .push(Start {
-            from: Member::default(),
-            to: next_member(Member::default(), members),
-            note,
-        })
-        .map_err(|_| AllocError)?;
+    let mut from = Member::default();
+    for _ in 0..messages {
+        let to = next_member(from, members);
+        starts
+            .push(Start { from, to, note })
+            .map_err(|_| AllocError)?;
+        from = to;
+    }
     let config = Config::new(alloc, members, f, LIMIT, &starts)?;
     Ok(Group::new(alloc, config)?)
 }

@@ -1,12 +1,11 @@
 //! Deliveries of many messages that spread over a group.
 
-use crate::ring::LIMIT;
+use crate::ring::{LIMIT, group_of};
 use crate::spread::Spread;
 use crate::times::{TRIES, microseconds_since, print_rate};
 use anyhow::Result;
-use fbl_base::{Behaviour, Config, Member, Note, Start};
+use fbl_base::{Behaviour, Member, Note};
 use fbl_group::{DeliverRefusal, Group};
-use std::alloc::{AllocError, Global};
 use std::time::Instant;
 
 /// How many members the group has.
@@ -54,7 +53,7 @@ pub fn time_spread_of<B: Behaviour>(
 
 /// Delivers all messages of a new group, and answers what that counted and how many microseconds it took.
 fn try_spread<B: Behaviour>(rt: &HostRuntime, f: u8, note: B::Note) -> Result<(Spreading, u128)> {
-    let mut group = group_with_starts::<B>(rt.alloc(), f, note)?;
+    let mut group = group_of::<B>(rt.alloc(), (MEMBERS, f), STARTS, note)?;
     let start = Instant::now(rt)?;
     let counts = deliver_all(&mut group)?;
     Ok((counts, microseconds_since(rt, start)?))
@@ -67,20 +66,6 @@ fn print_spread(rt: &HostRuntime, name: &str, counts: Spreading, least: u128) ->
         counts.delivered, counts.carried, counts.most_in_flight
     )?;
     print_rate(rt, name, "deliveries", counts.delivered, least)
-}
-
-/// A group in which the starts are in flight.
-fn group_with_starts<B: Behaviour>(alloc: Global, f: u8, note: B::Note) -> Result<Group<B>> {
-    let mut starts = Vec::new(alloc);
-    for number in 0..STARTS {
-        let from = Member::new(number % MEMBERS).unwrap_or_default();
-        let to = Member::new((number + 1) % MEMBERS).unwrap_or_default();
-        starts
-            .push(Start { from, to, note })
-            .map_err(|_| AllocError)?;
-    }
-    let config = Config::new(alloc, MEMBERS, f, LIMIT, &starts)?;
-    Ok(Group::new(alloc, config)?)
 }
 
 /// Goes round the members and delivers one message to each, until a round finds nothing in flight.

@@ -33,7 +33,7 @@ fn time_ring(rt: &HostRuntime) -> Result<()> {
 
 /// Delivers so often in a new group, and answers how many determinants were carried and how many microseconds it took.
 fn try_ring(rt: &HostRuntime) -> Result<(u64, u128)> {
-    let mut group = group_of::<WideRing>(rt.alloc(), MEMBERS, 1, Packet::new(1))?;
+    let mut group = group_of::<WideRing>(rt.alloc(), (MEMBERS, 1), 1, Packet::new(1))?;
     let start = Instant::now(rt)?;
     let carried = deliver_many(&mut group, MEMBERS, COUNT)?;
     Ok((carried, microseconds_since(rt, start)?))
