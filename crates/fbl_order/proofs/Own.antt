@@ -215,6 +215,32 @@ pub record IsLeastBelow (Gives : ℕ → Bool → Type 0) (cursors : List ℕ) (
   pub some : least < end → Gives least true × ((q : ℕ) × (get_or cursors q end ≡ least))
   pub each : (q : ℕ) → q < below → get_or cursors q end < least → Gives (get_or cursors q end) false
 
+-- a cursor before the end is that of a member
+within_room : (cursors : List ℕ) (q end : ℕ) → get_or cursors q end < end → q < length cursors
+within_room [] q end below = absurd (omega arith)
+within_room (x ∷ cursors) zero end below = omega arith
+within_room (x ∷ cursors) (suc q) end below = (let more = within_room cursors q end below in omega (arith, more))
+
+-- of all cursors it is the least, or there is none before the end
+pub least_found : (Gives : ℕ → Bool → Type 0) (cursors : List ℕ) (end all least : ℕ) → length cursors ≤ all → IsLeastBelow Gives cursors end all least
+    → least < end → IsLeastGiven Gives cursors end (Some least)
+least_found Gives cursors end all least room kept before = record {
+  none = λ no q below. absurd (cc);
+  some = λ place is. (let same : least ≡ place = cc in rw (← same) (before, (kept.some before).0, (kept.some before).1));
+  before = λ place is q below.
+      let same : least ≡ place = cc in
+      let within = within_room cursors q end (omega (arith, same, below, before)) in
+      kept.each q (omega (arith, within, room)) (omega (arith, same, below));
+}
+
+pub least_none : (Gives : ℕ → Bool → Type 0) (cursors : List ℕ) (end all least : ℕ) → length cursors ≤ all → IsLeastBelow Gives cursors end all least
+    → end ≤ least → IsLeastGiven Gives cursors end None
+least_none Gives cursors end all least room kept past = record {
+  none = λ no q below. kept.each q (omega (arith, within_room cursors q end below, room)) (omega (arith, below, past));
+  some = λ place is. absurd (cc);
+  before = λ place is q below. absurd (cc);
+}
+
 -- where the answer is yes exactly at the places at which something may come, it is the least of these
 pub least_may : (Gives : ℕ → Bool → Type 0) (MayCome : ℕ → Type 0) (cursors : List ℕ) (end : ℕ) (r : Option ℕ) → IsLeastGiven Gives cursors end r
     → ((p : ℕ) (b : Bool) → p < end → Gives p b → ((b ≡ true → MayCome p) × (MayCome p → b ≡ true)))
