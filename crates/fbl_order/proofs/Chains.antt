@@ -1,5 +1,5 @@
 -- Events of which each waits for the next one.
-use Rattle.fbl_order.proofs.Common.{ℕ, List, [], ◌∷◌, ◌++◌, ◌+◌, ◌-◌, ◌≡◌, ◌≢◌, ◌<◌, ◌≤◌, ◌⊎◌, ◌∙◌, Option, None, Some, refl, sym, ap, inl, inr, arith}
+use Rattle.fbl_order.proofs.Common.{ℕ, List, [], ◌∷◌, ◌++◌, ◌+◌, ◌-◌, ◌≡◌, ◌≢◌, ◌<◌, ◌≤◌, ◌⊎◌, ◌∙◌, Option, None, Some, refl, sym, ap, inl, inr, arith, rules}
 use Rattle.fbl_order.proofs.Common.{length, length-append, slice_get, slice_get-get_or, get_or, subst}
 use Rattle.fbl_order.proofs.Common.{Mark, At-below, At-front, At-push, AreLinked, IsNextAt, IsOnward, IsStuck, Merge, StandsIn, StartsAt, Stuck}
 use Rattle.fbl_base.proofs.Gets.{map-At}
@@ -11,6 +11,7 @@ use Rattle.std.proofs.lemmas.List.Folds.{Any-from_list_any}
 use Rattle.std.proofs.lemmas.List.Quantifiers.{all_pairs_push}
 use Rattle.std.proofs.lemmas.Map.Made.{IsDistinct-from_AllPairs}
 use Rattle.std.proofs.lemmas.Map.Steps.{length-le_from_distinct_below}
+use Rattle.fbl_order.specs.Faults.{IsChain}
 use Rattle.fbl_order.specs.declared.fault.Obstacle.TheVariants.{Waits}
 
 -- the chain so far, and the place for which its last event waits, if no event of the chain stands there
@@ -19,6 +20,24 @@ pub record IsWalk {A : Type 0} (n : ℕ) (events : List Mark) (merge : Merge A) 
   pub begins : ((chain ≡ []) × (next ≡ Some first)) ⊎ StartsAt chain first
   pub last : (s : Stuck) → slice_get chain (length chain - 1) ≡ Some s → IsOnward chain s.obstacle next
   pub waits : (place : ℕ) → next ≡ Some place → IsNextAt events merge place × ¬ (StandsIn chain place)
+
+-- before the first event
+pub begun_walk : {A : Type 0} (n : ℕ) (events : List Mark) (merge : Merge A) (first : ℕ) → IsNextAt events merge first
+    → IsWalk n events merge first [] (Some first)
+begun_walk n events merge first next = record {
+  linked = record { each = λ k s at. cc; follows = λ k s t at there. cc; apart = search rules };
+  begins = inl (refl, refl);
+  last = λ s at. cc;
+  waits = λ place is. (let same : first ≡ place = cc in (rw (← same) next, λ stands. (let none = stands.2 in cc)));
+}
+
+-- where none comes next
+pub walked_all : {A : Type 0} {n : ℕ} {events : List Mark} {merge : Merge A} {first : ℕ} {chain : List Stuck} → IsWalk n events merge first chain None
+    → IsChain n events merge.run.items chain × StartsAt chain first
+walked_all walk = (
+  record { linked = walk.linked; closed = λ s place at waits. walk.last s at place waits },
+  elim walk.begins [ inl none ↦ absurd (let is = none.1 in cc) | inr starts ↦ starts ],
+)
 
 -- there are no more of them than events
 pub few_linked : (n : ℕ) (events run : List Mark) (chain : List Stuck) → AreLinked n events run chain → length chain ≤ length events

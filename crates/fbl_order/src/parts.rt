@@ -13,7 +13,7 @@ use std::convert::From;
 use thiserror::Error;
 
 /// Why parts make no whole.
-#[derive(Clone, Copy, PartialEq, Eq, Debug, Error)]
+#[derive(Clone, Copy, Debug, Error)]
 pub enum PartsFault {
     /// The part at this place, the first that differs from the first part, has another number of members.
     #[error("members is {other}, and {first} in the first part")]

@@ -1,4 +1,4 @@
-use Rattle.fbl_order.proofs.Common.{ap, inr}
+use Rattle.fbl_order.proofs.Common.{ap, inr, refl}
 use Rattle.fbl_moments.specs.Logs.{parts_of_log}
 use Rattle.fbl_order.specs.LogFaults.{breach_given, refusal_given}
 use Rattle.fbl_order.specs.declared.fault.LogOrderFault.TheVariants.{Log}
@@ -11,6 +11,16 @@ returns-in-Some-clause-refused c = inr (group_refused (parts_of_log c.args.raw) 
 pub returns-in-Ok-clause-order : goal.returns-in-Ok-clause-order
 returns-in-Ok-clause-order c = rw c.in-Ok.ensures.log (placed_order c.as_slice-given.ensures.value c.as_slice.ensures.value c.as_slice-2.ensures.value
     c.in_ok-ordered.ensures.order c.in_ok-places.ensures.logs c.in_ok-places.ensures.marks c.in_ok-places.ensures.places c.in_ok-entries.ensures).0
+
+pub returns-in-Ok-clause-places : goal.returns-in-Ok-clause-places
+returns-in-Ok-clause-places c = rw c.in-Ok.ensures.log (placed_order c.as_slice-given.ensures.value c.as_slice.ensures.value c.as_slice-2.ensures.value
+    c.in_ok-ordered.ensures.order c.in_ok-places.ensures.logs c.in_ok-places.ensures.marks c.in_ok-places.ensures.places c.in_ok-entries.ensures).1
+
+pub returns-in-Ok-clause-rules : goal.returns-in-Ok-clause-rules
+returns-in-Ok-clause-rules c = c.in-Ok.ensures.rules
+
+pub returns-in-Ok-clause-parts : goal.returns-in-Ok-clause-parts
+returns-in-Ok-clause-parts c = rw c.in-Ok.ensures.log refl
 
 pub returns-in-Ok-clause-answers : goal.returns-in-Ok-clause-answers
 returns-in-Ok-clause-answers c =

@@ -1,7 +1,9 @@
-use Rattle.fbl_order.proofs.Common.{[], ◌∷◌, ◌<◌, ◌≡◌, ap, arith, At-push, inl, inr, length, length-append, refl, slice_get_read, take_all}
+use Rattle.fbl_order.proofs.Common.{[], ◌∷◌, ◌<◌, ◌≡◌, ap, arith, At-push, inl, inr, length, length-append, refl, slice_get_read, take, take_all}
 use Rattle.fbl_moments.specs.declared.log.EntryOrigin.{EntryOrigin}
 use Rattle.fbl_order.proofs.Own.{At-some}
-use Rattle.fbl_order.proofs.PartLaws.{origin_at}
+use Rattle.fbl_moments.specs.declared.log.RawLog.{RawLog}
+use Rattle.fbl_order.specs.Parts.{entries_of}
+use Rattle.fbl_order.proofs.PartLaws.{flat_map-more, origin_at}
 use Rattle.fbl_order.proofs.parts.origins_of.Goals as goal
 
 pub loop-place-preserved : goal.loop-place-preserved
@@ -22,6 +24,19 @@ loop-place-preserved c =
         | inl old ↦ kept.each p o old
         | inr new ↦ rw (← new.1, new.0, kept.count) (origin_at parts log place c.index-parts-log.result entry.0 at entry.1)
       ];
+    }
+
+pub loop-log-preserved : goal.loop-log-preserved
+loop-log-preserved c =
+    let parts = c.args.parts.now in
+    let log = c.loop-log.log in
+    let part = c.index-parts-log.result in
+    let at = slice_get_read parts _ log _ refl c.loop-log-test.true c.index-parts-log.is in
+    let tie : _ ≡ length part.entries.items = part.entries.ok.0 in
+    let more = flat_map-more (λ (p : RawLog). p.entries.items) parts log part at in
+    record {
+      count = omega (arith, tie, c.loop-place.invariant.count, ap length more, length-append (entries_of (take log parts)) part.entries.items);
+      each = c.loop-place.invariant.each;
     }
 
 pub returns : goal.returns
