@@ -26,6 +26,13 @@ first_after logs i m k none some = record {
   first = λ l earlier precedes. none (l, earlier, precedes);
 }
 
+-- what precedes none of the member's entries
+pub none_after : (logs : Logs) (i : Position) (m count : ℕ) → length (logs m) ≤ count → ¬ (PrecedesSome logs i m count) → (k : ℕ) → ¬ (Precedes logs i (at m k))
+none_after logs i m count all none k precedes =
+    let there = last_there precedes in
+    let within = slice_get_within (logs m) k there.0 there.1 in
+    none (k, omega (arith, within, all), precedes)
+
 -- a clock has no more entries than there are
 pub clock_within : (logs : Logs) (m count : ℕ) (cut : Cut) → IsClock logs m count cut → (q : ℕ) → cut q ≤ length (logs q)
 clock_within logs m count cut clock q = elim (cases_lt (length (logs q)) (cut q)) [

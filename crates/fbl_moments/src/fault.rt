@@ -5,7 +5,7 @@ use fbl_base::{Breach, Outsider};
 use thiserror::Error;
 
 /// Which rule a hold or a store breaks behind the entries before it. Of several the first in this order is named.
-#[derive(Clone, Copy, PartialEq, Eq, Debug, Error)]
+#[derive(Clone, Copy, Debug, Error)]
 pub enum RecordRule {
     /// There are at most 131,072 holds and stores.
     #[error("there may be at most 131072 holds and stores")]
@@ -19,7 +19,7 @@ pub enum RecordRule {
 }
 
 /// The first hold or store that breaks a rule: its place, from 0, among the entries, and the first rule that it breaks.
-#[derive(Clone, Copy, PartialEq, Eq, Debug, Error)]
+#[derive(Clone, Copy, Debug, Error)]
 #[error("event {place} is {entry}, and {rule}")]
 pub struct RecordFault {
     /// Its place.
@@ -31,7 +31,7 @@ pub struct RecordFault {
 }
 
 /// What a log is refused for, with the numbers that were given. Places are those among all entries.
-#[derive(Clone, Copy, PartialEq, Eq, Debug, Error)]
+#[derive(Clone, Copy, Debug, Error)]
 pub enum LogBreach {
     /// The group's numbers, the strike set, or a send or receipt.
     #[error(transparent)]
