@@ -1,14 +1,11 @@
 -- The names that proofs of this crate take from outside: of the standard library, of the crates below, and of the definitions here.
-pub use Rattle.std.proofs.Common.{All, Bool, Fits, IfSome, List, None, Option, Some, Vec, [], add-one, ap, append-nil, append_assoc, arith, cond, count_by, deque_capacity}
-pub use Rattle.std.proofs.Common.{deque_items, deque_len, drop, drop_of_length-le, false, get_or, inl, inr, length, length-append, map, nat_lt, not, refl, replicate, rules}
-pub use Rattle.std.proofs.Common.{set, slice_get, slice_index_or, slice_set, subst, suc, sum_by, sym, take, true, vec_capacity, vec_len, w32, w64, zero, ℕ, ◌*◌, ◌++◌, ◌+◌}
+pub use Rattle.std.proofs.Common.{All, Bool, Fits, IfSome, List, None, Option, Some, Vec, [], add-one, ap, append-nil, append_assoc, arith, cond, count_by, deque_capacity, deque_items, deque_len, drop, drop_of_length-le, false, get_or, inl, inr, length, length-append, map, nat_lt, not, refl, replicate, rules, set, slice_get, slice_index_or, slice_set, subst, suc, sum_by, sym, take, true, vec_capacity, vec_len, w32, w64, zero, ℕ, ◌*◌, ◌++◌, ◌+◌}
 pub use Rattle.std.proofs.Common.{◌-◌, ◌<◌, ◌==◌, ◌^◌, ◌||◌, ◌↔◌, ◌∙◌, ◌∷◌, ◌≡◌, ◌≢◌, ◌≤◌, ◌⊎◌}
 pub use Rattle.std.proofs.lemmas.Bool.{false≢true, true_from_ne_false}
 pub use Rattle.std.proofs.lemmas.Bool.Decides.{nat_tests}
 pub use Rattle.std.proofs.lemmas.Fn.{filter_same}
 pub use Rattle.std.proofs.lemmas.Grind.{common_steps}
-pub use Rattle.std.proofs.lemmas.List.{at_drop_more, get_or-map, get_or-replicate, get_or-set_other, get_or-set_same, get_or_default, get_or_past, length-map, length-replicate}
-pub use Rattle.std.proofs.lemmas.List.{length-set, map-append, map-set, set-get_or, length-take, map_more, replicate_more, take_all}
+pub use Rattle.std.proofs.lemmas.List.{at_drop_more, get_or-map, get_or-replicate, get_or-set_other, get_or-set_same, get_or_default, get_or_past, length-map, length-replicate, length-set, map-append, map-set, set-get_or, length-take, map_more, replicate_more, take_all}
 pub use Rattle.std.proofs.lemmas.List.Elements.{filter-append, filter_map-append}
 pub use Rattle.std.proofs.lemmas.List.Folds.{Any-from_list_any, list_any-from_Any}
 pub use Rattle.std.proofs.lemmas.List.Sums.{AllPass-from_list_all, count_by_more_no, count_by_more_yes, fold-append, list_all-from_AllPass, sum_by-cons, count_by-le-length}
@@ -42,20 +39,15 @@ pub use Rattle.fbl_law.proofs.Lists.{sent_again-short, sum_below-agree, sum_belo
 pub use Rattle.fbl_law.proofs.Channels.{flight_at, flight_ends}
 pub use Rattle.fbl_law.proofs.Keeping.{checkpoint_is_recorded, group_checkpoint_keeps, group_strike_keeps, recorded_test}
 pub use Rattle.fbl_law.proofs.GroupDelivery.{group_delivery_keeps, length-step_events}
-pub use Rattle.fbl_law.proofs.Promises.{front_is_later, new_not_carried, new_not_held, receipt_is_new, receipts_fit, sends_fit, trace_fits, any_survivors_hold, carried_fits}
-pub use Rattle.fbl_law.proofs.Promises.{dump_has_no_orphan, dump_obeys_rules, sound_holds_each_receipt, sound_records_first, table_fits}
+pub use Rattle.fbl_law.proofs.Promises.{front_is_later, new_not_carried, new_not_held, receipt_is_new, receipts_fit, sends_fit, trace_fits, any_survivors_hold, carried_fits, dump_has_no_orphan, dump_obeys_rules, sound_holds_each_receipt, sound_records_first, table_fits}
 pub use Rattle.fbl_law.proofs.GroupRecovery.{cut-undone, group_recovery_gains_holders, group_recovery_keeps, recovered_trace-cut, recovery_leaves_recorded}
 pub use Rattle.fbl_law.proofs.GroupStart.{group_start_is_sound}
-pub use Rattle.fbl_law.proofs.ReplayLaws.{rebuilt_is_recovered, recovered_trace-rebuilt, replay_begins, replay_is_right, replayed_in-all, replayed_in-short, replayed_in-step, replaying-next}
-pub use Rattle.fbl_law.proofs.ReplayLaws.{count_in-same, replaying-room, replaying-tables, with-table, working-log}
+pub use Rattle.fbl_law.proofs.ReplayLaws.{rebuilt_is_recovered, recovered_trace-rebuilt, replay_begins, replay_is_right, replayed_in-all, replayed_in-short, replayed_in-step, replaying-next, count_in-same, replaying-room, replaying-tables, with-table, working-log}
 pub use Rattle.fbl_law.proofs.Safe.{IsRecorded-before, down_or_both_up, down_or_up, no_orphan, up_if_none}
 pub use Rattle.fbl_law.proofs.WeightKept.{flow, into, out, weight_in, weight_on}
 pub use Rattle.fbl_law.specs.Promises.{pairs_from, pairs_of}
-pub use Rattle.fbl_law.specs.GroupSteps.{IsCheckpoint, IsDelivery, IsRecovery, IsStrike, delivery_events, message_of_send, start_events, step_of, between, gathered_all, is_on}
-pub use Rattle.fbl_law.specs.GroupSteps.{recovery_table, saved_tables, taken_off, IsRebuilt, IsReplaying, is_replayed, recovered_trace, replayed_in, resent}
-pub use Rattle.fbl_law.specs.GroupSteps.{resent_to, sent_again, stays_by, working}
-pub use Rattle.fbl_law.specs.Groups.{GroupRecord, HasChannels, channel, channel_in, is_recorded, knowledge, marks, member, member_checkpoint, messages_in, messages_in_flight}
-pub use Rattle.fbl_law.specs.Groups.{receipts, sum_below, IsSound, received_notes}
+pub use Rattle.fbl_law.specs.GroupSteps.{IsCheckpoint, IsDelivery, IsRecovery, IsStrike, delivery_events, message_of_send, start_events, step_of, between, gathered_all, is_on, recovery_table, saved_tables, taken_off, IsRebuilt, IsReplaying, is_replayed, recovered_trace, replayed_in, resent, resent_to, sent_again, stays_by, working}
+pub use Rattle.fbl_law.specs.Groups.{GroupRecord, HasChannels, channel, channel_in, is_recorded, knowledge, marks, member, member_checkpoint, messages_in, messages_in_flight, receipts, sum_below, IsSound, received_notes}
 pub use Rattle.fbl_law.specs.Knowledge.{IsDown, IsInFlight, IsUp, send_mark, table}
 pub use Rattle.fbl_member.proofs.Made.{Made, made-more, made_none}
 pub use Rattle.fbl_member.proofs.Once.{IsOnce-none, IsOnce-piggybacked}

@@ -1,12 +1,7 @@
 -- Deliveries: what is known of one that is planned, and which refusal of a delivery, a ticket or a commit holds.
-pub use Rattle.fbl_group.proofs.Common.{Some, None, ◌≡◌, ◌≢◌, ℕ, ◌+◌, ◌<◌, ◌≤◌, false, List, [], ◌∷◌, ◌++◌, length, map, refl, sym, subst, ap, ◌∙◌, append_assoc, arith}
-pub use Rattle.fbl_group.proofs.Common.{get_or, length-append, Fits, w32, slice_get, slice_set, All, nat_tests, Event, Outcome, Next, Entry, piggybacked, Message}
-pub use Rattle.fbl_group.proofs.Common.{MemberRecord, messages_from, IsUp, taken_off, between, GroupRecord, HasChannels, member, channel, channel_in, knowledge, IsSound}
-pub use Rattle.fbl_group.proofs.Common.{step_of, up_if_none, receipts_fit, flight_at, IsOnce, front_message, send_of_message, taken_and_sent, IsPlanned, MayTakeIn, TakesIn}
-pub use Rattle.fbl_group.proofs.Common.{record_at, Receipt, SendsAllowed, received_by, table_after, IsInFlight, delivery_events, IsDelivery, SendsWell, sends_fit}
-pub use Rattle.fbl_group.proofs.Common.{receipt_is_new, new_not_held, new_not_carried, front_is_later, carried_fits, length-step_events, Delivered, cond, is_full, front}
-pub use Rattle.fbl_group.proofs.Common.{deliver_refusal, of_commit, IsDeliverRefusal, Delivers, Receipted, Ticket, CommitRefusal, take_refusal, IsTicket, IsCurrent}
-pub use Rattle.fbl_group.proofs.Common.{IsFresh, MayCommit, RefusesCommit, sends_at, flight_ends, false≢true}
+pub use Rattle.fbl_group.proofs.Common.{Some, None, ◌≡◌, ◌≢◌, ℕ, ◌+◌, ◌<◌, ◌≤◌, false, List, [], ◌∷◌, ◌++◌, length, map, refl, sym, subst, ap, ◌∙◌, append_assoc, arith, get_or, length-append, Fits, w32, slice_get, slice_set, All, nat_tests, Event, Outcome, Next, Entry, piggybacked, Message, MemberRecord, messages_from, IsUp, taken_off, between, GroupRecord, HasChannels, member, channel, channel_in, knowledge, IsSound}
+pub use Rattle.fbl_group.proofs.Common.{step_of, up_if_none, receipts_fit, flight_at, IsOnce, front_message, send_of_message, taken_and_sent, IsPlanned, MayTakeIn, TakesIn, record_at, Receipt, SendsAllowed, received_by, table_after, IsInFlight, delivery_events, IsDelivery, SendsWell, sends_fit, receipt_is_new, new_not_held, new_not_carried, front_is_later, carried_fits, length-step_events, Delivered, cond, is_full, front}
+pub use Rattle.fbl_group.proofs.Common.{deliver_refusal, of_commit, IsDeliverRefusal, Delivers, Receipted, Ticket, CommitRefusal, take_refusal, IsTicket, IsCurrent, IsFresh, MayCommit, RefusesCommit, sends_at, flight_ends, false≢true}
 use Rattle.fbl_law.specs.GroupSteps.{made as made_by}
 use Rattle.fbl_group.proofs.Queues.{first-is, messages-all, sends-messages, settled-in}
 use Rattle.std.specs.FinSet as set

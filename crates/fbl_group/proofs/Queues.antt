@@ -1,12 +1,7 @@
 -- Channels as queues: the loops over them, and what is left of them by a start, a send, a delivery, a strike and a recovery.
-pub use Rattle.fbl_group.proofs.Common.{◌≡◌, ℕ, zero, suc, ◌+◌, ◌<◌, ◌≤◌, ◌⊎◌, Bool, true, false, cond, ◌-◌, List, [], ◌∷◌, ◌++◌, length, map, drop, replicate, refl, sym}
-pub use Rattle.fbl_group.proofs.Common.{ap, ◌∙◌, arith, ◌||◌, Some, slice_get, get_or, append_assoc, deque_items, All, length-map, length-set, map-append, get_or-set_same}
-pub use Rattle.fbl_group.proofs.Common.{get_or-set_other, set-get_or, get_or_past, nat_tests, filter-append, Members, Entry, Message, messages_from, between, is_on}
-pub use Rattle.fbl_group.proofs.Common.{taken_off, HasChannels, channel_in, rows, rooms, room_in, each, with_sent, taken_and_sent, send_of_message, Vec, set, append-nil}
-pub use Rattle.fbl_group.proofs.Common.{deque_len, deque_capacity, VecDeque, get_or-replicate, length-replicate, map-set, get_or-map, Channels, with_item, step_events}
-pub use Rattle.fbl_group.proofs.Common.{first_message, with_at, Made, made-more, filter_map-append, Event, message_of_send, filter_map, Start, Settings, IsConfig}
-pub use Rattle.fbl_group.proofs.Common.{StartAllowed, slice_get-get_or, inr, into_iter_items, vec_len, vec_capacity, at_drop_more, start_events, drop_of_length-le}
-pub use Rattle.fbl_group.proofs.Common.{IsOnce-none, IsSound, group_delivery_keeps, contains}
+pub use Rattle.fbl_group.proofs.Common.{◌≡◌, ℕ, zero, suc, ◌+◌, ◌<◌, ◌≤◌, ◌⊎◌, Bool, true, false, cond, ◌-◌, List, [], ◌∷◌, ◌++◌, length, map, drop, replicate, refl, sym, ap, ◌∙◌, arith, ◌||◌, Some, slice_get, get_or, append_assoc, deque_items, All, length-map, length-set, map-append, get_or-set_same, get_or-set_other, set-get_or, get_or_past, nat_tests, filter-append, Members, Entry, Message, messages_from, between, is_on}
+pub use Rattle.fbl_group.proofs.Common.{taken_off, HasChannels, channel_in, rows, rooms, room_in, each, with_sent, taken_and_sent, send_of_message, Vec, set, append-nil, deque_len, deque_capacity, VecDeque, get_or-replicate, length-replicate, map-set, get_or-map, Channels, with_item, step_events, first_message, with_at, Made, made-more, filter_map-append, Event, message_of_send, filter_map, Start, Settings, IsConfig}
+pub use Rattle.fbl_group.proofs.Common.{StartAllowed, slice_get-get_or, inr, into_iter_items, vec_len, vec_capacity, at_drop_more, start_events, drop_of_length-le, IsOnce-none, IsSound, group_delivery_keeps, contains}
 use Rattle.std.specs.FinSet as set
 use Rattle.fbl_base.specs.declared.trace.Event.TheVariants.{Send}
 

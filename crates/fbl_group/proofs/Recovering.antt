@@ -1,13 +1,7 @@
 -- The steps of a recovery: gathering, replay in rounds, putting records in place, and what it leaves.
-pub use Rattle.fbl_group.proofs.Common.{get_or-set_same, get_or-set_other, count_in-same, sum_below-none, replayed_in, AreReplaying, nat_lt, ◌≡◌, ℕ, ◌+◌, ◌<◌, ◌≤◌, Bool}
-pub use Rattle.fbl_group.proofs.Common.{true, false, List, [], length, Option, Some, get_or, refl, sym, ap, ◌∙◌, arith, slice_index_or, slice_set, nat_tests}
-pub use Rattle.fbl_group.proofs.Common.{get_or_default, Determinant, Next, MemberRecord, blank, IsDown, recovery_table, GroupRecord, member_checkpoint, knowledge, IsSound}
-pub use Rattle.fbl_group.proofs.Common.{working, IsReplaying, found, receipt_at, logged_note, replayed_by, replay_begins, replaying-next, replay_is_right, replayed_in-step}
-pub use Rattle.fbl_group.proofs.Common.{replaying-tables, AreByNumber, Tries, Rounds, Made, cond, common_steps, Members, AreRecordsReplaced, ◌||◌, ◌⊎◌, ◌-◌, map, Fits}
-pub use Rattle.fbl_group.proofs.Common.{filter, get_or_past, Event, mark_of, Message, IsUp, channel_in, channel, member, marks, receipts, sum_below-agree, Recovers}
-pub use Rattle.fbl_group.proofs.Common.{AreReplaced, AreSentAgain, IsReady, w32, w64, ◌^◌, messages_in, is_replayed, stays_by, recovered_trace, resent_to, IsRebuilt}
-pub use Rattle.fbl_group.proofs.Common.{cut-undone, recovered_trace-cut, sent_again-short, with-table, working-log, replayed_in-all, recovered_trace-rebuilt}
-pub use Rattle.fbl_group.proofs.Common.{rebuilt_is_recovered, messages_at, IsRecovery, set-get_or, made-more, Entry, made_none, rows, subst, group_recovery_keeps}
+pub use Rattle.fbl_group.proofs.Common.{get_or-set_same, get_or-set_other, count_in-same, sum_below-none, replayed_in, AreReplaying, nat_lt, ◌≡◌, ℕ, ◌+◌, ◌<◌, ◌≤◌, Bool, true, false, List, [], length, Option, Some, get_or, refl, sym, ap, ◌∙◌, arith, slice_index_or, slice_set, nat_tests, get_or_default, Determinant, Next, MemberRecord, blank, IsDown, recovery_table, GroupRecord, member_checkpoint, knowledge, IsSound}
+pub use Rattle.fbl_group.proofs.Common.{working, IsReplaying, found, receipt_at, logged_note, replayed_by, replay_begins, replaying-next, replay_is_right, replayed_in-step, replaying-tables, AreByNumber, Tries, Rounds, Made, cond, common_steps, Members, AreRecordsReplaced, ◌||◌, ◌⊎◌, ◌-◌, map, Fits, filter, get_or_past, Event, mark_of, Message, IsUp, channel_in, channel, member, marks, receipts, sum_below-agree, Recovers}
+pub use Rattle.fbl_group.proofs.Common.{AreReplaced, AreSentAgain, IsReady, w32, w64, ◌^◌, messages_in, is_replayed, stays_by, recovered_trace, resent_to, IsRebuilt, cut-undone, recovered_trace-cut, sent_again-short, with-table, working-log, replayed_in-all, recovered_trace-rebuilt, rebuilt_is_recovered, messages_at, IsRecovery, set-get_or, made-more, Entry, made_none, rows, subst, group_recovery_keeps}
 pub use Rattle.fbl_group.proofs.Common.{replaying-room, replayed_in-short, deque_items, length-map, sent_again, length-set, contains}
 use Rattle.std.specs.FinSet as set
 use mir.Val.{bool_byte}

@@ -1,12 +1,7 @@
 -- Strikes and checkpoints: when a strike is refused, what they leave, and the theorem.
-pub use Rattle.fbl_group.proofs.Common.{◌≡◌, ◌≢◌, ℕ, suc, ◌<◌, ◌≤◌, ◌==◌, ◌||◌, true, false, cond, List, [], ◌∷◌, length, map, None, refl, sym, ◌∙◌, arith, nat_lt, count_by}
-pub use Rattle.fbl_group.proofs.Common.{slice_index_or, nat_tests, get_or_default, get_or_past, sum_by-cons, Determinant, Event, mark_of, Members, Next, MemberRecord}
-pub use Rattle.fbl_group.proofs.Common.{blank, IsUp, GroupRecord, channel, marks, knowledge, IsSound, IsStrike, AreReplaced, lost_receipts, filter, not, receipts}
-pub use Rattle.fbl_group.proofs.Common.{is_lost_receipt_of, Message, no_orphan, nat_cmp, eq_by_cmp, unsigned_tied, nat_cmp_total, false≢true, true_from_ne_false, ◌↔◌}
-pub use Rattle.fbl_group.proofs.Common.{Any-from_list_any, list_any-from_Any, AllPass-from_list_all, list_all-from_AllPass, receipt_of, Has, itself, AllBelow, eqb-self}
-pub use Rattle.fbl_group.proofs.Common.{is_recorded, group_strike_keeps, recorded_test, is_within, strike_refusal, AreRecordsReplaced, get_or, slice_set, IsCheckpoint}
-pub use Rattle.fbl_group.proofs.Common.{sound_holds_each_receipt, recovery_leaves_recorded, cut-undone, group_recovery_gains_holders, subst, group_checkpoint_keeps, ap}
-pub use Rattle.fbl_group.proofs.Common.{trace_fits, len-empty}
+pub use Rattle.fbl_group.proofs.Common.{◌≡◌, ◌≢◌, ℕ, suc, ◌<◌, ◌≤◌, ◌==◌, ◌||◌, true, false, cond, List, [], ◌∷◌, length, map, None, refl, sym, ◌∙◌, arith, nat_lt, count_by, slice_index_or, nat_tests, get_or_default, get_or_past, sum_by-cons, Determinant, Event, mark_of, Members, Next, MemberRecord, blank, IsUp, GroupRecord, channel, marks, knowledge, IsSound, IsStrike, AreReplaced, lost_receipts, filter, not, receipts}
+pub use Rattle.fbl_group.proofs.Common.{is_lost_receipt_of, Message, no_orphan, nat_cmp, eq_by_cmp, unsigned_tied, nat_cmp_total, false≢true, true_from_ne_false, ◌↔◌, Any-from_list_any, list_any-from_Any, AllPass-from_list_all, list_all-from_AllPass, receipt_of, Has, itself, AllBelow, eqb-self, is_recorded, group_strike_keeps, recorded_test, is_within, strike_refusal, AreRecordsReplaced, get_or, slice_set, IsCheckpoint}
+pub use Rattle.fbl_group.proofs.Common.{sound_holds_each_receipt, recovery_leaves_recorded, cut-undone, group_recovery_gains_holders, subst, group_checkpoint_keeps, ap, trace_fits, len-empty}
 use Rattle.std.specs.FinSet as set
 use Rattle.fbl_base.specs.declared.trace.Event.TheVariants as event
 use Rattle.std.specs.Prelude.{Bool}

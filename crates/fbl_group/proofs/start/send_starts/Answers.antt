@@ -1,11 +1,8 @@
-use Rattle.fbl_group.proofs.Queues.{ap, arith, length, at_drop_more, refl, sym, ◌∙◌, start_events, drop_of_length-le, IsOnce-none, none-shape, none-in, start-places}
-use Rattle.fbl_group.proofs.Queues.{start-shape, start-sent}
+use Rattle.fbl_group.proofs.Queues.{ap, arith, length, at_drop_more, refl, sym, ◌∙◌, start_events, drop_of_length-le, IsOnce-none, none-shape, none-in, start-places, start-shape, start-sent}
 use Rattle.fbl_group.proofs.start.send_starts.Goals as goal
 
 pub loop-start-init : goal.loop-start-init
-loop-start-init g c =
-    let none = rw c.members.ensures.value at c.in_ok-channels.ensures in
-    rw c.in_ok-trace.ensures.items (record { so_far = refl; made = c.in_ok-trace.ensures.len; shape = none-shape _ _ none; sent = λ q p. none-in _ _ q p none })
+loop-start-init g c = let none = rw c.members.ensures.value at c.in_ok-channels.ensures in rw c.in_ok-trace.ensures.items (record { so_far = refl; made = c.in_ok-trace.ensures.len; shape = none-shape _ _ none; sent = λ q p. none-in _ _ q p none })
 
 pub count_sends-ssn-requires : goal.count_sends-ssn-requires
 count_sends-ssn-requires g c = omega (arith, c.deref.ensures.len, c.loop-start.invariant.made, c.loop-start-test.true, ap length c.starts-start-items.ensures, c.members.ensures.rules.few_starts)
@@ -14,9 +11,7 @@ pub new-requires : goal.new-requires
 new-requires g c = rw c.none.ensures IsOnce-none
 
 pub send-requires : goal.send-requires
-send-requires g c =
-    let places = start-places c.members.ensures.rules c.starts-start-items.ensures c.loop-start-test.true c.start-item.is c.loop-start.invariant.shape in
-    rw c.new.ensures (record { from = places.0; to = places.1 })
+send-requires g c = let places = start-places c.members.ensures.rules c.starts-start-items.ensures c.loop-start-test.true c.start-item.is c.loop-start.invariant.shape in rw c.new.ensures (record { from = places.0; to = places.1 })
 
 pub loop-start-preserved : goal.loop-start-preserved
 loop-start-preserved g c =

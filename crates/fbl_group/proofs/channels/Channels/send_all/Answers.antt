@@ -1,5 +1,4 @@
-use Rattle.fbl_group.proofs.Queues.{◌≡◌, ◌+◌, ◌-◌, ◌++◌, ◌∷◌, [], List, length, map, get_or, refl, sym, ap, ◌∙◌, arith, append-nil, append_assoc, into_iter_items, Event}
-use Rattle.fbl_group.proofs.Queues.{Message, rows, rooms, with_sent, send_of_message, Sending, sending-more, found, within_row}
+use Rattle.fbl_group.proofs.Queues.{◌≡◌, ◌+◌, ◌-◌, ◌++◌, ◌∷◌, [], List, length, map, get_or, refl, sym, ap, ◌∙◌, arith, append-nil, append_assoc, into_iter_items, Event, Message, rows, rooms, with_sent, send_of_message, Sending, sending-more, found, within_row}
 use Rattle.std.specs.VecDeque.{deque_len, deque_capacity}
 use Rattle.std.proofs.lemmas.List.{nil_from_length}
 use Rattle.fbl_group.proofs.channels.Channels.send_all.Goals as goal

@@ -15,6 +15,4 @@ loop-number-preserved g c =
     }
 
 pub returns : goal.returns
-returns g c =
-    let all = all-done c.loop-number-test.false c.loop-number.auto.number-end c.size-number-end.ensures.value in
-    record { replaying = begun c.recoverable.ensures.sound all c.loop-number.invariant.made; none = none-replayed c.recoverable.ensures.sound all c.loop-number.invariant.made }
+returns g c = let all = all-done c.loop-number-test.false c.loop-number.auto.number-end c.size-number-end.ensures.value in record { replaying = begun c.recoverable.ensures.sound all c.loop-number.invariant.made; none = none-replayed c.recoverable.ensures.sound all c.loop-number.invariant.made }

@@ -1,5 +1,4 @@
-use Rattle.fbl_group.proofs.Common.{◌++◌, ◌∙◌, List, ap, sym, refl, length, map, subst, at_drop_more, gathered_all, saved_tables, MemberRecord, IsSound, GroupRecord}
-use Rattle.fbl_group.proofs.Common.{drop_of_length-le}
+use Rattle.fbl_group.proofs.Common.{◌++◌, ◌∙◌, List, ap, sym, refl, length, map, subst, at_drop_more, gathered_all, saved_tables, MemberRecord, IsSound, GroupRecord, drop_of_length-le}
 use Rattle.fbl_group.proofs.group.Group.gather_tables.Goals as goal
 
 pub loop-record-preserved : goal.loop-record-preserved

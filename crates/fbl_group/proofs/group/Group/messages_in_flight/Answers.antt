@@ -10,3 +10,6 @@ messages-requires g c = record {
 
 pub returns-else-count-eq0 : goal.returns-else-count-eq0
 returns-else-count-eq0 g c = rw (← c.self.view_is, c.messages.ensures.messages, c.members.ensures.value) refl
+
+pub returns-then-count-eq0 : goal.returns-then-count-eq0
+returns-then-count-eq0 g c = c.unreceived.ensures (rw (c.count.ensures, c.down.ensures.down) at c.if-count-eq0.true)

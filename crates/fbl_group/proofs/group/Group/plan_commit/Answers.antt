@@ -37,3 +37,6 @@ returns-clause-planned g c =
       is_planned g.B.Behaviour.next c.args.self.now c.args.done.now.ticket (omega arith) c.in-Some.ensures.some c.record-member.ensures.value (grind arith) c.args.done.now.stepped
           c.record-member.ensures.sound current (sym asked ∙ c.if-is_full.false),
     )
+
+pub front-requires : goal.front-requires
+front-requires g c = (let ends = c.args.done.now.ticket.ends in record { from = omega (arith, ends, c.size.ensures.value, c.if-size-ticket.false); to = omega (arith, ends, c.size.ensures.value, c.if-size-ticket.false) })

@@ -1,5 +1,4 @@
-use Rattle.fbl_group.proofs.Recovering.{arith, rows, ap, subst, ◌∙◌, GroupRecord, IsSound, group_recovery_keeps, size, short-again, fewer, undone-few}
-use Rattle.fbl_group.proofs.Recovering.{undone-fits, recovers}
+use Rattle.fbl_group.proofs.Recovering.{arith, rows, ap, subst, ◌∙◌, GroupRecord, IsSound, group_recovery_keeps, size, short-again, fewer, undone-few, undone-fits, recovers}
 use Rattle.fbl_group.proofs.group.Group.put_in_place.Goals as goal
 
 pub messages-resent-requires : goal.messages-resent-requires
@@ -13,9 +12,7 @@ pub overflow_cast-resent : goal.overflow_cast-resent
 overflow_cast-resent g c = omega (arith, c.messages-resent.ensures.few)
 
 pub overflow_sub-undone : goal.overflow_sub-undone
-overflow_sub-undone g c =
-    fewer c.self.invariant c.self.view_is c.requires.ready c.requires.down c.cut.ensures
-    c.receipt_count-before.ensures c.count_receipts.ensures c.as_slice-2.ensures.value
+overflow_sub-undone g c = fewer c.self.invariant c.self.view_is c.requires.ready c.requires.down c.cut.ensures c.receipt_count-before.ensures c.count_receipts.ensures c.as_slice-2.ensures.value
 
 pub put_back-requires : goal.put_back-requires
 put_back-requires g c = record {
@@ -32,14 +29,10 @@ replace-requires g c = record {
 }
 
 pub overflow_add-self : goal.overflow_add-self
-overflow_add-self g c =
-    undone-fits c.self.invariant c.self.view_is c.requires.ready c.requires.down c.cut.ensures
-    c.receipt_count-before.ensures c.count_receipts.ensures c.as_slice-2.ensures.value c.self.ranges.1.1.1.1.1.1.0.1
+overflow_add-self g c = undone-fits c.self.invariant c.self.view_is c.requires.ready c.requires.down c.cut.ensures c.receipt_count-before.ensures c.count_receipts.ensures c.as_slice-2.ensures.value c.self.ranges.1.1.1.1.1.1.0.1
 
 pub overflow_cast-result : goal.overflow_cast-result
-overflow_cast-result g c =
-    undone-few c.self.invariant c.self.view_is c.requires.ready c.requires.down c.cut.ensures
-    c.receipt_count-before.ensures c.count_receipts.ensures c.as_slice-2.ensures.value
+overflow_cast-result g c = undone-few c.self.invariant c.self.view_is c.requires.ready c.requires.down c.cut.ensures c.receipt_count-before.ensures c.count_receipts.ensures c.as_slice-2.ensures.value
 
 pub returns-clause-recovered : goal.returns-clause-recovered
 returns-clause-recovered g c =
@@ -49,5 +42,4 @@ returns-clause-recovered g c =
     c.messages-resent.ensures.messages
 
 pub invariant_of-self : goal.invariant_of-self
-invariant_of-self g c =
-    group_recovery_keeps g.B.Behaviour.next _ _ (returns-clause-recovered g c).recovery (subst (IsSound g.B.Behaviour.next) c.self.view_is c.self.invariant)
+invariant_of-self g c = group_recovery_keeps g.B.Behaviour.next _ _ (returns-clause-recovered g c).recovery (subst (IsSound g.B.Behaviour.next) c.self.view_is c.self.invariant)

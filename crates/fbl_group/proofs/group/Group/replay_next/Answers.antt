@@ -2,8 +2,7 @@ use Rattle.fbl_group.proofs.Recovering.{◌∙◌, arith, replaying-next, replay
 use Rattle.fbl_group.proofs.group.Group.replay_next.Goals as goal
 
 pub index_mut-record-requires : goal.index_mut-record-requires
-index_mut-record-requires g c =
-    omega (arith, c.next_replay.ensures.sound.down c.args.member c.requires.down, c.requires.replaying.replaying.size, c.args.rebuilt.now.ok.0)
+index_mut-record-requires g c = omega (arith, c.next_replay.ensures.sound.down c.args.member c.requires.down, c.requires.replaying.replaying.size, c.args.rebuilt.now.ok.0)
 
 pub replay_one-requires : goal.replay_one-requires
 replay_one-requires g c =

@@ -1,4 +1,4 @@
-use Rattle.fbl_group.proofs.Recovering.{map, sym, ap, ◌∙◌, deque_items, length-map, working, sent_again, made_none, made-mapped, all-done}
+use Rattle.fbl_group.proofs.Recovering.{map, sym, ap, ◌∙◌, deque_items, length-map, working, sent_again, made_none, made-mapped, all-done, arith}
 use Rattle.fbl_group.proofs.group.Group.resend.Goals as goal
 
 pub loop-number-init : goal.loop-number-init
@@ -20,3 +20,6 @@ returns g c =
       shape = record { senders = made.size ∙ all; receivers = λ q below. (made.each q (rw all below)).0 };
       each = λ q p below_q below_p. (made.each q (rw all below_q)).1 p below_p;
     }
+
+pub resend_from-requires : goal.resend_from-requires
+resend_from-requires g c = record { size = c.requires; from = omega (arith, c.at-from.ensures, c.loop-number-test.true, c.size-number-end.ensures.value) }

@@ -26,13 +26,10 @@ is_some_if None never h = absurd (never h)
 is_some_if (Some x) never h = search rules
 
 pub unwrap-wire-requires : goal.unwrap-wire-requires
-unwrap-wire-requires g c =
-    is_some_if c.front.result (planning.not_empty g.met.B.Behaviour.laws.sends c.self.invariant c.self.view_is c.requires c.reserve_from.ensures.same) c.front.ensures.none
+unwrap-wire-requires g c = is_some_if c.front.result (planning.not_empty g.met.B.Behaviour.laws.sends c.self.invariant c.self.view_is c.requires c.reserve_from.ensures.same) c.front.ensures.none
 
 pub overflow_cast-carried : goal.overflow_cast-carried
-overflow_cast-carried g c =
-    planning.few_carried g.met.B.Behaviour.laws.sends c.self.invariant c.self.view_is c.requires c.reserve_from.ensures.same
-    (rw c.unwrap-wire.ensures at c.front.ensures.some) c.carried.ensures.value c.carried.ensures.once
+overflow_cast-carried g c = planning.few_carried g.met.B.Behaviour.laws.sends c.self.invariant c.self.view_is c.requires c.reserve_from.ensures.same (rw c.unwrap-wire.ensures at c.front.ensures.some) c.carried.ensures.value c.carried.ensures.once
 
 pub take_in-requires : goal.take_in-requires
 take_in-requires g c =
@@ -64,9 +61,7 @@ take_and_send-requires g c =
     }
 
 pub overflow_add-self : goal.overflow_add-self
-overflow_add-self g c =
-    let room = planning.room g.met.B.Behaviour.laws.sends c.self.invariant c.self.view_is c.requires in
-    omega (arith, room.1, c.self.ranges.1.1.1.1.1.1.0.1)
+overflow_add-self g c = let room = planning.room g.met.B.Behaviour.laws.sends c.self.invariant c.self.view_is c.requires in omega (arith, room.1, c.self.ranges.1.1.1.1.1.1.0.1)
 
 pub returns-clause-delivered : goal.returns-clause-delivered
 returns-clause-delivered g c =
@@ -75,6 +70,4 @@ returns-clause-delivered g c =
     c.reserve_from.ensures.trace c.push_reserved.ensures.items c.take_and_send.ensures.trace c.take_and_send.ensures.channels c.carried.ensures.value
 
 pub invariant_of-self-2 : goal.invariant_of-self-2
-invariant_of-self-2 g c =
-    group_delivery_keeps g.B.Behaviour.next _ _ _ g.met.B.Behaviour.laws.sends (returns-clause-delivered g c).delivery
-    (subst (IsSound g.B.Behaviour.next) c.self.view_is c.self.invariant)
+invariant_of-self-2 g c = group_delivery_keeps g.B.Behaviour.next _ _ _ g.met.B.Behaviour.laws.sends (returns-clause-delivered g c).delivery (subst (IsSound g.B.Behaviour.next) c.self.view_is c.self.invariant)

@@ -21,3 +21,6 @@ pub returns : goal.returns
 returns g c =
     let all : c.loop-number.number ≡ c.args.self.now.config.members = rw (← c.self.view_is) (omega (arith, c.loop-number-test.false, c.loop-number.auto.number-end, c.members-number-end.ensures.value)) in
     record { value = rw all at c.loop-number.invariant.summed; bound = omega (arith, c.loop-number.invariant.bound, c.loop-number.auto.number-end, c.members-number-end.ensures.value, c.self.invariant.config.members.1) }
+
+pub state-requires : goal.state-requires
+state-requires g c = rw (← c.self.view_is) (omega (arith, c.at-member.ensures, c.loop-number-test.true, c.members-number-end.ensures.value))

@@ -7,6 +7,4 @@ returns-in-Some g c =
     record { sent = c.sent.ensures.value ∙ ap (λ (m : MemberRecord _ _). length m.log) read; received = c.received.ensures.value ∙ ap (λ (m : MemberRecord _ _). m.received) read }
 
 pub returns-in-None : goal.returns-in-None
-returns-in-None g c =
-    let read = read_past (g.B.Behaviour.next.initial 0 0) c.deref.ensures.value (c.from.ensures ∙ c.number.ensures.value) c.in-None.ensures.lookup.0 in
-    record { sent = ap (λ (m : MemberRecord _ _). length m.log) read; received = ap (λ (m : MemberRecord _ _). m.received) read }
+returns-in-None g c = let read = read_past (g.B.Behaviour.next.initial 0 0) c.deref.ensures.value (c.from.ensures ∙ c.number.ensures.value) c.in-None.ensures.lookup.0 in record { sent = ap (λ (m : MemberRecord _ _). length m.log) read; received = ap (λ (m : MemberRecord _ _). m.received) read }

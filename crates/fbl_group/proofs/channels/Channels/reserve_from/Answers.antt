@@ -1,0 +1,6 @@
+use Rattle.fbl_group.proofs.Queues.{arith, get_or, ◌∙◌}
+use Rattle.fbl_group.proofs.Common.{get_or_default}
+use Rattle.fbl_group.proofs.channels.Channels.reserve_from.Goals as goal
+
+pub returns-clause-room : goal.returns-clause-room
+returns-clause-room g c = λ k d below. c.loop-send.invariant.room k d (omega (arith, below, c.loop-send-test.false))

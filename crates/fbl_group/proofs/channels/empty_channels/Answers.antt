@@ -1,0 +1,5 @@
+use Rattle.fbl_group.proofs.Common.{◌≡◌, arith, map-append, replicate_more}
+use Rattle.fbl_group.proofs.channels.empty_channels.Goals as goal
+
+pub returns : goal.returns
+returns g c = let all : c.loop-number._number ≡ c.args.n = omega arith in rw all at c.loop-number.invariant
