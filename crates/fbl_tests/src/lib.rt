@@ -22,6 +22,8 @@ mod streams;
 #[cfg(test)]
 mod tables;
 #[cfg(test)]
+mod texts;
+#[cfg(test)]
 mod types;
 #[cfg(test)]
 mod workers;

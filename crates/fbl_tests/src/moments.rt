@@ -1,139 +1,45 @@
 //! Logs of runs judged at each of their moments: a message that goes once round a group of three, of whom one may be lost.
 
-ghost use Rattle.std.specs.Prelude.{◌<◌};
-
-use crate::orders::{receipt, send};
+use crate::texts::{LATE, dump, log};
 use fbl_audit::unsafe_receipts;
+use fbl_base::Determinant;
 use fbl_base::audit::Audit;
-use fbl_base::{Determinant, Mark, Member, MemberSet};
-use fbl_fixtures::first_receipt;
+use fbl_fixtures::{first_receipt, member, set};
 use fbl_moments::{
-    Entry, RawLog, RunLog, UnsafeMoment, audit_log, checked_log, event_place, last_dump,
-    moment_reasons, unsafe_moments,
+    UnsafeMoment, audit_log, event_place, last_dump, moment_reasons, unsafe_moments,
 };
-use std::alloc::Global;
 use std::test::Fail;
 
-pub(crate) fn hold(holder: u8, determinant: Determinant) -> Entry
-    requires { holder < 16 }
-{
-    Entry::Hold {
-        holder: Member::at(holder),
-        determinant,
-    }
-}
-
-pub(crate) fn store(member: u8, determinant: Determinant) -> Entry
-    requires { member < 16 }
-{
-    Entry::Store {
-        member: Member::at(member),
-        determinant,
-    }
-}
-
-pub(crate) fn event(event: Mark) -> Entry {
-    Entry::Event(event)
-}
-
-pub(crate) fn only(member: u8) -> MemberSet
-    requires { member < 16 }
-{
-    MemberSet::empty().with(Member::at(member))
-}
-
 /// The first receipt of the message, at member 1.
-pub(crate) fn first() -> Determinant {
-    first_receipt(Member::at(0), Member::at(1))
-}
-
-/// The second one, at member 2.
-pub(crate) fn second() -> Determinant {
-    first_receipt(Member::at(1), Member::at(2))
-}
-
-/// The message is sent, and comes to member 1.
-fn taken() -> [Entry; 2] {
-    [event(send(0, 1, 1)), event(receipt(1, 1, 0, 1))]
-}
-
-/// Member 1, which holds its receipt, sends it on.
-fn sent_on() -> [Entry; 2] {
-    [hold(1, first()), event(send(1, 1, 2))]
-}
-
-/// It comes to member 2, which holds its own receipt.
-fn taken_again() -> [Entry; 2] {
-    [event(receipt(2, 1, 1, 1)), hold(2, second())]
-}
-
-/// Member 2 learns of the first receipt only when it has sent on.
-fn learned_late() -> [Entry; 2] {
-    [event(send(2, 1, 0)), hold(2, first())]
-}
-
-/// The log whose entries are these, one behind the other, with these members struck.
-pub(crate) fn raw_log(
-    alloc: Global,
-    parts: &[&[Entry]],
-    strike: MemberSet,
-) -> Result<RawLog, Fail> {
-    let mut entries = Vec::new(alloc);
-    for part in parts {
-        entries.extend_from_slice(part)?;
-    }
-    Ok(RawLog {
-        members: 3,
-        f: 1,
-        entries,
-        strike,
-    })
-}
-
-fn log(alloc: Global, parts: &[&[Entry]], strike: MemberSet) -> Result<RunLog, Fail> {
-    let raw = raw_log(alloc, parts, strike)?;
-    Ok(checked_log(alloc, raw).ok().ok_or("refused")?)
-}
-
-/// The log in which member 2 learns of the first receipt late.
-fn late(alloc: Global) -> Result<RunLog, Fail> {
-    let parts: [&[Entry]; 4] = [&taken(), &sent_on(), &taken_again(), &learned_late()];
-    log(alloc, &parts, MemberSet::empty())
+fn first() -> Result<Determinant, Fail> {
+    Ok(first_receipt(member(0)?, member(1)?))
 }
 
 /// The moment at which member 2 takes the message: member 1 alone holds the first receipt, and member 2 is the orphan.
-fn unsafe_moment() -> UnsafeMoment {
-    UnsafeMoment {
-        determinant: first(),
+fn unsafe_moment() -> Result<UnsafeMoment, Fail> {
+    Ok(UnsafeMoment {
+        determinant: first()?,
         place: 4,
-        strike: only(1),
-        orphans: only(2),
-    }
+        strike: set(&[1])?,
+        orphans: set(&[2])?,
+    })
 }
+
+/// The dump of the log's last moment.
+const LAST: &str =
+    r#"{"events":[["send",0,1,1],["receipt",1,1,0,1],["send",1,1,2],["receipt",2,1,1,1],["send",2,1,0]],"f":1,"held":[[1,0,1,1,1],[2,1,1,2,1],[2,0,1,1,1]],"members":3,"strike":[]}"#;
 
 /// The last moment is safe, as the dump of it says, and the one at which member 2 takes the message is not.
 #[test]
 fn finds_the_middle_unsafe(rt: HostRuntime) -> Result<(), Fail> {
     let alloc = rt.alloc();
-    let log = late(alloc)?;
-    assert!(rt; unsafe_moments(alloc, &log)?.as_slice() == [unsafe_moment()].as_slice());
+    let log = log(alloc, LATE)?;
+    assert!(rt; unsafe_moments(alloc, &log)?.as_slice() == [unsafe_moment()?].as_slice());
     assert!(rt; event_place(log.entries(), 2) == Some(3));
-    let dump = last_dump(alloc, &log)?;
-    let events = [
-        send(0, 1, 1),
-        receipt(1, 1, 0, 1),
-        send(1, 1, 2),
-        receipt(2, 1, 1, 1),
-        send(2, 1, 0),
-    ];
-    let held = [
-        (Member::at(1), first()),
-        (Member::at(2), second()),
-        (Member::at(2), first()),
-    ];
-    assert!(rt; dump.members() == 3 && dump.f() == 1 && dump.strike() == MemberSet::empty());
-    assert!(rt; dump.events() == events.as_slice() && dump.held() == held.as_slice());
-    let audit = Audit::of(alloc, &dump)?;
+    let (found, last) = (last_dump(alloc, &log)?, dump(alloc, LAST)?);
+    assert!(rt; (found.members(), found.f(), found.strike()) == (3, 1, last.strike));
+    assert!(rt; found.events() == last.events.as_slice() && found.held() == last.held.as_slice());
+    let audit = Audit::of(alloc, &found)?;
     assert!(rt; unsafe_receipts(alloc, &audit)?.is_empty());
     Ok(())
 }
@@ -142,25 +48,27 @@ fn finds_the_middle_unsafe(rt: HostRuntime) -> Result<(), Fail> {
 #[test]
 fn gives_the_reason(rt: HostRuntime) -> Result<(), Fail> {
     let alloc = rt.alloc();
-    let reasons = moment_reasons(alloc, &late(alloc)?)?;
+    let reasons = moment_reasons(alloc, &log(alloc, LATE)?)?;
     assert!(rt; reasons.len() == 1);
     for reason in &reasons {
-        assert!(rt; reason.said == unsafe_moment());
-        assert!(rt; reason.cut[0] == 1 && reason.cut[1] == 3 && reason.cut[2] == 2);
-        assert!(rt; reason.holders == only(1));
-        assert!(rt; reason.next == Some(7));
+        assert!(rt; reason.said == unsafe_moment()?);
+        assert!(rt; reason.cut[..3] == [1, 3, 2]);
+        assert!(rt; reason.holders == set(&[1])? && reason.next == Some(7));
         assert!(rt; reason.path.as_slice() == [1, 3, 4].as_slice());
     }
     Ok(())
 }
 
+/// The same run up to where member 2 takes the message, with member 1 struck.
+const STRUCK: &str =
+    r#"{"version":2,"members":3,"f":1,"events":[["send",0,1,1],["receipt",1,1,0,1],["hold",1,0,1,1,1],["send",1,1,2],["receipt",2,1,1,1],["hold",2,1,1,2,1]],"strike":[1]}"#;
+
 /// What the loss of the strike set loses at the last moment, and whom it leaves.
 #[test]
 fn audits_the_last_moment(rt: HostRuntime) -> Result<(), Fail> {
     let alloc = rt.alloc();
-    let parts: [&[Entry]; 3] = [&taken(), &sent_on(), &taken_again()];
-    let audit = audit_log(alloc, &log(alloc, &parts, only(1))?)?;
-    assert!(rt; audit.lost.as_slice() == [first()].as_slice());
-    assert!(rt; audit.orphans == only(2));
+    let audit = audit_log(alloc, &log(alloc, STRUCK)?)?;
+    assert!(rt; audit.lost.as_slice() == [first()?].as_slice());
+    assert!(rt; audit.orphans == set(&[2])?);
     Ok(())
 }

@@ -1,69 +1,40 @@
 //! Orders of the events of runs.
 
-ghost use Rattle.std.specs.Prelude.{◌<◌};
-
-use fbl_base::{DumpRefusal, Mark, Member};
+use crate::texts::dump;
+use fbl_base::{DumpRefusal, Mark};
 use fbl_fixtures::Refusing;
 use fbl_order::{Obstacle, OrderFault, Stuck, order};
 use std::alloc::Global;
+use std::test::Fail;
 
-pub(crate) fn send(from: u8, ssn: u32, to: u8) -> Mark
-    requires from { from < 16 }
-    requires to { to < 16 }
-{
-    let (from, to) = (Member::at(from), Member::at(to));
-    Mark::Send { from, ssn, to }
+/// Events of a message that goes once round a group of three, the last member's log first, and in the order in which they happened.
+const ROUND: (&str, &str) = (
+    r#"{"events":[["receipt",2,1,1,1],["send",2,1,0],["receipt",1,1,0,1],["send",1,1,2],["send",0,1,1],["receipt",0,1,2,1]],"f":1,"held":[],"members":3,"strike":[]}"#,
+    r#"{"events":[["send",0,1,1],["receipt",1,1,0,1],["send",1,1,2],["receipt",2,1,1,1],["send",2,1,0],["receipt",0,1,2,1]],"f":1,"held":[],"members":3,"strike":[]}"#,
+);
+
+/// Two members that hear nothing from one another.
+const APART: &str =
+    r#"{"events":[["send",1,1,0],["send",0,1,2],["send",1,2,2]],"f":1,"held":[],"members":3,"strike":[]}"#;
+
+/// A third member waits for one of two that wait for one another.
+const CIRCLE: &str =
+    r#"{"events":[["receipt",2,1,0,2],["receipt",0,1,1,1],["send",0,1,1],["send",0,2,2],["receipt",1,1,0,1],["send",1,1,0]],"f":1,"held":[],"members":3,"strike":[]}"#;
+
+/// Whether the first text's events have the order of the second one's.
+fn has_order(alloc: Global, text: &str, ordered: &str) -> Result<bool, Fail> {
+    let found = order(alloc, 3, dump(alloc, text)?.events.as_slice());
+    let expected = dump(alloc, ordered)?;
+    Ok(matches!(found, Ok(events) if events.as_slice() == expected.events.as_slice()))
 }
 
-pub(crate) fn receipt(to: u8, rsn: u32, from: u8, ssn: u32) -> Mark
-    requires to { to < 16 }
-    requires from { from < 16 }
-{
-    let (to, from) = (Member::at(to), Member::at(from));
-    Mark::Receipt { to, rsn, from, ssn }
-}
-
-/// The events of a message that goes once round a group of three, in the order in which they happened.
-pub(crate) fn round() -> [Mark; 6] {
-    [
-        send(0, 1, 1),
-        receipt(1, 1, 0, 1),
-        send(1, 1, 2),
-        receipt(2, 1, 1, 1),
-        send(2, 1, 0),
-        receipt(0, 1, 2, 1),
-    ]
-}
-
-/// The same events, the last member's log first.
-fn logs() -> [Mark; 6] {
-    [
-        receipt(2, 1, 1, 1),
-        send(2, 1, 0),
-        receipt(1, 1, 0, 1),
-        send(1, 1, 2),
-        send(0, 1, 1),
-        receipt(0, 1, 2, 1),
-    ]
-}
-
-/// Whether these events have this order in a group of three.
-fn has_order(alloc: Global, events: &[Mark], ordered: &[Mark]) -> bool {
-    match order(alloc, 3, events) {
-        Ok(found) => found.as_slice() == ordered,
-        Err(_) => false,
-    }
-}
-
+/// Events that have their order already stay as they are given.
 #[test]
-fn orders_logs_one_behind_another(rt: HostRuntime) {
-    let alloc = rt.alloc();
-    assert!(rt; has_order(alloc, &logs(), &round()));
-    assert!(rt; has_order(alloc, &round(), &round()));
-    assert!(rt; has_order(alloc, &[], &[]));
-    // two members that hear nothing from one another stay as they are given
-    let apart = [send(1, 1, 0), send(0, 1, 2), send(1, 2, 2)];
-    assert!(rt; has_order(alloc, &apart, &apart));
+fn orders_logs_one_behind_another(rt: HostRuntime) -> Result<(), Fail> {
+    for (text, ordered) in [ROUND, (ROUND.1, ROUND.1), (APART, APART)] {
+        assert!(rt; has_order(rt.alloc(), text, ordered)?);
+    }
+    Ok(())
 }
 
 /// Whether these events have no order in a group of three, since these, of which each waits for the next one, can't come.
@@ -74,31 +45,22 @@ fn has_none(alloc: Global, events: &[Mark], stuck: &[Stuck]) -> bool {
     }
 }
 
-fn stuck(place: usize, event: Mark, obstacle: Obstacle) -> Stuck {
-    Stuck {
-        place,
-        event,
-        obstacle,
-    }
-}
-
-/// A third member waits for one of two that wait for one another.
 #[test]
-fn names_the_events_of_a_circle(rt: HostRuntime) {
-    let events = [
-        receipt(2, 1, 0, 2),
-        receipt(0, 1, 1, 1),
-        send(0, 1, 1),
-        send(0, 2, 2),
-        receipt(1, 1, 0, 1),
-        send(1, 1, 0),
-    ];
-    let chain = [
-        stuck(0, receipt(2, 1, 0, 2), Obstacle::Waits(1)),
-        stuck(1, receipt(0, 1, 1, 1), Obstacle::Waits(4)),
-        stuck(4, receipt(1, 1, 0, 1), Obstacle::Waits(1)),
-    ];
-    assert!(rt; has_none(rt.alloc(), &events, &chain));
+fn names_the_events_of_a_circle(rt: HostRuntime) -> Result<(), Fail> {
+    let raw = dump(rt.alloc(), CIRCLE)?;
+    let events = raw.events.as_slice();
+    let mut chain = Vec::new(rt.alloc());
+    for (place, next) in [(0, 1), (1, 4), (4, 1)] {
+        let event = *events.get(place).ok_or("no event")?;
+        let obstacle = Obstacle::Waits(next);
+        chain.push(Stuck {
+            place,
+            event,
+            obstacle,
+        })?;
+    }
+    assert!(rt; has_none(rt.alloc(), events, chain.as_slice()));
+    Ok(())
 }
 
 /// What became of an order of these events with one request for memory refused: whether it was answered as it is with none refused.
@@ -115,11 +77,14 @@ fn answers_with_one_refused(alloc: Global, request: u64, events: &[Mark], length
 }
 
 #[test]
-fn refused_memory(rt: HostRuntime) {
-    let (a, b) = (receipt(0, 1, 1, 1), receipt(1, 1, 0, 1));
-    let circle = [a, send(0, 1, 1), b, send(1, 1, 0)];
-    for request in 1..40u64 {
-        assert!(rt; answers_with_one_refused(rt.alloc(), request, &logs(), 6));
-        assert!(rt; answers_with_one_refused(rt.alloc(), request, &circle, 2));
+fn refused_memory(rt: HostRuntime) -> Result<(), Fail> {
+    for (text, length) in [(ROUND.0, 6), (CIRCLE, 3)] {
+        let raw = dump(rt.alloc(), text)?;
+        for request in 1..40u64 {
+            assert!(rt;
+                answers_with_one_refused(rt.alloc(), request, raw.events.as_slice(), length)
+            );
+        }
     }
+    Ok(())
 }

@@ -1,5 +1,6 @@
 //! Plays, audits and checks over readers and writers that stumble.
 
+use crate::texts::{LATE, LOST};
 use fbl_fixtures::{FailedWrite, UnsteadyReader, UnsteadyWriter};
 use fbl_input::RunFault;
 use fbl_play::play;
@@ -17,15 +18,7 @@ const TWO_STRIKES: (&str, &str) = (
     "deliver 1 0 receipt 1 carried 0 state 5\ndeliver 2 1 receipt 1 carried 1 state 5\ndeliver 0 2 receipt 1 carried 1 state 5\nstrike 2 lost 0\nrecover replayed 1 resent 0 undone 0\nstrike 1 lost 0\nmember 0 up state 5 received 1 sent 1 held 2\nmember 1 down\nmember 2 up state 5 received 1 sent 1 held 3\nflight 0\ntrace 6\nlost 0\norphans none\nrecover replayed 1 resent 0 undone 0\nstates 5 5 5\n",
 );
 
-/// A message that went once round three members, without a pair that a run leaves, so that a receipt is lost.
-const LOST: &str =
-    r#"{"events":[["send",0,1,1],["receipt",1,1,0,1],["send",1,1,2],["receipt",2,1,1,1],["send",2,1,0],["receipt",0,1,2,1]],"f":1,"held":[[0,1,1,2,1],[0,2,1,0,1],[1,0,1,1,1],[2,1,1,2,1]],"members":3,"strike":[1]}"#;
-
 const LOST_TEXT: &str = "lost 1\ndeterminant 0 1 1 1\norphans 0,2\n";
-
-/// The same message in a log: what it brings member 2 comes to be held a moment too late.
-const LATE: &str =
-    r#"{"version":2,"members":3,"f":1,"events":[["send",0,1,1],["receipt",1,1,0,1],["hold",1,0,1,1,1],["send",1,1,2],["receipt",2,1,1,1],["hold",2,1,1,2,1],["send",2,1,0],["hold",2,0,1,1,1]],"strike":[]}"#;
 
 const LATE_TEXT: &str = "unsafe 0 1 1 1 at 4 strike 1 orphans 2\n";
 

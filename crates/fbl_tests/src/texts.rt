@@ -1,0 +1,41 @@
+//! Dumps and logs as texts, and what they are read as.
+
+use fbl_base::RawDump;
+use fbl_moments::{RawLog, RunLog, checked_log};
+use fbl_texts::{Recorded, RecordedInput, read_raw_dump, read_recorded};
+use std::alloc::Global;
+use std::test::Fail;
+
+/// A message that went once round three members, of whom one may be lost, in a dump without a pair that a run leaves: its first receipt
+/// is lost with member 1.
+pub(crate) const LOST: &str =
+    r#"{"events":[["send",0,1,1],["receipt",1,1,0,1],["send",1,1,2],["receipt",2,1,1,1],["send",2,1,0],["receipt",0,1,2,1]],"f":1,"held":[[0,1,1,2,1],[0,2,1,0,1],[1,0,1,1,1],[2,1,1,2,1]],"members":3,"strike":[1]}"#;
+
+/// The same message in a log: what it brings member 2 comes to be held a moment too late.
+pub(crate) const LATE: &str =
+    r#"{"version":2,"members":3,"f":1,"events":[["send",0,1,1],["receipt",1,1,0,1],["hold",1,0,1,1,1],["send",1,1,2],["receipt",2,1,1,1],["hold",2,1,1,2,1],["send",2,1,0],["hold",2,0,1,1,1]],"strike":[]}"#;
+
+/// The text's dump, whose rules are not checked.
+pub(crate) fn dump(alloc: Global, text: &str) -> Result<RawDump, Fail> {
+    let read = read_raw_dump(alloc, &mut text.as_bytes());
+    Ok(read.ok().ok_or("no dump")?.raw)
+}
+
+/// The text's log, whose rules are not checked.
+pub(crate) fn raw_log(alloc: Global, text: &str) -> Result<RawLog, Fail> {
+    match read_recorded(alloc, &mut text.as_bytes()) {
+        Ok(
+            RecordedInput {
+                recorded: Recorded::Log(log),
+                ..
+            },
+        ) => Ok(log),
+        _ => Err("no log".into()),
+    }
+}
+
+/// The text's log.
+pub(crate) fn log(alloc: Global, text: &str) -> Result<RunLog, Fail> {
+    let raw = raw_log(alloc, text)?;
+    Ok(checked_log(alloc, raw).ok().ok_or("refused")?)
+}
