@@ -12,7 +12,7 @@ use fbl_base::{Determinant, Member, MemberSet};
 use std::alloc::{AllocError, Global};
 
 /// A receipt that some members may lose with an orphan left.
-#[derive(Clone, Copy, Debug)]
+#[derive(Clone, Copy, PartialEq, Eq, Debug)]
 pub struct UnsafeReceipt {
     /// What names the receipt.
     pub determinant: Determinant,
