@@ -70,8 +70,10 @@ fn count_sends<N: Copy>(events: &[Event<N>], member: Member) -> u32
     ensures value { result ≡ sends_of (map mark_of events.now) member }
     ensures few { result ≤ 64 }
 {
-    let marks = events.iter().map(|event| event.mark());
-    marks.filter(|mark| is_send_of(*mark, member)).count() as u32
+    let sends = events
+        .iter()
+        .filter(|event| is_send_of(event.mark(), member));
+    sends.count() as u32
 }
 
 /// Whether the event is a send of the member.

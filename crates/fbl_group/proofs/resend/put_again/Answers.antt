@@ -1,4 +1,4 @@
-use Rattle.fbl_group.proofs.Common.{◌≡◌, ℕ, ◌+◌, ◌<◌, ◌++◌, ◌∷◌, [], List, Entry, length, get_or, take, refl, resent, map_more, IsOnce-piggybacked}
+use Rattle.fbl_group.proofs.Common.{◌≡◌, ℕ, ◌+◌, ◌<◌, ◌++◌, ◌∷◌, [], List, Entry, length, get_or, take, refl, resent, map_more, IsOnce-piggybacked, take_all}
 use Rattle.fbl_group.proofs.resend.put_again.Goals as goal
 
 -- one message more
@@ -16,3 +16,6 @@ loop-send-preserved g c = record {
       (resent-more c.args.from c.args.to _ c.args.unsent.now c.loop-send-test.true c.send-item.is);
   passed = c.pass_on.ensures.passed;
 }
+
+pub returns-clause-made : goal.returns-clause-made
+returns-clause-made g c = rw (take_all c.loop-send.send-index c.args.unsent.now c.loop-send-test.false) at c.loop-send.invariant.so_far

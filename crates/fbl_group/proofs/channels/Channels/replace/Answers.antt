@@ -39,3 +39,6 @@ loop-receiver-preserved g c =
             left = replacing-kept theirs below_q below_p asked w.if-has_either.false;
           })
     ]
+
+pub loop-receiver-init : goal.loop-receiver-init
+loop-receiver-init g c = c.loop-sender.invariant

@@ -53,3 +53,6 @@ loop-wire-preserved g c =
           ∙ ap (λ (vs : List (Message _)). c.loop-wire.trace.items ++ map send_of_message vs) (sym rest) ∙ c.loop-wire.invariant.trace;
       trace_room = (let enough = c.loop-wire.invariant.trace_room in omega (arith, enough, ap length rest, c.push_reserved.ensures.len, c.push_reserved.ensures.capacity));
     }
+
+pub push_reserved-requires : goal.push_reserved-requires
+push_reserved-requires g c = (let enough = c.loop-wire.invariant.trace_room in omega (arith, enough, ap length c.in-Some.ensures.steps.0))
