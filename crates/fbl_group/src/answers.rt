@@ -1,7 +1,7 @@
 //! What calls of a group answer.
 
 /// What a delivery answers.
-#[derive(Clone, Copy, Debug)]
+#[derive(Clone, Copy, PartialEq, Eq, Debug)]
 pub struct Receipted<S = u64> {
     /// The receipt's number, from 1 per receiver.
     pub rsn: u32,

@@ -38,7 +38,7 @@ impl DeliverRefusal {
 }
 
 /// Why no ticket is given. The refusals are tested in this order.
-#[derive(Clone, Copy, Debug, Error)]
+#[derive(Clone, Copy, PartialEq, Eq, Debug, Error)]
 pub enum TakeRefusal {
     /// The receiver or the sender is not a member of the group.
     #[error("BadMember")]
@@ -85,7 +85,7 @@ pub enum CommitRefusal {
 }
 
 /// Why nobody is struck. The refusals are tested in this order.
-#[derive(Clone, Copy, Debug, Error)]
+#[derive(Clone, Copy, PartialEq, Eq, Debug, Error)]
 #[error("{}", self.name())]
 pub enum StrikeRefusal {
     /// A member named is not a member of the group.
