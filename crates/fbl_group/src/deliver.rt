@@ -82,7 +82,8 @@ fn take_in<B: Behaviour, A: Allocator + Copy>(
 {
     let member = &mut members[usize::from(to.number())];
     let made = member.receive::<B>(to, n, f, wire, outcome)?;
-    Ok((member.received(), made))
+    let rsn = member.received();
+    Ok((rsn, made))
 }
 
 /// The refusal of the commit of a step whose ticket was just taken, as one of a delivery: what was just taken is not stale.

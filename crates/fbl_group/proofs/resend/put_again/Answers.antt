@@ -12,8 +12,7 @@ new-requires g c = rw c.in_ok-carried.ensures.value (IsOnce-piggybacked c.args.f
 pub loop-send-preserved : goal.loop-send-preserved
 loop-send-preserved g c = record {
   so_far =
-      rw (c.in_ok-push_back.ensures.items, c.loop-send.invariant.so_far, c.new.ensures, c.in_ok-carried.ensures.value)
-      (resent-more c.args.from c.args.to _ c.args.unsent.now c.loop-send-test.true c.send-item.is);
+      rw (c.in_ok-push_back.ensures.items, c.loop-send.invariant.so_far, c.new.ensures, c.in_ok-carried.ensures.value) (resent-more c.args.from c.args.to _ c.args.unsent.now c.loop-send-test.true c.send-item.is);
   passed = c.pass_on.ensures.passed;
 }
 

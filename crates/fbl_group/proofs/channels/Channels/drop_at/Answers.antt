@@ -14,7 +14,6 @@ loop-receiver-preserved g c =
     elim c.if-has_either.branch [
       | goal.then-has_either w ↦
           let channel = found c.loop-receiver.self w.from.ensures w.from-then-has_either.ensures places w.index_mut.ensures.value w.index_mut-then-has_either.ensures.value in
-          rw (w.self-is, channel.changed w.clear.new.self w.clear.ensures.items)
-          (replacing-other so_far c.loop-sender-test.true c.loop-receiver-test.true asked w.if-has_either.true refl)
+          rw (w.self-is, channel.changed w.clear.new.self w.clear.ensures.items) (replacing-other so_far c.loop-sender-test.true c.loop-receiver-test.true asked w.if-has_either.true refl)
       | goal.else-has_either w ↦ rw w.self-is (replacing-kept so_far c.loop-sender-test.true c.loop-receiver-test.true asked w.if-has_either.false)
     ]

@@ -4,8 +4,7 @@ use Rattle.fbl_group.proofs.group.Group.deliver.Goals as goal
 
 pub returns-in-Ok-clause-delivered : goal.returns-in-Ok-clause-delivered
 returns-in-Ok-clause-delivered g c =
-    deciding.delivers g.B.Behaviour.next c.args.self.now c.args.to c.args.from c.in_ok-ticket.ticket c.in_ok-ticket.ensures.taken c.in_ok-ticket.ensures.ends
-    c.run_step.result.ticket c.run_step.ensures.ticket _ _ c.in-Ok.ensures.delivered
+    deciding.delivers g.B.Behaviour.next c.args.self.now c.args.to c.args.from c.in_ok-ticket.ticket c.in_ok-ticket.ensures.taken c.in_ok-ticket.ensures.ends c.run_step.result.ticket c.run_step.ensures.ticket _ _ c.in-Ok.ensures.delivered
 
 pub returns-in-Err-clause-refused : goal.returns-in-Err-clause-refused
 returns-in-Err-clause-refused g c =

@@ -6,6 +6,6 @@ loop-number-preserved g c =
     let asked : contains c.args.self.now.down c.loop-number.number ≡ c.has.result = rw (c.down.ensures.down, c.at-member.ensures) at (sym c.has.ensures) in
     elim c.if-has.branch [
       | goal.then-has+in_ok-gather w ↦
-          rw (w.gathered-is, add-one, asked, w.if-has.true, fold-append, ← c.loop-number.invariant, w.in_ok-gather.ensures.gathered, w.table.ensures, w.saved.ensures, c.at-member.ensures)
+          rw (w.gathered-is, add-one, asked, w.if-has.true, fold-append, ← c.loop-number.invariant, w.in_ok-gather.ensures.gathered) (cc)
       | goal.else-has w ↦ rw (w.gathered-is, add-one, asked, w.if-has.false, append-nil) c.loop-number.invariant
     ]

@@ -8,20 +8,17 @@ pub working-sender-requires : goal.working-sender-requires
 working-sender-requires g c = record {
   size = rw c.as_slice.ensures.value c.requires.replaying.size;
   member =
-      from-member c.recoverable.ensures.sound c.requires.replaying c.requires.down (c.from-place.ensures ∙ c.number.ensures.value) c.index.ensures
-      c.requires.numbered c.index-2.ensures c.determinant.ensures c.received-rsn.ensures.value c.in-Some.is;
+      from-member c.recoverable.ensures.sound c.requires.replaying c.requires.down (c.from-place.ensures ∙ c.number.ensures.value) c.index.ensures c.requires.numbered c.index-2.ensures c.determinant.ensures c.received-rsn.ensures.value c.in-Some.is;
 }
 
 pub returns-in_default-log_note-clause-waits : goal.returns-in_default-log_note-clause-waits
 returns-in_default-log_note-clause-waits g c =
-    let looked = looked-up c.recoverable.ensures.sound c.requires.replaying c.requires.down (c.from-place.ensures ∙ c.number.ensures.value) c.index.ensures
-    c.requires.numbered c.index-2.ensures c.determinant.ensures c.received-rsn.ensures.value in
+    let looked = looked-up c.recoverable.ensures.sound c.requires.replaying c.requires.down (c.from-place.ensures ∙ c.number.ensures.value) c.index.ensures c.requires.numbered c.index-2.ensures c.determinant.ensures c.received-rsn.ensures.value in
     grind (arith, looked)
 
 pub returns-clause-found : goal.returns-clause-found
 returns-clause-found g c =
-    sym (looked-up c.recoverable.ensures.sound c.requires.replaying c.requires.down (c.from-place.ensures ∙ c.number.ensures.value) c.index.ensures
-    c.requires.numbered c.index-2.ensures c.determinant.ensures c.received-rsn.ensures.value) ∙ c.in-Some.is
+    sym (looked-up c.recoverable.ensures.sound c.requires.replaying c.requires.down (c.from-place.ensures ∙ c.number.ensures.value) c.index.ensures c.requires.numbered c.index-2.ensures c.determinant.ensures c.received-rsn.ensures.value) ∙ c.in-Some.is
 
 pub index-requires : goal.index-requires
 index-requires g c = omega (arith, c.recoverable.ensures.sound.down c.args.member c.requires.down, c.requires.replaying.size)
@@ -31,8 +28,7 @@ overflow_add-rsn g c = omega (arith, c.received-rsn.ensures.kept.few_receipts)
 
 pub returns-in_default-clause-waits : goal.returns-in_default-clause-waits
 returns-in_default-clause-waits g c =
-    let looked = looked-up c.recoverable.ensures.sound c.requires.replaying c.requires.down (c.from-place.ensures ∙ c.number.ensures.value) c.index.ensures
-    c.requires.numbered c.index-2.ensures c.determinant.ensures c.received-rsn.ensures.value in
+    let looked = looked-up c.recoverable.ensures.sound c.requires.replaying c.requires.down (c.from-place.ensures ∙ c.number.ensures.value) c.index.ensures c.requires.numbered c.index-2.ensures c.determinant.ensures c.received-rsn.ensures.value in
     λ d is. absurd (c.in_default.not-Some d (looked ∙ is))
 
 pub returns-clause-sent : goal.returns-clause-sent

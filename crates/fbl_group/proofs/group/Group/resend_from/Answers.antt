@@ -9,8 +9,7 @@ loop-number-preserved g c =
     let wanted = sent_again c.args.self.now.config.f c.args.self.now.down (working c.args.self.now c.args.rebuilt.now) c.args.from in
     record {
       made =
-          rw c.in_ok-push.ensures.items (made-mapped deque_items {Wanted = λ p channel. channel ≡ wanted p} _ _ c.loop-number.invariant.made
-          (c.in_ok-resend_on.ensures.made ∙ ap wanted c.at-to.ensures));
+          rw c.in_ok-push.ensures.items (made-mapped deque_items {Wanted = λ p channel. channel ≡ wanted p} _ _ c.loop-number.invariant.made (c.in_ok-resend_on.ensures.made ∙ ap wanted c.at-to.ensures));
       passed = c.resend_on.ensures.passed;
     }
 

@@ -4,9 +4,8 @@ use Rattle.fbl_group.proofs.group.Group.strike.Goals as goal
 pub invariant_of-self : goal.invariant_of-self
 invariant_of-self g c =
     let allowed = rw (← c.self.view_is) at c.in_ok-allow_strike.ensures.allowed in
-    strike_keeps g.B.Behaviour.next _ _ _ allowed
-    (is_strike c.self.invariant allowed (rw c.members-n.ensures.value at c.blank_members.ensures) (rw c.members-n.ensures.value at c.drop_at.ensures) c.union-self-inside.ensures)
-    c.self.invariant
+    let emptied = rw c.members-n.ensures.value at c.drop_at.ensures in
+    strike_keeps g.B.Behaviour.next _ _ _ allowed (is_strike c.self.invariant allowed (rw c.members-n.ensures.value at c.blank_members.ensures) emptied c.union-self-inside.ensures) c.self.invariant
 
 pub returns : goal.returns
 returns g c =

@@ -9,10 +9,8 @@ loop-number-preserved g c =
           rw (w.members-is, w.records-is) (record {
             members = length-set _ _ _ ∙ c.loop-number.invariant.members;
             records = length-set _ _ _ ∙ c.loop-number.invariant.records;
-            put = put-down c.loop-number.invariant.put w.swap.new.y c.from-place.ensures
-                (omega (arith, c.loop-number-test.true, c.requires.members, c.args.members.now.ok.0))
-                (omega (arith, c.loop-number-test.true, c.requires.records, c.args.self.now.records.ok.0))
-                (asked ∙ w.if-has.true) (rw w.swap.ensures.x_after w.index_mut-then-has.ensures.value);
+            put = put-down c.loop-number.invariant.put w.swap.new.y c.from-place.ensures (omega (arith, c.loop-number-test.true, c.requires.members, c.args.members.now.ok.0))
+                (omega (arith, c.loop-number-test.true, c.requires.records, c.args.self.now.records.ok.0)) (asked ∙ w.if-has.true) (rw w.swap.ensures.x_after w.index_mut-then-has.ensures.value);
           })
       | goal.else-has w ↦
           rw (w.members-is, w.records-is) (record {
