@@ -1,5 +1,4 @@
-use Rattle.fbl_member.proofs.Common.{◌≡◌, ℕ, ◌+◌, ◌<◌, List, [], ◌∷◌, ◌++◌, Option, Some, None, Bor, IfSome, All, arith, common_steps, length, sym, slice_get, option_copied, append_assoc, messages_from}
-use Rattle.fbl_member.proofs.Common.{piggybacked, HasRoom, All-pop, All-push, Message, slice_get_within, get_or_from_slice_get, get_or, drop, Entry, drop_more}
+use Rattle.fbl_member.proofs.Common.{◌≡◌, ℕ, ◌+◌, ◌<◌, List, [], ◌∷◌, ◌++◌, Option, Some, None, Bor, IfSome, All, arith, common_steps, length, sym, slice_get, option_copied, append_assoc, messages_from, piggybacked, HasRoom, All-pop, All-push, Message, slice_get_within, get_or_from_slice_get, get_or, drop, Entry, drop_more}
 use Rattle.fbl_member.proofs.Once.{carried_once}
 use Rattle.fbl_member.proofs.buffers.Buffers.into_wires.Goals as goal
 

@@ -1,4 +1,4 @@
-use Rattle.fbl_member.proofs.Common.{◌≡◌, ◌++◌, ◌≤◌, ℕ, ap, arith, length, refl, HasRooms, Buffers}
+use Rattle.fbl_member.proofs.Common.{◌≡◌, ◌++◌, ◌≤◌, ℕ, Ok, Err, MatchResult, Result, ap, arith, length, refl, HasRooms, Buffers}
 use Rattle.fbl_member.proofs.Logs.{bounded, numbered-more}
 use Rattle.fbl_member.proofs.member_rec.MemberRec.receive.Goals as goal
 use Rattle.fbl_member.proofs.member_rec.MemberRec.receive.Goals.{After-unwrap}
@@ -20,13 +20,11 @@ into_wires-requires-clause-rooms g c = fewer c.in_ok-buffers.ensures (rw c.in_ok
 
 pub invariant_of-self-2 : goal.invariant_of-self-2
 invariant_of-self-2 g c =
-    bounded c.self.inside.received c.number.result c.ssn.result c.self.inside.last c.self.inside.log.items _ _ c.self.invariant.0
-    (rw (← c.self.view_is) at c.requires.receipts) (grown g (goal.at.invariant_of-self-2 g c).After-unwrap) (rw (← c.self.view_is) at c.requires.sends)
+    bounded c.self.inside.received c.number.result c.ssn.result c.self.inside.last c.self.inside.log.items _ _ c.self.invariant.0 (rw (← c.self.view_is) at c.requires.receipts) (grown g (goal.at.invariant_of-self-2 g c).After-unwrap) (rw (← c.self.view_is) at c.requires.sends)
 
 pub returns-clause-received : goal.returns-clause-received
 returns-clause-received g c =
-    rw (← c.self.view_is, grown g (goal.at.returns-clause-received g c).After-unwrap, numbered-more, c.in_ok-learn_and_note.ensures.ok, c.next_determinant-determinant.ensures)
-    (rw (c.carried-carried.ensures.value, c.number.ensures.value, c.from.ensures, c.ssn.ensures, ← c.self.view_is) refl)
+    rw (← c.self.view_is, grown g (goal.at.returns-clause-received g c).After-unwrap, numbered-more, c.in_ok-learn_and_note.ensures.ok, c.next_determinant-determinant.ensures) (rw (c.carried-carried.ensures.value, c.number.ensures.value, c.from.ensures, c.ssn.ensures, ← c.self.view_is) refl)
 
 pub returns-clause-sent : goal.returns-clause-sent
 returns-clause-sent g c = rw (c.sent-before.ensures.value, c.as_slice-sends.ensures.value) at c.into_wires.ensures
@@ -36,3 +34,9 @@ invariant_of-self g c = (c.self.invariant.0, c.self.invariant.1, rw c.reserve.en
 
 pub invariant_of-self-in_err-learn_and_note : goal.invariant_of-self-in_err-learn_and_note
 invariant_of-self-in_err-learn_and_note g c = (c.self.invariant.0, c.self.invariant.1, rw c.reserve.ensures.items c.self.invariant.2)
+
+on_err : {P T E : Type 0} (r : Result T E) → P → MatchResult r (λ _. Unit {0}) (λ _. P)
+on_err {P} r is = elim r as (λ r. MatchResult r (λ _. Unit {0}) (λ _. P)) [ Ok _ ↦ tt | Err _ ↦ is ]
+
+pub returns-in_err-reserve-clause-unchanged : goal.returns-in_err-reserve-clause-unchanged
+returns-in_err-reserve-clause-unchanged g c = rw (← c.self.view_is, c.reserve.ensures.items) (on_err c.from_residual-in_err-reserve.result refl)
