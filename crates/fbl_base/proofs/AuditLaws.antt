@@ -128,14 +128,10 @@ causes_all dump p places causes end = grind (arith, nat_tests, At-below)
 -- who depends on a lost receipt depends on one of the causes that stands no later
 pub cause_before : (dump : Parts) (places : List ℕ) → AreCauses dump places → (q i : ℕ) → IsCause dump q i
     → (k : ℕ) × (c : ℕ) × (slice_get places k ≡ Some c) × DependsOnPlace dump.events q c × (c ≤ i)
-cause_before dump places causes q i cause =
-    let r = causes.all i cause.0 in
-    let d = cause.1 in
-    (r.0, r.1, r.2, (d.0, d.1, Precedes-joined r.3 d.2, d.3, d.4), not_later r.3)
+cause_before dump places causes q i cause = (let r = causes.all i cause.0 in let d = cause.1 in (r.0, r.1, r.2, (d.0, d.1, Precedes-joined r.3 d.2, d.3, d.4), not_later r.3))
 
 -- a member is an orphan exactly where it is left and has a cause
-pub orphan_by_cause : (dump : Parts) (q : ℕ) → WellFormed dump.members dump.events
-    → IsDumpOrphan dump q ↔ (set.contains dump.strike q ≡ false) × ((i : ℕ) × IsCause dump q i)
+pub orphan_by_cause : (dump : Parts) (q : ℕ) → WellFormed dump.members dump.events → IsDumpOrphan dump q ↔ (set.contains dump.strike q ≡ false) × ((i : ℕ) × IsCause dump q i)
 orphan_by_cause dump q obeys = (
   λ orphan.
       let has = Has-first orphan.1.2.1 in

@@ -61,9 +61,7 @@ send_found n t obeys p i to rsn from ssn at within o sent = by_found o sent wher
 
   by_found : (o : Option ℕ) → IsSentBy t p (record { from = from; ssn = ssn }) o → IsSendOf t i o
   by_found None none = absurd (none before.0 to (omega (arith, before.1, within)) before.2)
-  by_found (Some s) found =
-      let same = one_send n t obeys from ssn found.0 to s before.0 found.1 before.2 in
-      (Receipt to rsn from ssn, Send from ssn to, at, rw same before.2, refl, rw same before.1)
+  by_found (Some s) found = (let same = one_send n t obeys from ssn found.0 to s before.0 found.1 before.2 in (Receipt to rsn from ssn, Send from ssn to, at, rw same before.2, refl, rw same before.1))
 
 -- ---- the next event's clock
 

@@ -14,9 +14,7 @@ module _ {S N : Type 0} where
       → responses next member n state (notes ++ note ∷ [])
       ≡ responses next member n state notes ++ (took note ∷ map sent (next.step member n (fold (λ s x. (next.step member n s x).state) state notes) note).sends.items)
   responses-push next member n state [] note = simp append-nil
-  responses-push next member n state (x ∷ notes) note =
-      let ih = responses-push next member n (next.step member n state x).state notes note in
-      rw (append_assoc, ← ih)
+  responses-push next member n state (x ∷ notes) note = (let ih = responses-push next member n (next.step member n state x).state notes note in rw (append_assoc, ← ih))
 
   fold-state : (next : Next S N) (member n : ℕ) (p : Progress S N) (notes : List N) → (fold (advanced next member n) p notes).state ≡ fold (λ s x. (next.step member n s x).state) p.state notes
   fold-state next member n p [] = refl
@@ -64,8 +62,7 @@ module _ {N : Type 0} where
   pub sent-note : (t : List (Event N)) (i q k p : ℕ) → At (map mark_of t) i (mark.Send q k p) → (note : N) × (note_of t q k ≡ Some note)
   sent-note [] i q k p h = cc
   sent-note (Send q' k' p' x ∷ t) zero q k p h = (x, grind (arith, nat_tests))
-  sent-note (Send q' k' p' x ∷ t) (suc i) q k p h =
-      elim (q' == q && k' == k) as (λ b. (note : N) × (cond b (Some x) (note_of t q k) ≡ Some note)) [ true ↦ (x, refl) | false ↦ sent-note t i q k p h ]
+  sent-note (Send q' k' p' x ∷ t) (suc i) q k p h = elim (q' == q && k' == k) as (λ b. (note : N) × (cond b (Some x) (note_of t q k) ≡ Some note)) [ true ↦ (x, refl) | false ↦ sent-note t i q k p h ]
   sent-note (Receipt p' r q' k' ∷ t) zero q k p h = cc
   sent-note (Receipt p' r q' k' ∷ t) (suc i) q k p h = sent-note t i q k p h
 
@@ -73,8 +70,7 @@ module _ {N : Type 0} where
   pub receipts-noted : (n : ℕ) (t : List (Event N)) → WellFormed n (map mark_of t) → (i to rsn from ssn : ℕ)
       → slice_get t i ≡ Some (Receipt to rsn from ssn) → (note : N) × (note_of t from ssn ≡ Some note)
   receipts-noted n t obeys i to rsn from ssn at =
-      let sent' = sent-before n (map mark_of t) obeys i to rsn from ssn (slice_get-map mark_of t i ∙ (rw at)) in
-      sent-note t sent'.0 from ssn to sent'.2
+      (let sent' = sent-before n (map mark_of t) obeys i to rsn from ssn (slice_get-map mark_of t i ∙ (rw at)) in sent-note t sent'.0 from ssn to sent'.2)
 
   -- what a member did stays the same as the trace grows
   actions-append : (n : ℕ) (t new : List (Event N)) (m : ℕ) → WellFormed n (map mark_of t) → actions_of (t ++ new) m ≡ actions_of t m ++ filter_map (action_of (t ++ new) m) new

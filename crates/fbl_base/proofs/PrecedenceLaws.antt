@@ -34,9 +34,7 @@ module _ (t added : List Mark) (apart : (e : Mark) → Has added e → ¬ (Has t
   -- nothing new precedes an old event
   pub Precedes-within : {a b : Mark} → Has t b → Precedes (t ++ added) a b → Precedes t a b
   Precedes-within old (itself h) = itself old
-  Precedes-within old (step {b} {c} p l) =
-      let e = Earlier-within b c old l.0 in
-      step (Precedes-within (e.0, e.3) p) (e, l.1)
+  Precedes-within old (step {b} {c} p l) = (let e = Earlier-within b c old l.0 in step (Precedes-within (e.0, e.3) p) (e, l.1))
 
   -- what precedes one of them is one of them, or precedes an old event that leads to one of them
   module _ (LeadsIn : Mark → Type 0) (leads : (c e : Mark) → Has added e → (member_of c ≡ member_of e) ⊎ (send_of e ≡ Some c) → LeadsIn c) where
@@ -56,9 +54,7 @@ apart_from t e new x among there = new (subst (Has t) (only e x among) there)
 
 -- and the other way round
 pub new-Precedes : (t : List Mark) (e : Mark) {a b : Mark} → Precedes t a b → (member_of b ≡ member_of e) ⊎ (send_of e ≡ Some b) → Precedes (t ++ e ∷ []) a e
-new-Precedes t e {a} {b} p leads =
-    let h = Has-last p in
-    step (Precedes-front t (e ∷ []) p) ((h.0, length t, At-below t h.0 b h.1, At-front t (e ∷ []) h.0 b h.1, At-seam t e []), leads)
+new-Precedes t e {a} {b} p leads = (let h = Has-last p in step (Precedes-front t (e ∷ []) p) ((h.0, length t, At-below t h.0 b h.1, At-front t (e ∷ []) h.0 b h.1, At-seam t e []), leads))
 
 -- what an appended receipt depends on: what its member depended on, and what precedes its send
 pub precedes_receipt : (t : List Mark) (to rsn from ssn : ℕ) (a : Mark) → ¬ (Has t (Receipt to rsn from ssn))
@@ -96,8 +92,7 @@ one_of P apart i j at_i at_j = grind arith
 
 -- no event stands twice
 pub one_place : (n : ℕ) (t : List Mark) → WellFormed n t → (e : Mark) (i j : ℕ) → At t i e → At t j e → i ≡ j
-one_place n t obeys e =
-    one_of (λ i. At t i e) (λ i j at_i at_j below. MayFollow-new n (take j t) e (WellFormed-take n j t obeys) (obeys j e at_j) (i, slice_get-take t j i e below at_i))
+one_place n t obeys e = one_of (λ i. At t i e) (λ i j at_i at_j below. MayFollow-new n (take j t) e (WellFormed-take n j t obeys) (obeys j e at_j) (i, slice_get-take t j i e below at_i))
 
 -- no member has two sends of one number
 pub one_send : (n : ℕ) (t : List Mark) → WellFormed n t → (q s a b i j : ℕ) → At t i (Send q s a) → At t j (Send q s b) → i ≡ j
@@ -126,6 +121,4 @@ pub depends-from_places : (t : List Mark) (member i : ℕ) (a : Mark) → At t i
 depends-from_places t member i a at_a d = (d.1, events-from_places t i d.0 a d.1 at_a d.3 d.2, d.4)
 
 pub places-from_depends : (n : ℕ) (t : List Mark) → WellFormed n t → (member i : ℕ) (a : Mark) → At t i a → Depends t member a → DependsOnPlace t member i
-places-from_depends n t obeys member i a at_a d =
-    let stands = Has-last d.1 in
-    (stands.0, d.0, places-from_events n t obeys i a at_a stands.0 d.0 stands.1 d.1, stands.1, d.2)
+places-from_depends n t obeys member i a at_a d = (let stands = Has-last d.1 in (stands.0, d.0, places-from_events n t obeys i a at_a stands.0 d.0 stands.1 d.1, stands.1, d.2))

@@ -29,8 +29,7 @@ MayFollow-last n t e obeys =
     (let here : take (length t) (t ++ e ∷ []) ≡ t = take-append-le (length t) t (e ∷ []) (omega arith) ∙ take_all (length t) t (omega arith) in rw here at (obeys (length t) e (At-seam t e [])))
 
 -- what holds of no event, and of one more that may come next, holds of each trace that obeys the rules
-pub WellFormed-keeps : (n : ℕ) (P : List Mark → Type 0) → P []
-    → ((t : List Mark) (e : Mark) → WellFormed n t → MayFollow n t e → P t → P (t ++ e ∷ [])) → (t : List Mark) → WellFormed n t → P t
+pub WellFormed-keeps : (n : ℕ) (P : List Mark → Type 0) → P [] → ((t : List Mark) (e : Mark) → WellFormed n t → MayFollow n t e → P t → P (t ++ e ∷ [])) → (t : List Mark) → WellFormed n t → P t
 WellFormed-keeps n P none more t obeys = from [] t obeys none where
   from : (u rest : List Mark) → WellFormed n (u ++ rest) → P u → P (u ++ rest)
   from u [] obeys done = rw append-nil done
@@ -127,8 +126,7 @@ in_flight-send n t obeys q s p a b may =
     rw (taken, filter_map-append (sent_on a b) t (Send q s p ∷ []), filter-append) (grind (arith, nat_tests, fresh))
 
 -- to leave out one more number is to leave it out of what is left
-filter_twice : (ks : List ℕ) (s : ℕ) (xs : List ℕ)
-    → filter (λ x. not (list_any (λ k. k == x) (ks ++ s ∷ []))) xs ≡ filter (λ x. not (s == x)) (filter (λ x. not (list_any (λ k. k == x) ks)) xs)
+filter_twice : (ks : List ℕ) (s : ℕ) (xs : List ℕ) → filter (λ x. not (list_any (λ k. k == x) (ks ++ s ∷ []))) xs ≡ filter (λ x. not (s == x)) (filter (λ x. not (list_any (λ k. k == x) ks)) xs)
 filter_twice ks s [] = refl
 filter_twice ks s (x ∷ xs) = grind (arith, filter_twice ks s xs, list_any-append (λ k. k == x) ks (s ∷ []))
 

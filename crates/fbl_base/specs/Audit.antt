@@ -45,8 +45,7 @@ IsLost dump (Receipt to rsn from ssn) = ¬ (IsHeldOutside dump (record { from = 
 
 -- the member is outside the strike set and depends on a lost receipt
 abbrev pub IsDumpOrphan : Parts → ℕ → Type 0
-IsDumpOrphan dump member =
-    (set.contains dump.strike member ≡ false) × ((e : Mark) × IsLost dump e × Depends dump.events member e)
+IsDumpOrphan dump member = (set.contains dump.strike member ≡ false) × ((e : Mark) × IsLost dump e × Depends dump.events member e)
 
 -- the place has a lost receipt
 abbrev pub IsLostAt : Parts → ℕ → Type 0
@@ -72,8 +71,7 @@ IsOrphaned dump member j = (b : Mark) × At dump.events j b × (member_of b ≡ 
 
 -- the member is outside the strike set, and the place is that of its first event that depends on a lost receipt
 abbrev pub IsOrphanFrom : Parts → ℕ → ℕ → Type 0
-IsOrphanFrom dump member place =
-    (set.contains dump.strike member ≡ false) × IsOrphaned dump member place × ((k : ℕ) → k < place → ¬ (IsOrphaned dump member k))
+IsOrphanFrom dump member place = (set.contains dump.strike member ≡ false) × IsOrphaned dump member place × ((k : ℕ) → k < place → ¬ (IsOrphaned dump member k))
 
 -- the member is no orphan; or it is one from the place on
 abbrev pub IsOrphanStart : Parts → ℕ → Option ℕ → Type 0
@@ -105,12 +103,9 @@ pub record IsDump (dump : Parts) : Type 0 where
 abbrev pub RefusesDump : Parts → DumpRefusal → Type 0
 RefusesDump dump BadMembers = ¬ (MembersAllowed dump.members)
 RefusesDump dump BadF = MembersAllowed dump.members × ¬ (FAllowed dump.members dump.f)
-RefusesDump dump (BadEvent place) =
-    MembersAllowed dump.members × FAllowed dump.members dump.f × IsFirstBreach (ObeysAt dump.members dump.events) place
-RefusesDump dump (BadHeld place) =
-    MembersAllowed dump.members × FAllowed dump.members dump.f × WellFormed dump.members dump.events × IsFirstBreach (HeldAt dump) place
-RefusesDump dump BadStrike =
-    MembersAllowed dump.members × FAllowed dump.members dump.f × WellFormed dump.members dump.events × ((i : ℕ) → HeldAt dump i) × ¬ (AllBelow dump.strike dump.members)
+RefusesDump dump (BadEvent place) = MembersAllowed dump.members × FAllowed dump.members dump.f × IsFirstBreach (ObeysAt dump.members dump.events) place
+RefusesDump dump (BadHeld place) = MembersAllowed dump.members × FAllowed dump.members dump.f × WellFormed dump.members dump.events × IsFirstBreach (HeldAt dump) place
+RefusesDump dump BadStrike = MembersAllowed dump.members × FAllowed dump.members dump.f × WellFormed dump.members dump.events × ((i : ℕ) → HeldAt dump i) × ¬ (AllBelow dump.strike dump.members)
 RefusesDump dump Memory = MembersAllowed dump.members × FAllowed dump.members dump.f
 
 -- the parts, as contracts see them

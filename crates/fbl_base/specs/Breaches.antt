@@ -46,8 +46,7 @@ IsEndOutside n from to outsider = IsOutside n from outsider ⊎ ((from < n) × I
 
 -- the least member of the set that is outside a group of n
 abbrev pub IsLeastOutside : set.FinSet nat_cmp → ℕ → Outsider → Type 0
-IsLeastOutside s n outsider =
-    (set.contains s outsider.member ≡ true) × IsOutside n outsider.member outsider × ((k : ℕ) → n ≤ k → k < outsider.member → set.contains s k ≡ false)
+IsLeastOutside s n outsider = (set.contains s outsider.member ≡ true) × IsOutside n outsider.member outsider × ((k : ℕ) → n ≤ k → k < outsider.member → set.contains s k ≡ false)
 
 -- ---- starts and configurations
 
@@ -55,8 +54,7 @@ IsLeastOutside s n outsider =
 abbrev pub BreaksStart : ℕ → Start Note → StartRule → Type 0
 BreaksStart n start (start_rule.Outside outsider) = IsEndOutside n start.from start.to outsider
 BreaksStart n start start_rule.ToItself = (start.from < n) × (start.to < n) × (start.from ≡ start.to)
-BreaksStart n start (start_rule.TooManyHops hops) =
-    (start.from < n) × (start.to < n) × (start.from ≢ start.to) × (hops ≡ start.note.hops) × (15 < hops)
+BreaksStart n start (start_rule.TooManyHops hops) = (start.from < n) × (start.to < n) × (start.from ≢ start.to) × (hops ≡ start.note.hops) × (15 < hops)
 
 -- this is what the parameters are refused for
 abbrev pub IsConfigBreach : Settings Note → ConfigRefusal → Breach → Type 0
@@ -99,8 +97,7 @@ Breaks n e next first event_rule.TooMany = ⊥
 Breaks n e next first (event_rule.Outside outsider) = IsEndOutside n (source_of e) (destination_of e) outsider
 Breaks n e next first event_rule.ToItself = (source_of e < n) × (destination_of e < n) × (source_of e ≡ destination_of e)
 Breaks n e next first (event_rule.WrongNumber wanted) = AreEndsAllowed n e × (wanted ≡ next) × (number_of e ≢ next)
-Breaks n e next first (event_rule.NothingInFlight from to) =
-    AreEndsAllowed n e × (number_of e ≡ next) × (from ≡ source_of e) × (to ≡ destination_of e) × (first ≡ None) × ¬ (TakesMessage e first)
+Breaks n e next first (event_rule.NothingInFlight from to) = AreEndsAllowed n e × (number_of e ≡ next) × (from ≡ source_of e) × (to ≡ destination_of e) × (first ≡ None) × ¬ (TakesMessage e first)
 Breaks n e next first (event_rule.OtherInFlight from to wanted) =
     AreEndsAllowed n e × (number_of e ≡ next) × (from ≡ source_of e) × (to ≡ destination_of e) × (first ≡ Some wanted) × ¬ (TakesMessage e first)
 
@@ -119,13 +116,11 @@ IsEventFault n trace fault = At trace fault.place fault.event × BreaksEvent n (
 abbrev pub BreaksPair : ℕ → List Mark → ℕ → ℕ → Determinant → PairRule → Type 0
 BreaksPair n trace place holder d pair_rule.TooMany = 131072 ≤ place
 BreaksPair n trace place holder d (pair_rule.Outside outsider) = (place < 131072) × IsOutside n holder outsider
-BreaksPair n trace place holder d (pair_rule.NoReceipt receipt) =
-    (place < 131072) × (holder < n) × (receipt ≡ receipt_of d) × ¬ (Has trace receipt)
+BreaksPair n trace place holder d (pair_rule.NoReceipt receipt) = (place < 131072) × (holder < n) × (receipt ≡ receipt_of d) × ¬ (Has trace receipt)
 
 -- the pair at the fault's place is the fault's, and breaks its rule
 abbrev pub IsPairFault : Parts → PairFault → Type 0
-IsPairFault dump fault =
-    (slice_get dump.held fault.place ≡ Some (fault.holder, fault.determinant)) × BreaksPair dump.members dump.events fault.place fault.holder fault.determinant fault.rule
+IsPairFault dump fault = (slice_get dump.held fault.place ≡ Some (fault.holder, fault.determinant)) × BreaksPair dump.members dump.events fault.place fault.holder fault.determinant fault.rule
 
 -- this is what the dump is refused for
 abbrev pub IsDumpBreach : Parts → DumpRefusal → Breach → Type 0
@@ -157,8 +152,7 @@ number_before plan place = slice_index (0 ∷ numbers plan) place
 
 -- the entry stands at place 64 or later, its number isn't greater than the one before, or its set may not be struck
 abbrev pub IsBad : {N : Type 0} → List Strike → Settings N → ℕ → Type 0
-IsBad plan config place =
-    (64 ≤ place) ⊎ (slice_index (numbers plan) place ≤ number_before plan place) ⊎ ¬ (MayBeStruck config (set_at plan place))
+IsBad plan config place = (64 ≤ place) ⊎ (slice_index (numbers plan) place ≤ number_before plan place) ⊎ ¬ (MayBeStruck config (set_at plan place))
 
 -- the first bad entry stands at the place
 abbrev pub IsFirstBad : {N : Type 0} → List Strike → Settings N → ℕ → Type 0

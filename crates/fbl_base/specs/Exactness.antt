@@ -19,8 +19,7 @@ holds true is = grind (arith, is)
 holds false is = grind (arith, is)
 
 pub exact_lists : {A : Type 0} {same : A → A → Bool} → IsExact same → IsExact (pointwise same)
-exact_lists {same = same} exact xs ys =
-    holds (pointwise same xs ys) (slice_eq-Decides (λ a b. decides (same a b) (exact a b)) xs ys (pointwise same xs ys) refl)
+exact_lists {same = same} exact xs ys = holds (pointwise same xs ys) (slice_eq-Decides (λ a b. decides (same a b) (exact a b)) xs ys (pointwise same xs ys) refl)
 
 pub exact_numbers : IsExact (λ (a b : ℕ). a == b)
 exact_numbers a b = ((λ same. grind (arith, nat_tests, same)), λ same. grind (arith, nat_tests, same))

@@ -38,8 +38,7 @@ begun initial member starts = record { state = initial; received = 0; log = numb
 
 -- a member after a step: the new state, one receipt more, and the step's sends with the next numbers at the log's end
 abbrev pub stepped : {S N : Type 0} → Progress S N → Outcome S N → Progress S N
-stepped p outcome =
-    record { state = outcome.state; received = p.received + 1; log = p.log ++ numbered (length p.log) outcome.sends.items }
+stepped p outcome = record { state = outcome.state; received = p.received + 1; log = p.log ++ numbered (length p.log) outcome.sends.items }
 
 -- a member after one more receipt
 abbrev pub advanced : {S N : Type 0} → Next S N → ℕ → ℕ → Progress S N → N → Progress S N

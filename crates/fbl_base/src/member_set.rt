@@ -59,9 +59,8 @@ impl MemberSet {
     pub fn with(self, member: Member) -> MemberSet
         ensures { result ≡ set.insert self member }
     {
-        MemberSet {
-            bits: self.bits | (1 << member.number()),
-        }
+        let bits = self.bits | (1 << member.number());
+        MemberSet { bits }
     }
 
     /// How many members there are.
@@ -99,9 +98,8 @@ impl MemberSet {
     pub fn union(self, other: MemberSet) -> MemberSet
         ensures { result ≡ set.union self other }
     {
-        MemberSet {
-            bits: self.bits | other.bits,
-        }
+        let bits = self.bits | other.bits;
+        MemberSet { bits }
     }
 
     /// Whether each member is below `n`.
@@ -131,9 +129,8 @@ impl MemberSet {
     pub fn without(self, other: MemberSet) -> MemberSet
         ensures { result ≡ set.difference self other }
     {
-        MemberSet {
-            bits: self.bits & !other.bits,
-        }
+        let bits = self.bits & !other.bits;
+        MemberSet { bits }
     }
 }
 

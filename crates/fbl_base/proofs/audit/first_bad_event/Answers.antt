@@ -19,3 +19,6 @@ loop-place-preserved g c = rw (add-one, take-more c.args.events.now c.loop-place
 
 pub returns-clause-place : goal.returns-clause-place
 returns-clause-place g c = rw (take_all _ _ c.loop-place-test.false) at c.loop-place.invariant.obeyed
+
+pub returns-in-Some-clause-fault : goal.returns-in-Some-clause-fault
+returns-in-Some-clause-fault g c = (slice_get_read _ _ _ _ refl c.loop-place-test.true c.index-events-place.is, c.in-Some.ensures.rule)

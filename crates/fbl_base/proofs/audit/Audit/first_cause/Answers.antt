@@ -16,5 +16,4 @@ pub returns : goal.returns
 returns g c i cause =
     let places = c.causes-cause-items.result.now in
     let b = cause_before c.args.self.now places c.causes-cause-items.ensures c.args.member i cause in
-    let within = slice_get_within places b.0 b.1 b.2 in
-    c.loop-cause.invariant b.0 b.1 (omega (arith, within, c.loop-cause-test.false)) b.2 b.3
+    c.loop-cause.invariant b.0 b.1 (omega (arith, slice_get_within places b.0 b.1 b.2, c.loop-cause-test.false)) b.2 b.3

@@ -1,8 +1,7 @@
 use Rattle.fbl_base.proofs.Common.{◌≡◌, ◌==◌, ◌&&◌, arith, Bool, Decides, nat_tests, Settings, Start, slice_eq-Decides}
 use Rattle.fbl_base.proofs.config.Config.same.Goals as goal
 
-same_start : {N : Type 0} (same : N → N → Bool) → ((a b : N) → Decides (same a b) (a ≡ b)) → (a b : Start N)
-    → Decides ((a.from == b.from) && ((a.to == b.to) && same a.note b.note)) (a ≡ b)
+same_start : {N : Type 0} (same : N → N → Bool) → ((a b : N) → Decides (same a b) (a ≡ b)) → (a b : Start N) → Decides ((a.from == b.from) && ((a.to == b.to) && same a.note b.note)) (a ≡ b)
 same_start same exact a b = grind (arith, nat_tests, exact a.note b.note)
 
 same_settings : {N : Type 0} (a b : Settings N) → a.members ≡ b.members → a.f ≡ b.f → a.limit ≡ b.limit → a.starts ≡ b.starts → a ≡ b

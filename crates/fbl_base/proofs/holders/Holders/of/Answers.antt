@@ -8,16 +8,13 @@ use Rattle.fbl_base.proofs.holders.Holders.of.Goals as goal
 
 pub loop-holder-init : goal.loop-holder-init
 loop-holder-init g c d q =
-    let none = set.contains-empty nat_cmp q in
-    let all = contains-holders c.args.dump.now d q in
-    grind (arith, none, all)
+    grind (arith, set.contains-empty nat_cmp q, contains-holders c.args.dump.now d q)
 
 -- where the pair names the determinant, its holder joins
 joins : (same : Bool) (k q : ℕ) (own old after : Option Members) (rest : Bool) → (same ≡ true → own ≡ old)
     → after ≡ cond same (Some (set.insert (unwrap_or own set.empty) k)) old
     → (set.contains (unwrap_or after set.empty) q || rest) ≡ (set.contains (unwrap_or old set.empty) q || ((same && (k == q)) || rest))
-joins same k q own old after rest is_own written =
-    grind (arith, nat_tests, is_own, written, set.contains-insert nat_cmp_total (unwrap_or own set.empty) k q, unsigned_tied q k)
+joins same k q own old after rest is_own written = grind (arith, nat_tests, is_own, written, set.contains-insert nat_cmp_total (unwrap_or own set.empty) k q, unsigned_tied q k)
 
 pub loop-holder-preserved : goal.loop-holder-preserved
 loop-holder-preserved g c d q =
