@@ -5,11 +5,8 @@ use Rattle.fbl_base.proofs.audit.broken_rule.Goals as goal
 pub returns-then-not-contains : goal.returns-then-not-contains
 returns-then-not-contains g c =
     let received = Decides-is_received c.args.raw.now.events.items c.args.pair.now.1 in
-    let known = c.contains.ensures ∙ c.requires c.args.pair.now.1 in
-    (omega arith, omega arith, c.receipt.ensures, λ has. false≢true (sym c.if-not-contains.true ∙ known ∙ received.1 (rw c.receipt.ensures at has)))
+    (omega arith, omega arith, c.receipt.ensures, λ has. false≢true (sym c.if-not-contains.true ∙ c.contains.ensures ∙ c.requires c.args.pair.now.1 ∙ received.1 (rw c.receipt.ensures at has)))
 
 pub returns : goal.returns
 returns g c =
-    let received = Decides-is_received c.args.raw.now.events.items c.args.pair.now.1 in
-    let known = c.contains.ensures ∙ c.requires c.args.pair.now.1 in
-    (omega arith, omega arith, received.0 (sym known ∙ c.if-not-contains.false))
+    (omega arith, omega arith, (Decides-is_received c.args.raw.now.events.items c.args.pair.now.1).0 (sym (c.contains.ensures ∙ c.requires c.args.pair.now.1) ∙ c.if-not-contains.false))

@@ -5,9 +5,8 @@ use Rattle.fbl_base.proofs.audit.Audit.first_cause.Goals as goal
 pub returns-then-depends : goal.returns-then-depends
 returns-then-depends g c =
     let places = c.causes-cause-items.result.now in
-    let k = c.loop-cause.cause-index in
-    let at = slice_get-get_or places k 0 (omega (arith, c.loop-cause-test.true)) in
-    first_right c.args.self.now places c.causes-cause-items.ensures c.args.member k _ at (rw c.self.view_is at (c.depends.ensures.0 c.if-depends.true)) c.loop-cause.invariant
+    let at = slice_get-get_or places c.loop-cause.cause-index 0 (omega (arith, c.loop-cause-test.true)) in
+    first_right c.args.self.now places c.causes-cause-items.ensures c.args.member c.loop-cause.cause-index _ at (rw c.self.view_is at (c.depends.ensures.0 c.if-depends.true)) c.loop-cause.invariant
 
 pub loop-cause-preserved : goal.loop-cause-preserved
 loop-cause-preserved g c k i below at depends = grind (arith, cases_eq, get_or_from_slice_get, false≢true)

@@ -18,7 +18,6 @@ loop-number-preserved g c =
 
 pub returns : goal.returns
 returns g c =
-    let dump = c.args.self.now in
     let rules = c.dump.ensures.rules in
     let all : c.loop-number.number ≡ 16 = omega (arith, c.loop-number-test.false, c.loop-number.auto.number-end) in
-    rw (c.without.ensures, c.strike.ensures, c.dump.ensures.dump) (orphans_right dump rules.events rules.members.1 c.loop-number.orphans (rw all at c.loop-number.invariant))
+    rw (c.without.ensures, c.strike.ensures, c.dump.ensures.dump) (orphans_right c.args.self.now rules.events rules.members.1 c.loop-number.orphans (rw all at c.loop-number.invariant))
