@@ -1,6 +1,5 @@
 -- What a run of turns keeps where only that there is one is known, and that it leaves the group where it counts nothing.
-use Rattle.fbl_threads.proofs.Common.{List, arith, false, refl, sum, true≢false, ℕ, ◌≡◌, Coded, Coded-set, coded_ℕ, codes, nat_cmp, Next, Strike}
-use Rattle.fbl_threads.proofs.Common.{GroupRecord, Keeps, Counts, Reached, starts, turns, is_full, is_late, wants, ∥∥₁_elim}
+use Rattle.fbl_threads.proofs.Common.{List, arith, false, refl, sum, true≢false, ℕ, ◌≡◌, Coded, Coded-set, coded_ℕ, codes, nat_cmp, Next, Strike, GroupRecord, Keeps, Counts, Reached, starts, turns, is_full, is_late, wants, ∥∥₁_elim}
 use Rattle.std.specs.FinSet as set
 use Rattle.fbl_table.specs.contracts.entry.Entry as entry
 use Rattle.fbl_threads.proofs.Keeping.{kept, sum-more}

@@ -51,9 +51,7 @@ module _ {S N : Type 0} where
   keeps_on None records' t = ap is_some t.added
   keeps_on (Some list) records' t = ap is_some t.added.2
 
--- ---- one turn
-
-module _ {S N : Type 0} where
+  -- one turn
   none_added : {next : Next S N} {plan : List Strike} {w : ℕ} {ticket : Ticket S N} {old new : GroupRecord S N} {c c' : Counts} {ends : Bool} (turn : Turn next plan w ticket old c new c' ends)
       → IsRecordedAs turn [] → (before after : Option (List (TurnRecord S N))) → after ≡ before → IsAdded turn before after
   none_added turn is None after same = same
@@ -63,9 +61,6 @@ module _ {S N : Type 0} where
       (t : TurnRecord S N) → IsRecordedAs turn (t ∷ []) → (before after : Option (List (TurnRecord S N))) → after ≡ with_record t before → IsAdded turn before after
   one_added turn t is None after kept = kept
   one_added turn t is (Some list) after kept = (t ∷ [], is, kept)
-
-  kept_as : (t : TurnRecord S N) {mid before after : Option (List (TurnRecord S N))} → mid ≡ before → after ≡ with_record t mid → after ≡ with_record t before
-  kept_as t same kept = kept ∙ ap (with_record t) same
 
 module _ {S N : Type 0} {next : Next S N} {plan : List Strike} {w : ℕ} {ticket : Ticket S N} {old : GroupRecord S N} {c : Counts} {before after : Option (List (TurnRecord S N))} where
   refuses : {new : GroupRecord S N} {c' c'' : Counts} {ends ends' : Bool} (turn : Turn next plan w ticket old c old c' ends) → IsRecordedAs turn [] → (c'' ≡ c') × (ends' ≡ ends) → new ≡ old → after ≡ before
@@ -83,7 +78,7 @@ module _ {S N : Type 0} {next : Next S N} {plan : List Strike} {w : ℕ} {ticket
       (same : mid ≡ before) (kept : after ≡ with_record t mid) {by : List ℕ} (is : by ≡ more_at c.by_worker w 1) where
     pub committed : struck_at plan between.receipts_ever ≡ None → t.crash ≡ None → TurnAs next plan w ticket old c between (record c { by_worker = by }) false before after
     committed none no_crash =
-        rw is (record { turn = commits between commit none; added = one_added {c = c} (commits between commit none) t (t, refl, receipt, no_crash) before after (kept_as t same kept) })
+        rw is (record { turn = commits between commit none; added = one_added {c = c} (commits between commit none) t (t, refl, receipt, no_crash) before after (kept ∙ ap (with_record t) same) })
 
     as_crashed : {new : GroupRecord S N} {c' : Counts} (set : Members) (recovery : Option RecoveryRecord) → struck_at plan between.receipts_ever ≡ Some set
         → CrashesAs next w set between (commits_one w c) new c' recovery → t.crash ≡ Some (record { set = set; recovery = recovery })
@@ -92,13 +87,13 @@ module _ {S N : Type 0} {next : Next S N} {plan : List Strike} {w : ℕ} {ticket
         rw crash.2
         (record {
           turn = crashes between new set r.recovered commit at crash.0;
-          added = one_added {c = c} (crashes between new set r.recovered commit at crash.0) t (t, refl, receipt, (r, is_crash, crash.1)) before after (kept_as t same kept);
+          added = one_added {c = c} (crashes between new set r.recovered commit at crash.0) t (t, refl, receipt, (r, is_crash, crash.1)) before after (kept ∙ ap (with_record t) same);
         })
     as_crashed {new} {c'} set None at crash is_crash =
         rw crash.1
         (record {
           turn = strikes between new set commit at crash.0;
-          added = one_added {c = c} (strikes between new set commit at crash.0) t (t, refl, receipt, is_crash) before after (kept_as t same kept);
+          added = one_added {c = c} (strikes between new set commit at crash.0) t (t, refl, receipt, is_crash) before after (kept ∙ ap (with_record t) same);
         })
 
     pub crashed : {new : GroupRecord S N} {c' : Counts} {ends : Bool} (set : Members) (recovery : Option RecoveryRecord) → ends ≡ is_none recovery → struck_at plan between.receipts_ever ≡ Some set
