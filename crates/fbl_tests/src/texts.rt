@@ -23,14 +23,11 @@ pub(crate) fn dump(alloc: Global, text: &str) -> Result<RawDump, Fail> {
 
 /// The text's log, whose rules are not checked.
 pub(crate) fn raw_log(alloc: Global, text: &str) -> Result<RawLog, Fail> {
-    match read_recorded(alloc, &mut text.as_bytes()) {
-        Ok(
-            RecordedInput {
-                recorded: Recorded::Log(log),
-                ..
-            },
-        ) => Ok(log),
-        _ => Err("no log".into()),
+    let read = read_recorded(alloc, &mut text.as_bytes());
+    let RecordedInput { recorded, bytes: _ } = read.ok().ok_or("no input")?;
+    match recorded {
+        Recorded::Log(log) => Ok(log),
+        Recorded::Dump(_) => Err("no log".into()),
     }
 }
 
