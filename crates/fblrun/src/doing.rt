@@ -27,11 +27,12 @@ use std::sync::Wait;
 use std::thread::Threads;
 
 /// Plays the script, and writes the picture of its history.
-fn show<R: Eprint + Threads + Wait + Sync, W: Write>(
+fn show<T: Eprint + Threads + Wait + Sync, W: Write>(
+    rt: &T,
     alloc: Global,
     script: Script,
     workers: u8,
-    teller: &mut Teller<'_, R>,
+    teller: &mut Teller<'_, T>,
     writer: &mut W,
 ) -> Result<(), OutputFault>
     requires { script.config.members ≤ 16 }
@@ -40,7 +41,7 @@ fn show<R: Eprint + Threads + Wait + Sync, W: Write>(
     let members = script.config.members();
     let f = script.config.f();
     let name = script.behaviour.name();
-    let history = history_of_script(teller.rt, alloc, script, workers, teller)?;
+    let history = history_of_script(rt, alloc, script, workers, teller)?;
     let text = show_text(alloc, members, f, name, history.columns())?;
     put(writer, text.as_bytes())
 }
@@ -66,7 +67,7 @@ fn do_script<T: Eprint + Threads + Wait + Sync, W: Write>(
             Ok(!is_refused)
         }
         ScriptTask::Show { workers } => {
-            show(alloc, script, workers, &mut teller, writer)?;
+            show(rt, alloc, script, workers, &mut teller, writer)?;
             Ok(true)
         }
     }

@@ -51,7 +51,7 @@ impl fmt::Display for FaultLine<'_> {
 /// there is passed over: what is written and the exit status stay as they would be.
 #[derive(Drop)]
 pub(crate) struct Teller<'a, R> {
-    pub(crate) rt: &'a R,
+    rt: &'a R,
     is_asked: bool,
     /// The place of the next command.
     place: usize,
