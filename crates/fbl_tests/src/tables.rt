@@ -82,48 +82,65 @@ fn gathered<A: Allocator + Copy>(
     Ok(table)
 }
 
-/// What is done with the entry of a receipt: its receiver and a member that is told of it pass it on, or tables gather it.
+/// The entry of a receipt of member 1, as its receiver passes it on.
+fn carried() -> Entry {
+    let one = Member::at(1);
+    Entry {
+        det: first_receipt(Member::at(0), one),
+        known: MemberSet::empty().with(one),
+    }
+}
+
+/// The entry as member 2 has it, which is told of it.
+fn learned() -> Entry {
+    let Entry { det, known } = carried();
+    let known = known.with(Member::at(2));
+    Entry { det, known }
+}
+
+/// Whether the entry is passed on while at most `f` members are known to hold the receipt.
+fn is_passed_on<A: Allocator + Copy>(own: &Table<A>, told: &Table<A>) -> Result<bool, AllocError> {
+    let by_receiver = passes_on(own, 1, &[carried()])?;
+    let by_none = passes_on(told, 1, &[])?;
+    let by_told = passes_on(told, 2, &[learned()])?;
+    Ok(by_receiver && by_none && by_told)
+}
+
+/// Whether the entry of the table is known to member 0, which has no receipt, once it is marked.
+fn is_marked<A: Allocator + Copy>(table: &mut Table<A>) -> bool {
+    let zero = Member::at(0);
+    table.mark_all(MemberSet::empty().with(zero));
+    let Entry { det, known } = learned();
+    let known = known.with(zero);
+    let receipts = (table.last_rsn(det.to), table.last_rsn(zero));
+    has(table, Entry { det, known }) && receipts == (1, 0)
+}
+
+/// Whether a table that gathers both has the entry as it was learned, and marks it.
+fn is_gathered<A: Allocator + Copy>(
+    alloc: A,
+    own: &Table<A>,
+    told: &Table<A>,
+) -> Result<bool, AllocError> {
+    let mut all = gathered(alloc, told, own)?;
+    let is_gathered = has(told, learned()) && has(&all, learned());
+    Ok(is_gathered && is_marked(&mut all))
+}
+
+/// What is done with the entry: its receiver and the member that is told of it pass it on, or tables gather it.
 #[derive(Clone, Copy)]
 enum Known {
     PassedOn,
     Gathered,
 }
 
-impl Known {
-    /// Whether the entry is passed on while at most `f` members are known to hold the receipt.
-    fn is_passed_on<A: Allocator + Copy>(
-        own: &Table<A>,
-        told: &Table<A>,
-        carried: &[Entry],
-        learned: &[Entry],
-    ) -> Result<bool, AllocError> {
-        let by_receiver = passes_on(own, 1, carried)?;
-        let by_none = passes_on(told, 1, &[])?;
-        let by_told = passes_on(told, 2, learned)?;
-        Ok(by_receiver && by_none && by_told)
-    }
-}
-
 impl Example for Known {
     fn is_worked<A: Allocator + Copy>(&self, alloc: A) -> Result<bool, AllocError> {
-        let (zero, one, two) = (Member::at(0), Member::at(1), Member::at(2));
-        let det = first_receipt(zero, one);
-        let known = MemberSet::empty().with(one);
-        let carried = [Entry { det, known }];
-        let known = known.with(two);
-        let learned = [Entry { det, known }];
-        let own = own_table(alloc, one, det)?;
-        let told = told_table(alloc, two, &carried)?;
+        let own = own_table(alloc, Member::at(1), carried().det)?;
+        let told = told_table(alloc, Member::at(2), &[carried()])?;
         match self {
-            Known::PassedOn => Known::is_passed_on(&own, &told, &carried, &learned),
-            Known::Gathered => {
-                let mut all = gathered(alloc, &told, &own)?;
-                let is_gathered = has(&told, learned[0]) && has(&all, learned[0]);
-                all.mark_all(MemberSet::empty().with(zero));
-                let known = known.with(zero);
-                let is_found = (all.last_rsn(one), all.last_rsn(zero)) == (1, 0);
-                Ok(is_gathered && has(&all, Entry { det, known }) && is_found)
-            }
+            Known::PassedOn => is_passed_on(&own, &told),
+            Known::Gathered => is_gathered(alloc, &own, &told),
         }
     }
 }

@@ -96,6 +96,15 @@ fn are_counted(recorded: &Recorded, workers: u8) -> bool {
         && turns.iter().all(|turn| turn.worker < workers)
 }
 
+/// Whether the drain ended quietly with this many crashes, its turns counted.
+fn is_quiet_end(group: &Group<Relay>, recorded: &Recorded, workers: u8, crashes: usize) -> bool {
+    let turns = recorded.turns.iter();
+    recorded.drained.quiet
+        && has_states(group, &STATES_OF_TWELVE)
+        && are_counted(recorded, workers)
+        && turns.filter(|turn| turn.crash.is_some()).count() == crashes
+}
+
 /// Asserts that the turns of a drain of the twelve receipts by this plan are recorded.
 fn record<R: Threads + Wait + Sync + Abort>(
     rt: &R,
@@ -103,17 +112,11 @@ fn record<R: Threads + Wait + Sync + Abort>(
     plan: &[Strike],
     workers: u8,
 ) -> Result<(), Fail> {
-    let mut twin = twelve_receipts(alloc)?;
     let group = twelve_receipts(alloc)?;
     let (group, answer) = drain_recorded(rt, alloc, group, plan, workers, TURNS, &NoGate);
     let recorded = answer?;
-    let crashes = recorded
-        .turns
-        .iter()
-        .filter(|turn| turn.crash.is_some())
-        .count();
-    assert!(rt; recorded.drained.quiet && has_states(&group, &STATES_OF_TWELVE));
-    assert!(rt; are_counted(&recorded, workers) && crashes == plan.len());
+    assert!(rt; is_quiet_end(&group, &recorded, workers, plan.len()));
+    let mut twin = twelve_receipts(alloc)?;
     assert!(rt;
         leads_to(&mut twin, recorded.turns.as_slice(), &group),
         "{plan:?}, {workers} workers"
