@@ -7,9 +7,7 @@ use fbl_play::play;
 use fbl_texts::{Checked, Sources, audit, read_checked, write_check, write_log_check};
 use std::alloc::Global;
 use std::io::{self, Read, Write};
-use std::process::Abort;
 use std::sync::Wait;
-use std::test::Fail;
 use std::thread::Threads;
 
 /// Two strikes, one after the other, each with its recovery.
@@ -79,38 +77,61 @@ impl Engine {
     }
 }
 
+/// Whether the engine runs by a reader that gives one byte a read and is interrupted so often, or answers that a read failed, and has
+/// written nothing then.
+fn is_run_by_bytes<T: Threads + Wait + Sync>(
+    rt: &T,
+    alloc: Global,
+    engine: Engine,
+    interruptions: u32,
+) -> Result<bool, bool> {
+    let mut reader = UnsteadyReader::new(engine.input(), 1, 0);
+    reader.interruptions = interruptions;
+    let mut out = Vec::new(alloc);
+    match engine.run(rt, alloc, &mut reader, &mut out) {
+        Ok(()) => Ok(out.as_slice() == engine.text()),
+        Err(fault) => Err(matches!(fault, RunFault::Read) && out.is_empty()),
+    }
+}
+
 #[test]
-fn one_byte_a_read_and_interruptions(rt: HostRuntime) -> Result<(), Fail> {
+fn one_byte_a_read_and_interruptions(rt: HostRuntime) {
     for &engine in ENGINES {
-        for (interruptions, fine) in [(0, true), (1000, true), (1001, false)] {
-            let mut reader = UnsteadyReader::new(engine.input(), 1, 0);
-            reader.interruptions = interruptions;
-            let mut out = Vec::new(rt.alloc());
-            let done = engine.run(&rt, rt.alloc(), &mut reader, &mut out);
-            assert_eq!(rt; done.is_ok(), fine, "{engine:?} at {interruptions}");
-            assert!(rt; fine || matches!(done, Err(RunFault::Read)));
-            assert!(rt; out.as_slice() == if fine { engine.text() } else { b"" });
+        for (interruptions, expected) in [(0, Ok(true)), (1000, Ok(true)), (1001, Err(true))] {
+            let done = is_run_by_bytes(&rt, rt.alloc(), engine, interruptions);
+            assert!(rt; done == expected, "{engine:?} at {interruptions}");
         }
     }
-    Ok(())
+}
+
+/// Whether the engine runs by a reader whose read with this number fails, and which has fewer reads then, or answers that a read failed,
+/// and has written nothing then.
+fn is_run_by_reads<T: Threads + Wait + Sync>(
+    rt: &T,
+    alloc: Global,
+    engine: Engine,
+    fails_at: u32,
+) -> Result<bool, bool> {
+    let mut reader = UnsteadyReader::new(engine.input(), 20, fails_at);
+    let mut out = Vec::new(alloc);
+    match engine.run(rt, alloc, &mut reader, &mut out) {
+        Ok(()) => Ok(reader.reads < fails_at && fails_at > 10),
+        Err(fault) => Err(matches!(fault, RunFault::Read) && out.is_empty()),
+    }
 }
 
 #[test]
 fn failed_reads(rt: HostRuntime) {
     for &engine in ENGINES {
         for fails_at in 1..u32::MAX {
-            let mut reader = UnsteadyReader::new(engine.input(), 20, fails_at);
-            let mut out = Vec::new(rt.alloc());
-            let done = engine.run(&rt, rt.alloc(), &mut reader, &mut out);
-            if done.is_ok() {
-                assert!(rt; reader.reads < fails_at && fails_at > 10);
-                break;
-            }
+            let done = is_run_by_reads(&rt, rt.alloc(), engine, fails_at);
             assert!(rt;
-                matches!(done, Err(RunFault::Read)),
+                done.unwrap_or_else(|is_told| is_told),
                 "{engine:?} at {fails_at}"
             );
-            assert!(rt; out.is_empty());
+            if done.is_ok() {
+                break;
+            }
         }
     }
 }
@@ -122,24 +143,39 @@ const FAILURES: &[FailedWrite] = &[
     FailedWrite::NoByte,
 ];
 
+/// Whether the engine runs by a writer whose write with this number fails in this way, and has written all then, or answers that a write
+/// failed, and has written what comes before it.
+fn is_run_by_writes<T: Threads + Wait + Sync>(
+    rt: &T,
+    alloc: Global,
+    engine: Engine,
+    failure: FailedWrite,
+    fails_at: u32,
+) -> Result<bool, bool> {
+    let mut input = engine.input();
+    let mut writer = UnsteadyWriter::new(alloc, 7, fails_at, failure);
+    match engine.run(rt, alloc, &mut input, &mut writer) {
+        Ok(()) => Ok(fails_at > 6 && writer.held.as_slice() == engine.text()),
+        Err(fault) => {
+            let is_told = matches!(fault, RunFault::Write) && writer.writes == fails_at;
+            Err(is_told && engine.text().starts_with(writer.held.as_slice()))
+        }
+    }
+}
+
 #[test]
 fn failed_writes(rt: HostRuntime) {
     for &engine in ENGINES {
         for &failure in FAILURES {
             for fails_at in 1..u32::MAX {
-                let mut input = engine.input();
-                let mut writer = UnsteadyWriter::new(rt.alloc(), 7, fails_at, failure);
-                let done = engine.run(&rt, rt.alloc(), &mut input, &mut writer);
-                if done.is_ok() {
-                    assert!(rt; fails_at > 6 && writer.held.as_slice() == engine.text());
-                    break;
-                }
+                let done = is_run_by_writes(&rt, rt.alloc(), engine, failure, fails_at);
                 assert!(rt;
-                    matches!(done, Err(RunFault::Write)),
+                    done.unwrap_or_else(|is_told| is_told),
                     "{engine:?} at {fails_at}"
                 );
-                assert!(rt; engine.text().starts_with(writer.held.as_slice()));
-                assert_eq!(rt; writer.writes, fails_at);
+                if done.is_ok() {
+                    break;
+                }
             }
         }
     }

@@ -134,26 +134,31 @@ fn recorded_turns_lead_to_the_group_that_comes_back(rt: HostRuntime) -> Result<(
     Ok(())
 }
 
+/// Whether the turns of a drain that may want memory are those that lead to the group, made again on this one: where no memory was refused to
+/// the drain it may be refused to the twin.
+fn is_recorded(mut twin: Group<Relay>, recorded: &Recorded, group: &Group<Relay>) -> bool {
+    let is_led = leads_to(&mut twin, recorded.turns.as_slice(), group);
+    are_counted(recorded, 2)
+        && (recorded.drained.quiet || recorded.drained.memory)
+        && (is_led || !recorded.drained.memory)
+}
+
 /// It holds too where any one request for memory is refused: then the turns that were made are recorded all the same, and the
 /// answer says that memory ran out. The gate refuses each in turn.
 #[test]
 fn turns_are_recorded_where_memory_runs_out(rt: HostRuntime) -> Result<(), Fail> {
     let alloc = rt.alloc();
     let starts = starts_of_twelve()?;
-    let (Ok(mut twin), Ok(group)) = (
+    let plan = [strike(5, &[0, 3])?];
+    let (Ok(twin), Ok(group)) = (
         group(alloc, 4, 2, 8192, &starts),
         group(alloc, 4, 2, 8192, &starts),
     ) else {
         return Ok(());
     };
-    let plan = [strike(5, &[0, 3])?];
     let (group, answer) = drain_recorded(&rt, alloc, group, &plan, 2, TURNS, &NoGate);
     if let Ok(recorded) = answer {
-        assert!(&rt; recorded.drained.quiet || recorded.drained.memory);
-        assert!(&rt; are_counted(&recorded, 2));
-        // where the drain was not refused memory the twin may be
-        let is_led = leads_to(&mut twin, recorded.turns.as_slice(), &group);
-        assert!(&rt; is_led || !recorded.drained.memory);
+        assert!(&rt; is_recorded(twin, &recorded, &group));
     }
     Ok(())
 }
