@@ -7,6 +7,7 @@ use fbl_play::play;
 use fbl_texts::{Checked, Sources, audit, read_checked, write_check, write_log_check};
 use std::alloc::Global;
 use std::io::{self, Read, Write};
+use std::process::Abort;
 use std::sync::Wait;
 use std::thread::Threads;
 
@@ -77,18 +78,16 @@ impl Engine {
     }
 }
 
-/// Whether the engine runs by a reader that gives one byte a read and is interrupted so often, or answers that a read failed, and has
-/// written nothing then.
-fn is_run_by_bytes<T: Threads + Wait + Sync>(
+/// How the engine ends by this reader, done or refused, and whether it is as it has to be: done with the whole text, or refused for a
+/// failed read with nothing written.
+fn run_by_reader<T: Threads + Wait + Sync>(
     rt: &T,
     alloc: Global,
     engine: Engine,
-    interruptions: u32,
+    reader: &mut UnsteadyReader<'_>,
 ) -> Result<bool, bool> {
-    let mut reader = UnsteadyReader::new(engine.input(), 1, 0);
-    reader.interruptions = interruptions;
     let mut out = Vec::new(alloc);
-    match engine.run(rt, alloc, &mut reader, &mut out) {
+    match engine.run(rt, alloc, reader, &mut out) {
         Ok(()) => Ok(out.as_slice() == engine.text()),
         Err(fault) => Err(matches!(fault, RunFault::Read) && out.is_empty()),
     }
@@ -98,25 +97,11 @@ fn is_run_by_bytes<T: Threads + Wait + Sync>(
 fn one_byte_a_read_and_interruptions(rt: HostRuntime) {
     for &engine in ENGINES {
         for (interruptions, expected) in [(0, Ok(true)), (1000, Ok(true)), (1001, Err(true))] {
-            let done = is_run_by_bytes(&rt, rt.alloc(), engine, interruptions);
+            let mut reader = UnsteadyReader::new(engine.input(), 1, 0);
+            reader.interruptions = interruptions;
+            let done = run_by_reader(&rt, rt.alloc(), engine, &mut reader);
             assert!(rt; done == expected, "{engine:?} at {interruptions}");
         }
-    }
-}
-
-/// Whether the engine runs by a reader whose read with this number fails, and which has fewer reads then, or answers that a read failed,
-/// and has written nothing then.
-fn is_run_by_reads<T: Threads + Wait + Sync>(
-    rt: &T,
-    alloc: Global,
-    engine: Engine,
-    fails_at: u32,
-) -> Result<bool, bool> {
-    let mut reader = UnsteadyReader::new(engine.input(), 20, fails_at);
-    let mut out = Vec::new(alloc);
-    match engine.run(rt, alloc, &mut reader, &mut out) {
-        Ok(()) => Ok(reader.reads < fails_at && fails_at > 10),
-        Err(fault) => Err(matches!(fault, RunFault::Read) && out.is_empty()),
     }
 }
 
@@ -124,14 +109,13 @@ fn is_run_by_reads<T: Threads + Wait + Sync>(
 fn failed_reads(rt: HostRuntime) {
     for &engine in ENGINES {
         for fails_at in 1..u32::MAX {
-            let done = is_run_by_reads(&rt, rt.alloc(), engine, fails_at);
-            assert!(rt;
-                done.unwrap_or_else(|is_told| is_told),
-                "{engine:?} at {fails_at}"
-            );
-            if done.is_ok() {
+            let mut reader = UnsteadyReader::new(engine.input(), 20, fails_at);
+            let done = run_by_reader(&rt, rt.alloc(), engine, &mut reader);
+            if done == Ok(true) {
+                assert!(rt; reader.reads < fails_at && fails_at > 10);
                 break;
             }
+            assert!(rt; done == Err(true), "{engine:?} at {fails_at}");
         }
     }
 }
@@ -143,23 +127,39 @@ const FAILURES: &[FailedWrite] = &[
     FailedWrite::NoByte,
 ];
 
-/// Whether the engine runs by a writer whose write with this number fails in this way, and has written all then, or answers that a write
-/// failed, and has written what comes before it.
-fn is_run_by_writes<T: Threads + Wait + Sync>(
+/// How the engine ends by this writer, and whether it is as it has to be: done with the whole text written, or refused for a failed write,
+/// the first that failed, behind what comes before it.
+fn run_by_writer<T: Threads + Wait + Sync>(
+    rt: &T,
+    alloc: Global,
+    engine: Engine,
+    writer: &mut UnsteadyWriter,
+) -> Result<bool, bool> {
+    let mut input = engine.input();
+    match engine.run(rt, alloc, &mut input, writer) {
+        Ok(()) => Ok(writer.held.as_slice() == engine.text()),
+        Err(fault) => {
+            let is_told = matches!(fault, RunFault::Write) && writer.writes == writer.fails_at;
+            Err(is_told && engine.text().starts_with(writer.held.as_slice()))
+        }
+    }
+}
+
+/// Asserts that the engine is refused where any of its writes fails in this way.
+fn fail_each_write<T: Threads + Wait + Sync + Abort>(
     rt: &T,
     alloc: Global,
     engine: Engine,
     failure: FailedWrite,
-    fails_at: u32,
-) -> Result<bool, bool> {
-    let mut input = engine.input();
-    let mut writer = UnsteadyWriter::new(alloc, 7, fails_at, failure);
-    match engine.run(rt, alloc, &mut input, &mut writer) {
-        Ok(()) => Ok(fails_at > 6 && writer.held.as_slice() == engine.text()),
-        Err(fault) => {
-            let is_told = matches!(fault, RunFault::Write) && writer.writes == fails_at;
-            Err(is_told && engine.text().starts_with(writer.held.as_slice()))
+) {
+    for fails_at in 1..u32::MAX {
+        let mut writer = UnsteadyWriter::new(alloc, 7, fails_at, failure);
+        let done = run_by_writer(rt, alloc, engine, &mut writer);
+        if done == Ok(true) {
+            assert!(rt; fails_at > 6);
+            break;
         }
+        assert!(rt; done == Err(true), "{engine:?} at {fails_at}");
     }
 }
 
@@ -167,16 +167,7 @@ fn is_run_by_writes<T: Threads + Wait + Sync>(
 fn failed_writes(rt: HostRuntime) {
     for &engine in ENGINES {
         for &failure in FAILURES {
-            for fails_at in 1..u32::MAX {
-                let done = is_run_by_writes(&rt, rt.alloc(), engine, failure, fails_at);
-                assert!(rt;
-                    done.unwrap_or_else(|is_told| is_told),
-                    "{engine:?} at {fails_at}"
-                );
-                if done.is_ok() {
-                    break;
-                }
-            }
+            fail_each_write(&rt, rt.alloc(), engine, failure);
         }
     }
 }
