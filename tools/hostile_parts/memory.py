@@ -14,6 +14,7 @@ from program import PROGRAM, TOP, run
 TESTS_WITHOUT_MEMORY = (
     ("a_drain_goes_on_after_want_of_memory", "ok"),
     ("a_worker_without_a_thread_changes_nothing", "NoThread"),
+    ("turns_are_recorded_where_memory_runs_out", "ok"),
 )
 # how often the last requests of a run are refused again, until each command was the one that met it
 RETRIES = 1000

@@ -8,6 +8,6 @@ mod refusing_allocator;
 mod unsteady;
 
 pub use example::{Example, refuse_each};
-pub use members::{determinant, first_receipt, member, set, start, strike};
+pub use members::{first_receipt, member, set, start, strike};
 pub use refusing_allocator::Refusing;
 pub use unsteady::{FailedWrite, UnsteadyReader, UnsteadyWriter};

@@ -34,17 +34,6 @@ pub fn strike(at: u64, numbers: &[u8]) -> Result<Strike, Fail> {
     Ok(Strike { at, set })
 }
 
-/// The determinant of a receipt, from its sender, send number, receiver and receipt number.
-pub fn determinant(parts: (u8, u32, u8, u32)) -> Result<Determinant, Fail> {
-    let (from, to) = (member(parts.0)?, member(parts.2)?);
-    Ok(Determinant {
-        from,
-        ssn: parts.1,
-        to,
-        rsn: parts.3,
-    })
-}
-
 /// The receipt of the sender's first message, which is the receiver's first.
 pub fn first_receipt(from: Member, to: Member) -> Determinant
     ensures { result ≡ record { from = from; ssn = 1; to = to; rsn = 1 } }

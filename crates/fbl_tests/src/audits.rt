@@ -1,11 +1,10 @@
-//! Audits of dumps, with each request for memory refused in turn, and the paths to orphans.
+//! Audits of dumps, with each request for memory refused in turn.
 
 use crate::texts::{LOST, dump};
-use fbl_audit::{orphan_path, orphan_starts};
-use fbl_base::audit::{Audit, Dump, check_dump, lost, orphans};
-use fbl_base::{Determinant, Member, MemberSet, RawDump};
+use fbl_base::audit::{Dump, check_dump, lost, orphans};
+use fbl_base::{Determinant, MemberSet, RawDump};
 use fbl_fixtures::{Example, first_receipt, member, refuse_each, set};
-use std::alloc::{AllocError, Allocator, Global};
+use std::alloc::{AllocError, Allocator};
 use std::test::Fail;
 
 /// A dump, the determinants that are lost with the struck, and the orphans.
@@ -70,27 +69,5 @@ fn audits(rt: HostRuntime) -> Result<(), Fail> {
         };
         assert!(rt; refuse_each(rt.alloc(), &audited) > 2, "{text}");
     }
-    Ok(())
-}
-
-/// Four receipts are lost, and each of the two that stand first reaches member 2, the later one earlier.
-const LOST_AT_TWO_MEMBERS: &str =
-    r#"{"events":[["send",0,1,1],["send",1,1,0],["receipt",1,1,0,1],["receipt",0,1,1,1],["send",0,2,2],["receipt",2,1,0,2],["send",1,2,2],["receipt",2,2,1,2]],"f":1,"held":[],"members":3,"strike":[]}"#;
-
-/// Whether this is the path to the orphan.
-fn has_path(alloc: Global, audit: &Audit, orphan: Member, places: &[usize]) -> Result<bool, Fail> {
-    let path = orphan_path(alloc, audit, orphan)?.ok_or("no orphan")?;
-    Ok(path.as_slice() == places)
-}
-
-#[test]
-fn an_orphan_starts_where_any_lost_receipt_reaches(rt: HostRuntime) -> Result<(), Fail> {
-    let alloc = rt.alloc();
-    let raw = dump(alloc, LOST_AT_TWO_MEMBERS)?;
-    let dump = check_dump(alloc, raw).ok().ok_or("refused")?;
-    let audit = Audit::of(alloc, &dump)?;
-    assert!(rt; audit.causes() == [2, 3].as_slice());
-    assert!(rt; orphan_starts(&audit)[..4] == [Some(3), Some(2), Some(5), None]);
-    assert!(rt; has_path(alloc, &audit, member(2)?, &[2, 6, 7])?);
     Ok(())
 }

@@ -1,8 +1,7 @@
-//! Dumps and logs as texts, and what they are read as.
+//! A dump and a log as texts, and what a dump's text is read as.
 
 use fbl_base::RawDump;
-use fbl_moments::{RawLog, RunLog, checked_log};
-use fbl_texts::{Recorded, RecordedInput, read_raw_dump, read_recorded};
+use fbl_texts::read_raw_dump;
 use std::alloc::Global;
 use std::test::Fail;
 
@@ -19,20 +18,4 @@ pub(crate) const LATE: &str =
 pub(crate) fn dump(alloc: Global, text: &str) -> Result<RawDump, Fail> {
     let read = read_raw_dump(alloc, &mut text.as_bytes());
     Ok(read.ok().ok_or("no dump")?.raw)
-}
-
-/// The text's log, whose rules are not checked.
-pub(crate) fn raw_log(alloc: Global, text: &str) -> Result<RawLog, Fail> {
-    let read = read_recorded(alloc, &mut text.as_bytes());
-    let RecordedInput { recorded, bytes: _ } = read.ok().ok_or("no input")?;
-    match recorded {
-        Recorded::Log(log) => Ok(log),
-        Recorded::Dump(_) => Err("no log".into()),
-    }
-}
-
-/// The text's log.
-pub(crate) fn log(alloc: Global, text: &str) -> Result<RunLog, Fail> {
-    let raw = raw_log(alloc, text)?;
-    Ok(checked_log(alloc, raw).ok().ok_or("refused")?)
 }

@@ -1,10 +1,11 @@
 //! Lack of memory in a drain.
 
-use super::fixtures::{STATES_OF_TWELVE, drain_by, group, has_states, starts_of_twelve};
+use super::fixtures::{STATES_OF_TWELVE, TURNS, drain_by, group, has_states, starts_of_twelve};
+use super::recording::are_counted;
 use fbl_base::Relay;
 use fbl_fixtures::strike;
 use fbl_group::Group;
-use fbl_threads::{DrainRefusal, Drained};
+use fbl_threads::{DrainRefusal, Drained, NoGate, drain_recorded};
 use std::test::Fail;
 
 /// Recovers the members that are down, and answers whether nobody is down now.
@@ -55,6 +56,23 @@ fn a_worker_without_a_thread_changes_nothing(rt: HostRuntime) -> Result<(), Fail
     assert!(rt; is_fair(&answer, false));
     if let Err(refusal) = answer {
         println!(rt; "{refusal}")?;
+    }
+    Ok(())
+}
+
+/// It holds too where any one request for memory is refused: then each receipt that was made has its turn, and no other, and the
+/// answer says that memory ran out. The gate refuses each in turn.
+#[test]
+fn turns_are_recorded_where_memory_runs_out(rt: HostRuntime) -> Result<(), Fail> {
+    let plan = [strike(5, &[0, 3])?];
+    let starts = starts_of_twelve()?;
+    let Ok(group) = group(rt.alloc(), 4, 2, 8192, &starts) else {
+        return Ok(());
+    };
+    let (group, answer) = drain_recorded(&rt, rt.alloc(), group, &plan, 2, TURNS, &NoGate);
+    if let Ok(recorded) = answer {
+        assert!(rt; recorded.drained.quiet || recorded.drained.memory);
+        assert!(rt; are_counted(&group, &recorded, 2));
     }
     Ok(())
 }
