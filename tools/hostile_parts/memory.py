@@ -12,9 +12,16 @@ from program import PROGRAM, TOP, run
 
 # the tests that hold where any one request for memory is refused, each with what it tells at some time
 TESTS_WITHOUT_MEMORY = (
-    ("a_drain_goes_on_after_want_of_memory", "ok"),
-    ("a_worker_without_a_thread_changes_nothing", "NoThread"),
-    ("turns_are_recorded_where_memory_runs_out", "ok"),
+    ("audits::without_memory", "ok"),
+    ("configurations::without_memory", "ok"),
+    ("group::plays::mixes_without_memory", "ok"),
+    ("group::plays::relays_without_memory", "ok"),
+    ("records::without_memory", "ok"),
+    ("tables::without_memory", "ok"),
+    ("workers::claiming::without_memory", "ok"),
+    ("workers::memory::a_drain_goes_on_after_want_of_memory", "ok"),
+    ("workers::memory::a_worker_without_a_thread_changes_nothing", "NoThread"),
+    ("workers::memory::turns_are_recorded_where_memory_runs_out", "ok"),
 )
 # how often the last requests of a run are refused again, until each command was the one that met it
 RETRIES = 1000
@@ -151,7 +158,7 @@ def try_older_files_without_memory(refuser, examples, tally):
 def try_tests_without_memory(refuser, _, tally):
     for test, wanted in TESTS_WITHOUT_MEMORY:
         told = ""
-        for number, ran, _ in refuser.refuse_each([f"workers::memory::{test}"], program=TOP / "crates/fbl_tests/out/fbl_tests_tests"):
+        for number, ran, _ in refuser.refuse_each([test], program=TOP / "crates/fbl_tests/out/fbl_tests_tests"):
             tally.note(ran.status == 0, f"{test}, request {number}: {ran}")
             told += ran.text + ran.fault
         tally.note(wanted in told, f"{test} never told {wanted}")

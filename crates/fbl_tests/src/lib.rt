@@ -10,6 +10,8 @@ mod configurations;
 #[cfg(test)]
 mod group;
 #[cfg(test)]
+mod members;
+#[cfg(test)]
 mod records;
 #[cfg(test)]
 mod streams;
@@ -17,5 +19,7 @@ mod streams;
 mod tables;
 #[cfg(test)]
 mod texts;
+#[cfg(test)]
+mod unsteady;
 #[cfg(test)]
 mod workers;

@@ -2,20 +2,20 @@
 
 ghost use Rattle.std.specs.Prelude.{◌<◌};
 
+use crate::members::first_receipt;
 use fbl_base::{Behaviour, Config, Determinant, Member, MemberSet, Note, Relay, Start};
-use fbl_fixtures::{Example, first_receipt, refuse_each};
 use fbl_member::{Carried, MemberRec, Wire};
 use fbl_table::Entry;
-use std::alloc::{AllocError, Allocator, Global};
+use std::alloc::{AllocError, Global};
 
 /// Delivers a message that carries nothing to a member of three, where that is the member's next receipt.
-fn deliver<A: Allocator + Copy>(
-    alloc: A,
-    member_record: &mut MemberRec<u64, Note, A>,
+fn deliver(
+    alloc: Global,
+    member_record: &mut MemberRec,
     me: Member,
     determinant: Determinant,
     note: Note,
-) -> Result<Vec<Wire<Note, A>, A>, AllocError>
+) -> Result<Vec<Wire>, AllocError>
     requires { me < 3 }
 {
     let outcome = Relay::step(me, 3, member_record.state(), note);
@@ -39,8 +39,8 @@ fn deliver<A: Allocator + Copy>(
 }
 
 /// Replays one receipt of a member of three, where it is the member's next.
-fn replay<A: Allocator + Copy>(
-    member_record: &mut MemberRec<u64, Note, A>,
+fn replay(
+    member_record: &mut MemberRec,
     me: Member,
     determinant: &Determinant,
     note: Note,
@@ -59,11 +59,7 @@ fn replay<A: Allocator + Copy>(
 }
 
 /// Whether the record is that of a member that received the other's first message, with so many entries in its table.
-fn has_received<A: Allocator + Copy>(
-    member_record: &MemberRec<u64, Note, A>,
-    from: Member,
-    held: usize,
-) -> bool {
+fn has_received(member_record: &MemberRec, from: Member, held: usize) -> bool {
     (
         member_record.state(),
         member_record.received(),
@@ -74,13 +70,7 @@ fn has_received<A: Allocator + Copy>(
 }
 
 /// Whether this is one message, the sender's first, with this receiver, this note and this entry.
-fn is_first_message<A: Allocator + Copy>(
-    wires: &[Wire<Note, A>],
-    from: Member,
-    to: Member,
-    note: Note,
-    carried: Entry,
-) -> bool {
+fn is_first_message(wires: &[Wire], from: Member, to: Member, note: Note, carried: Entry) -> bool {
     match wires {
         [wire] => {
             (wire.from(), wire.to(), wire.ssn(), wire.note()) == (from, to, 1, note)
@@ -91,8 +81,8 @@ fn is_first_message<A: Allocator + Copy>(
 }
 
 /// Whether these are the messages that the member sent to another with numbers beyond this one.
-fn has_logged<A: Allocator + Copy>(
-    member_record: &MemberRec<u64, Note, A>,
+fn has_logged(
+    member_record: &MemberRec,
     to: Member,
     ssn: u32,
     expected: &[(u32, Note)],
@@ -108,7 +98,7 @@ const NOTE: Note = Note { value: 5, hops: 2 };
 const PASSED_ON: Note = Note { value: 5, hops: 1 };
 
 /// A fresh member of a group of three, in which the first one sends the second a message.
-fn fresh<A: Allocator + Copy>(alloc: A, me: Member) -> Result<MemberRec<u64, Note, A>, AllocError> {
+fn fresh(alloc: Global, me: Member) -> Result<MemberRec, AllocError> {
     let start = Start {
         from: Member::at(0),
         to: Member::at(1),
@@ -121,7 +111,7 @@ fn fresh<A: Allocator + Copy>(alloc: A, me: Member) -> Result<MemberRec<u64, Not
 }
 
 /// Whether its sender has the message in its log, as the last one.
-fn is_logged_by<A: Allocator + Copy>(sender: &MemberRec<u64, Note, A>) -> Result<bool, AllocError> {
+fn is_logged_by(sender: &MemberRec) -> Result<bool, AllocError> {
     let to = Member::at(1);
     let is_first = has_logged(sender, to, 0, &[(1, NOTE)])?;
     let is_last = has_logged(sender, to, 1, &[])?;
@@ -129,10 +119,7 @@ fn is_logged_by<A: Allocator + Copy>(sender: &MemberRec<u64, Note, A>) -> Result
 }
 
 /// Whether its receiver takes the message in, and sends it on with the determinant of its receipt.
-fn is_sent_on_by<A: Allocator + Copy>(
-    alloc: A,
-    receiver: &mut MemberRec<u64, Note, A>,
-) -> Result<bool, AllocError> {
+fn is_sent_on_by(alloc: Global, receiver: &mut MemberRec) -> Result<bool, AllocError> {
     let (from, me, to) = (Member::at(0), Member::at(1), Member::at(2));
     let wires = deliver(alloc, receiver, me, first_receipt(from, me), NOTE)?;
     let carried = Entry {
@@ -144,17 +131,13 @@ fn is_sent_on_by<A: Allocator + Copy>(
 }
 
 /// Whether a copy of its receiver's record has the message.
-fn is_copied_by<A: Allocator + Copy>(
-    receiver: &MemberRec<u64, Note, A>,
-) -> Result<bool, AllocError> {
+fn is_copied_by(receiver: &MemberRec) -> Result<bool, AllocError> {
     let copy = receiver.copy()?;
     Ok(has_received(&copy, Member::at(0), 1))
 }
 
 /// Whether its receiver replays the receipt, and sends on what it sent.
-fn is_replayed_by<A: Allocator + Copy>(
-    receiver: &mut MemberRec<u64, Note, A>,
-) -> Result<bool, AllocError> {
+fn is_replayed_by(receiver: &mut MemberRec) -> Result<bool, AllocError> {
     let (from, me, to) = (Member::at(0), Member::at(1), Member::at(2));
     replay(receiver, me, &first_receipt(from, me), NOTE)?;
     let is_sent_on = has_logged(receiver, to, 0, &[(1, PASSED_ON)])?;
@@ -170,36 +153,50 @@ enum Message {
 }
 
 impl Message {
-    fn is_logged<A: Allocator + Copy>(alloc: A) -> Result<bool, AllocError> {
-        is_logged_by(&fresh(alloc, Member::at(0))?)
-    }
-
-    fn is_taken_in<A: Allocator + Copy>(alloc: A) -> Result<bool, AllocError> {
-        let mut receiver = fresh(alloc, Member::at(1))?;
-        let is_sent_on = is_sent_on_by(alloc, &mut receiver)?;
-        Ok(is_copied_by(&receiver)? && is_sent_on)
-    }
-
-    fn is_replayed<A: Allocator + Copy>(alloc: A) -> Result<bool, AllocError> {
-        let mut receiver = fresh(alloc, Member::at(1))?;
-        is_replayed_by(&mut receiver)
-    }
-}
-
-impl Example for Message {
-    fn is_worked<A: Allocator + Copy>(&self, alloc: A) -> Result<bool, AllocError> {
+    /// Whether it is as expected. `Err` is to come only where memory is refused.
+    fn is_worked(self, alloc: Global) -> Result<bool, AllocError> {
         match self {
             Message::Logged => Message::is_logged(alloc),
             Message::TakenIn => Message::is_taken_in(alloc),
             Message::Replayed => Message::is_replayed(alloc),
         }
     }
+
+    fn is_logged(alloc: Global) -> Result<bool, AllocError> {
+        is_logged_by(&fresh(alloc, Member::at(0))?)
+    }
+
+    fn is_taken_in(alloc: Global) -> Result<bool, AllocError> {
+        let mut receiver = fresh(alloc, Member::at(1))?;
+        let is_sent_on = is_sent_on_by(alloc, &mut receiver)?;
+        Ok(is_copied_by(&receiver)? && is_sent_on)
+    }
+
+    fn is_replayed(alloc: Global) -> Result<bool, AllocError> {
+        let mut receiver = fresh(alloc, Member::at(1))?;
+        is_replayed_by(&mut receiver)
+    }
 }
+
+const MESSAGES: &[Message] = &[Message::Logged, Message::TakenIn, Message::Replayed];
 
 #[test]
 fn a_message_is_logged_taken_in_and_replayed(rt: HostRuntime) {
-    const MESSAGES: &[Message] = &[Message::Logged, Message::TakenIn, Message::Replayed];
     for message in MESSAGES {
-        assert!(rt; refuse_each(rt.alloc(), message) > 2, "{message:?}");
+        assert!(rt;
+            message.is_worked(rt.alloc()).unwrap_or(false),
+            "{message:?}"
+        );
+    }
+}
+
+/// It holds where any one request for memory is refused, too. The gate refuses each in turn.
+#[test]
+fn without_memory(rt: HostRuntime) {
+    for message in MESSAGES {
+        assert!(rt;
+            message.is_worked(rt.alloc()).unwrap_or(true),
+            "{message:?}"
+        );
     }
 }

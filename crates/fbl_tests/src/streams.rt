@@ -1,7 +1,7 @@
 //! Plays, audits and checks over readers and writers that stumble.
 
 use crate::texts::{LATE, LOST};
-use fbl_fixtures::{FailedWrite, UnsteadyReader, UnsteadyWriter};
+use crate::unsteady::{FailedWrite, UnsteadyReader, UnsteadyWriter};
 use fbl_input::RunFault;
 use fbl_play::play;
 use fbl_texts::{Checked, Sources, audit, read_checked, write_check, write_log_check};

@@ -1,82 +1,55 @@
 //! Tables of determinants.
 
+use crate::members::first_receipt;
 use fbl_base::{Determinant, Member, MemberSet};
-use fbl_fixtures::{Example, first_receipt, refuse_each};
 use fbl_table::{Entry, Table};
-use std::alloc::{AllocError, Allocator, Global};
+use std::alloc::{AllocError, Global};
 
 /// Whether this is the table's only entry.
-fn has<A: Allocator + Copy>(table: &Table<A>, expected: Entry) -> bool {
+fn has(table: &Table, expected: Entry) -> bool {
     table.len() == 1 && table.entry_at(0) == expected
 }
 
 /// Whether these are the entries that the table passes on.
-fn passes_on<A: Allocator + Copy>(
-    table: &Table<A>,
-    f: u8,
-    expected: &[Entry],
-) -> Result<bool, AllocError> {
+fn passes_on(table: &Table, f: u8, expected: &[Entry]) -> Result<bool, AllocError> {
     let carried = table.piggyback(f)?;
     Ok(carried.as_slice() == expected)
 }
 
 /// The table of a receipt's receiver.
-fn own_table<A: Allocator + Copy>(
-    alloc: A,
-    me: Member,
-    det: Determinant,
-) -> Result<Table<A>, AllocError> {
+fn own_table(alloc: Global, me: Member, det: Determinant) -> Result<Table, AllocError> {
     let mut table = Table::new(alloc);
     table.note_own(me, det)?;
     Ok(table)
 }
 
 /// Lets the member learn the entries twice.
-fn learn_twice<A: Allocator + Copy>(
-    table: &mut Table<A>,
-    me: Member,
-    carried: &[Entry],
-) -> Result<(), AllocError> {
+fn learn_twice(table: &mut Table, me: Member, carried: &[Entry]) -> Result<(), AllocError> {
     table.learn(me, carried)?;
     table.learn(me, carried)
 }
 
 /// The table of a member to whom the entries were carried twice.
-fn told_table<A: Allocator + Copy>(
-    alloc: A,
-    me: Member,
-    carried: &[Entry],
-) -> Result<Table<A>, AllocError> {
+fn told_table(alloc: Global, me: Member, carried: &[Entry]) -> Result<Table, AllocError> {
     let mut table = Table::new(alloc);
     learn_twice(&mut table, me, carried)?;
     Ok(table)
 }
 
 /// Gathers a copy of the other table.
-fn gather_copy<A: Allocator + Copy>(
-    table: &mut Table<A>,
-    other: &Table<A>,
-) -> Result<(), AllocError> {
+fn gather_copy(table: &mut Table, other: &Table) -> Result<(), AllocError> {
     let copy = other.copy()?;
     table.gather(&copy)
 }
 
 /// Gathers a copy of the first table and the second one.
-fn gather_both<A: Allocator + Copy>(
-    table: &mut Table<A>,
-    first: &Table<A>,
-    second: &Table<A>,
-) -> Result<(), AllocError> {
+fn gather_both(table: &mut Table, first: &Table, second: &Table) -> Result<(), AllocError> {
     gather_copy(table, first)?;
     table.gather(second)
 }
 
 /// A table that gathers a copy of the first one and the second one.
-fn gathered<A: Allocator + Copy>(
-    alloc: A,
-    first: &Table<A>,
-    second: &Table<A>,
-) -> Result<Table<A>, AllocError> {
+fn gathered(alloc: Global, first: &Table, second: &Table) -> Result<Table, AllocError> {
     let mut table = Table::new(alloc);
     gather_both(&mut table, first, second)?;
     Ok(table)
@@ -99,7 +72,7 @@ fn learned() -> Entry {
 }
 
 /// Whether the entry is passed on while at most `f` members are known to hold the receipt.
-fn is_passed_on<A: Allocator + Copy>(own: &Table<A>, told: &Table<A>) -> Result<bool, AllocError> {
+fn is_passed_on(own: &Table, told: &Table) -> Result<bool, AllocError> {
     let by_receiver = passes_on(own, 1, &[carried()])?;
     let by_none = passes_on(told, 1, &[])?;
     let by_told = passes_on(told, 2, &[learned()])?;
@@ -107,7 +80,7 @@ fn is_passed_on<A: Allocator + Copy>(own: &Table<A>, told: &Table<A>) -> Result<
 }
 
 /// Whether the entry of the table is known to member 0, which has no receipt, once it is marked.
-fn is_marked<A: Allocator + Copy>(table: &mut Table<A>) -> bool {
+fn is_marked(table: &mut Table) -> bool {
     let zero = Member::at(0);
     table.mark_all(MemberSet::empty().with(zero));
     let Entry { det, known } = learned();
@@ -117,11 +90,7 @@ fn is_marked<A: Allocator + Copy>(table: &mut Table<A>) -> bool {
 }
 
 /// Whether a table that gathers both has the entry as it was learned, and marks it.
-fn is_gathered<A: Allocator + Copy>(
-    alloc: A,
-    own: &Table<A>,
-    told: &Table<A>,
-) -> Result<bool, AllocError> {
+fn is_gathered(alloc: Global, own: &Table, told: &Table) -> Result<bool, AllocError> {
     let mut all = gathered(alloc, told, own)?;
     let is_gathered = has(told, learned()) && has(&all, learned());
     Ok(is_gathered && is_marked(&mut all))
@@ -134,8 +103,9 @@ enum Known {
     Gathered,
 }
 
-impl Example for Known {
-    fn is_worked<A: Allocator + Copy>(&self, alloc: A) -> Result<bool, AllocError> {
+impl Known {
+    /// Whether it is as expected. `Err` is to come only where memory is refused.
+    fn is_worked(self, alloc: Global) -> Result<bool, AllocError> {
         let own = own_table(alloc, Member::at(1), carried().det)?;
         let told = told_table(alloc, Member::at(2), &[carried()])?;
         match self {
@@ -147,10 +117,17 @@ impl Example for Known {
 
 #[test]
 fn a_receipt_is_passed_on_until_enough_members_know_it(rt: HostRuntime) {
-    assert!(rt; refuse_each(rt.alloc(), &Known::PassedOn) > 4);
+    assert!(rt; Known::PassedOn.is_worked(rt.alloc()).unwrap_or(false));
 }
 
 #[test]
 fn tables_are_gathered_and_marked(rt: HostRuntime) {
-    assert!(rt; refuse_each(rt.alloc(), &Known::Gathered) > 4);
+    assert!(rt; Known::Gathered.is_worked(rt.alloc()).unwrap_or(false));
+}
+
+/// It holds where any one request for memory is refused, too. The gate refuses each in turn.
+#[test]
+fn without_memory(rt: HostRuntime) {
+    assert!(rt; Known::PassedOn.is_worked(rt.alloc()).unwrap_or(true));
+    assert!(rt; Known::Gathered.is_worked(rt.alloc()).unwrap_or(true));
 }

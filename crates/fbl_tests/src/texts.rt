@@ -2,8 +2,7 @@
 
 use fbl_base::RawDump;
 use fbl_texts::read_raw_dump;
-use std::alloc::Global;
-use std::test::Fail;
+use std::alloc::{AllocError, Global};
 
 /// A message that went once round three members, of whom one may be lost, in a dump without a pair that a run leaves: its first receipt
 /// is lost with member 1.
@@ -15,7 +14,7 @@ pub(crate) const LATE: &str =
     r#"{"version":2,"members":3,"f":1,"events":[["send",0,1,1],["receipt",1,1,0,1],["hold",1,0,1,1,1],["send",1,1,2],["receipt",2,1,1,1],["hold",2,1,1,2,1],["send",2,1,0],["hold",2,0,1,1,1]],"strike":[]}"#;
 
 /// The text's dump, whose rules are not checked.
-pub(crate) fn dump(alloc: Global, text: &str) -> Result<RawDump, Fail> {
+pub(crate) fn dump(alloc: Global, text: &str) -> Result<RawDump, AllocError> {
     let read = read_raw_dump(alloc, &mut text.as_bytes());
-    Ok(read.ok().ok_or("no dump")?.raw)
+    Ok(read.ok().ok_or(AllocError)?.raw)
 }

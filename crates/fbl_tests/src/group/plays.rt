@@ -1,95 +1,58 @@
-//! Plays of worked examples, in which each request for memory of each call is refused in turn, and what the readers answer.
+//! Plays of worked examples, and what the readers answer.
 
 use super::setting::Setting;
 use super::steps::Step::{
     self, Checkpoint, Commit, Crash, Deliver, Dump, Ever, Recover, Strike, Take,
 };
 use super::steps::Verdict;
-use fbl_base::{Behaviour, Config, Member, MemberSet, Mix, Note, Relay, Start};
-use fbl_fixtures::{Example, Refusing};
+use fbl_base::{Behaviour, Member, MemberSet, Mix, Note, Relay};
 use fbl_group::{CommitRefusal, CrashRefusal, Done, Group, RecoverRefusal};
-use std::alloc::{AllocError, Allocator, Global};
 use std::process::Abort;
 use std::test::Fail;
 
-/// Makes the calls in turn on a new group. Each has to answer as expected, and so has each that is made again once any one of
-/// its requests for memory was refused; there are at least so many requests in all.
+/// Makes the calls in turn, and answers whether each answers as expected: at once or, where memory may be refused, when it is made
+/// again.
+fn are_as_expected<B: Behaviour<State = u64, Note = Note>>(
+    group: &mut Group<B>,
+    steps: &[Step],
+    may_lack: bool,
+) -> Result<bool, Fail> {
+    let mut made: Option<Done<B>> = None;
+    for step in steps {
+        let mut verdict = step.make(group, &mut made)?;
+        if may_lack && verdict == Verdict::WithoutMemory {
+            verdict = step.left_when_refused().make(group, &mut made)?;
+        }
+        if verdict != Verdict::AsExpected {
+            return Ok(false);
+        }
+    }
+    Ok(true)
+}
+
+/// Asserts that the calls answer as expected on a new group.
 fn play<B: Behaviour<State = u64, Note = Note>>(
     rt: &(impl Abort + AllocGlobal),
     setting: &Setting,
     steps: &[Step],
-    least: u64,
 ) -> Result<(), Fail> {
-    let mut requests = 0u64;
-    for place in 0..steps.len() {
-        let refused = refuse_each::<B>(rt, setting, &steps[..place], steps[place])?;
-        requests = requests.saturating_add(refused);
-    }
-    assert!(rt; requests >= least, "{requests} requests");
+    let mut group: Group<B> = setting.group(rt.alloc())?;
+    assert!(rt; are_as_expected(&mut group, steps, false)?);
     Ok(())
 }
 
-/// A group on which these calls were made. `made` is the step that was made last.
-fn played<B: Behaviour<State = u64, Note = Note>, A: Allocator + Copy>(
-    alloc: A,
-    setting: &Setting,
-    made: &mut Option<Done<B>>,
-    steps: &[Step],
-) -> Result<Group<B, A>, Fail> {
-    let mut group = setting.group(alloc)?;
-    for place in 0..steps.len() {
-        if steps[place].make(&mut group, made)? != Verdict::AsExpected {
-            return Err(place.into());
-        }
-    }
-    Ok(group)
-}
-
-/// An allocator that refuses the request with this number, counted from 1 after those of these calls.
-fn heap<B: Behaviour<State = u64, Note = Note>>(
-    alloc: Global,
-    setting: &Setting,
-    steps: &[Step],
-    request: u64,
-) -> Result<Refusing<Global>, Fail> {
-    let heap = Refusing::new(alloc, 0);
-    played::<B, _>(&heap, setting, &mut None, steps)?;
-    Ok(Refusing::new(alloc, heap.requests().saturating_add(request)))
-}
-
-/// Makes the call, to which a request for memory may be refused, and answers whether it succeeds in spite of it, or tells it
-/// and succeeds when it is made again.
-fn is_answered<B: Behaviour<State = u64, Note = Note>>(
-    setting: &Setting,
-    before: &[Step],
-    call: Step,
-    heap: &Refusing<Global>,
-) -> Result<bool, Fail> {
-    let mut made = None;
-    let mut group: Group<B, _> = played(heap, setting, &mut made, before)?;
-    let mut verdict = call.make(&mut group, &mut made)?;
-    if verdict == Verdict::WithoutMemory && heap.has_refused() {
-        verdict = call.left_when_refused().make(&mut group, &mut made)?;
-    }
-    Ok(verdict == Verdict::AsExpected)
-}
-
-/// Refuses each request of the call in turn, and answers how many there were.
-fn refuse_each<B: Behaviour<State = u64, Note = Note>>(
+/// Asserts the same where any one request for memory may be refused: the call that meets it tells it, and succeeds when it is made
+/// again. There may be no memory for the group.
+fn play_without_memory<B: Behaviour<State = u64, Note = Note>>(
     rt: &(impl Abort + AllocGlobal),
     setting: &Setting,
-    before: &[Step],
-    call: Step,
-) -> Result<u64, Fail> {
-    for request in 1..u64::MAX {
-        let heap = heap::<B>(rt.alloc(), setting, before, request)?;
-        let is_answered = is_answered::<B>(setting, before, call, &heap)?;
-        assert!(rt; is_answered, "request {request}");
-        if !heap.has_refused() {
-            return Ok(request - 1);
-        }
-    }
-    Ok(0)
+    steps: &[Step],
+) -> Result<(), Fail> {
+    let Ok(mut group) = setting.group::<B>(rt.alloc()) else {
+        return Ok(());
+    };
+    assert!(rt; are_as_expected(&mut group, steps, true)?);
+    Ok(())
 }
 
 /// One of three may be lost, and a message goes round.
@@ -117,8 +80,8 @@ const SMALL: Setting = Setting {
     ..ROUND
 };
 
-/// A group, calls in turn, and how many requests for memory they make at least.
-type Play<'a> = (Setting<'a>, &'a [Step<'a>], u64);
+/// A group, and calls in turn.
+type Play<'a> = (Setting<'a>, &'a [Step<'a>]);
 
 /// The message goes round.
 const GOES_ROUND: &[Step] = &[
@@ -179,23 +142,19 @@ const ALL_ARE_LOST: &[Step] = &[
     Recover(Ok((0, 1, 2))),
 ];
 
-#[test]
-fn a_relay(rt: HostRuntime) -> Result<(), Fail> {
-    const FULL: Setting = Setting { limit: 2, ..SMALL };
-    const PLAYS: &[Play] = &[
-        (ROUND, GOES_ROUND, 10),
-        (TWICE, OUTLIVES_A_CRASH, 10),
-        (TWICE, CRASHES, 10),
-        (SMALL, WAITS_FOR_A_RECOVERY, 10),
-        (FULL, WITHOUT_ROOM, 0),
-        (ROUND_OF_TWO, STRUCK_IN_TURN, 10),
-        (ROUND_OF_TWO, ALL_ARE_LOST, 10),
-    ];
-    for (setting, steps, least) in PLAYS {
-        play::<Relay>(&rt, setting, steps, *least)?;
-    }
-    Ok(())
-}
+/// No room for the receipt's send.
+const FULL: Setting = Setting { limit: 2, ..SMALL };
+
+/// What relays do.
+const RELAYS: &[Play] = &[
+    (ROUND, GOES_ROUND),
+    (TWICE, OUTLIVES_A_CRASH),
+    (TWICE, CRASHES),
+    (SMALL, WAITS_FOR_A_RECOVERY),
+    (FULL, WITHOUT_ROOM),
+    (ROUND_OF_TWO, STRUCK_IN_TURN),
+    (ROUND_OF_TWO, ALL_ARE_LOST),
+];
 
 /// A survivor knows the first receipt of the member that is struck, and nobody the second.
 const ONE_IS_LOST: &[Step] = &[
@@ -216,18 +175,48 @@ const ONE_IS_KEPT: &[Step] = &[
     Recover(Ok((0, 1, 1))),
 ];
 
+/// A message that is answered, and one that is not.
+const ANSWERED: Setting = Setting {
+    starts: &[(0, 2, 4, 0), (1, 2, 7, 1)],
+    ..ROUND
+};
+
+/// Two messages that are not answered.
+const MEETING: Setting = Setting {
+    starts: &[(0, 2, 4, 0), (1, 2, 7, 0)],
+    ..ROUND
+};
+
+/// What mixes do.
+const MIXES: &[Play] = &[(ANSWERED, ONE_IS_LOST), (MEETING, ONE_IS_KEPT)];
+
 #[test]
-fn a_mix(rt: HostRuntime) -> Result<(), Fail> {
-    const ANSWERED: Setting = Setting {
-        starts: &[(0, 2, 4, 0), (1, 2, 7, 1)],
-        ..ROUND
-    };
-    const MEETING: Setting = Setting {
-        starts: &[(0, 2, 4, 0), (1, 2, 7, 0)],
-        ..ROUND
-    };
-    play::<Mix>(&rt, &ANSWERED, ONE_IS_LOST, 10)?;
-    play::<Mix>(&rt, &MEETING, ONE_IS_KEPT, 10)
+fn calls_answer_as_expected(rt: HostRuntime) -> Result<(), Fail> {
+    for (setting, steps) in RELAYS {
+        play::<Relay>(&rt, setting, steps)?;
+    }
+    for (setting, steps) in MIXES {
+        play::<Mix>(&rt, setting, steps)?;
+    }
+    Ok(())
+}
+
+/// The gate refuses each request in turn.
+#[test]
+fn relays_without_memory(rt: HostRuntime) -> Result<(), Fail> {
+    for (setting, steps) in RELAYS {
+        play_without_memory::<Relay>(&rt, setting, steps)?;
+    }
+    Ok(())
+}
+
+/// The gate refuses each request in turn.
+#[test]
+fn mixes_without_memory(rt: HostRuntime) -> Result<(), Fail> {
+    for (setting, steps) in MIXES {
+        play_without_memory::<Mix>(&rt, setting, steps)?;
+    }
+    Ok(())
 }
 
 /// Whether the readers show a group in which the message went round.
@@ -247,29 +236,7 @@ fn is_gone_round(group: &Group<Relay>) -> bool {
 
 #[test]
 fn readers_show_the_group(rt: HostRuntime) -> Result<(), Fail> {
-    let group: Group<Relay> = played(rt.alloc(), &ROUND, &mut None, GOES_ROUND)?;
-    assert!(rt; is_gone_round(&group));
+    let mut group: Group<Relay> = ROUND.group(rt.alloc())?;
+    assert!(rt; are_as_expected(&mut group, GOES_ROUND, false)? && is_gone_round(&group));
     Ok(())
-}
-
-/// A new group of two.
-struct New;
-
-impl Example for New {
-    fn is_worked<A: Allocator + Copy>(&self, alloc: A) -> Result<bool, AllocError> {
-        let (from, to, note) = (Member::at(0), Member::at(1), Note { value: 4, hops: 1 });
-        let starts = [Start { from, to, note }];
-        let config = Config::new(alloc, 2, 1, 8192, &starts)
-            .ok()
-            .ok_or(AllocError)?;
-        match Group::<Mix, _>::new(alloc, config) {
-            Ok(_) => Ok(true),
-            Err(_) => Err(AllocError),
-        }
-    }
-}
-
-#[test]
-fn a_new_group_without_memory(rt: HostRuntime) {
-    assert!(rt; fbl_fixtures::refuse_each(rt.alloc(), &New) > 3);
 }

@@ -1,10 +1,8 @@
 //! What groups are made of.
 
-use fbl_base::{Behaviour, Config, Note};
-use fbl_fixtures::start;
+use fbl_base::{Behaviour, Config, Member, Note, Start};
 use fbl_group::Group;
-use std::alloc::Allocator;
-use std::test::Fail;
+use std::alloc::{AllocError, Global};
 
 /// The parameters of a group. A start is a sender, a receiver, a value and a number of hops.
 #[derive(Clone, Copy)]
@@ -16,17 +14,20 @@ pub(crate) struct Setting<'a> {
 }
 
 impl Setting<'_> {
-    /// A group of these parameters in which the starts are sent.
-    pub(crate) fn group<B: Behaviour<State = u64, Note = Note>, A: Allocator + Copy>(
+    /// A group of these parameters in which the starts are sent. `Err` comes where memory is refused, and for parameters of no group.
+    pub(crate) fn group<B: Behaviour<State = u64, Note = Note>>(
         &self,
-        alloc: A,
-    ) -> Result<Group<B, A>, Fail> {
+        alloc: Global,
+    ) -> Result<Group<B>, AllocError> {
         let mut starts = Vec::new(alloc);
-        for (from, to, value, hops) in self.starts {
-            starts.push(start(*from, *to, *value, *hops)?)?;
+        for &(from, to, value, hops) in self.starts {
+            let (Some(from), Some(to)) = (Member::new(from), Member::new(to)) else {
+                return Err(AllocError);
+            };
+            let note = Note { value, hops };
+            starts.push(Start { from, to, note })?;
         }
         let config = Config::new(alloc, self.members, self.f, self.limit, &starts);
-        let config = config.map_err(|_| "refused")?;
-        Ok(Group::new(alloc, config)?)
+        Group::new(alloc, config.ok().ok_or(AllocError)?).map_err(|_| AllocError)
     }
 }

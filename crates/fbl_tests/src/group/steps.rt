@@ -1,12 +1,11 @@
 //! Calls of a group, with the answers that are expected of them.
 
+use crate::members::{member, set};
 use fbl_base::{Behaviour, Note};
-use fbl_fixtures::{member, set};
 use fbl_group::{
     CheckpointRefusal, CommitRefusal, CrashRefusal, DeliverRefusal, Done, DumpGroupRefusal, Group,
     Receipted, RecoverRefusal, Recovered, run_step,
 };
-use std::alloc::Allocator;
 use std::test::Fail;
 
 /// A call and its answer. A delivery is to a member from another. A receipt is answered by its number, how many entries
@@ -58,9 +57,9 @@ impl Verdict {
 
 impl<'a> Step<'a> {
     /// Makes the call. `made` is the step that was made last.
-    pub(crate) fn make<B: Behaviour<State = u64, Note = Note>, A: Allocator + Copy>(
+    pub(crate) fn make<B: Behaviour<State = u64, Note = Note>>(
         self,
-        group: &mut Group<B, A>,
+        group: &mut Group<B>,
         made: &mut Option<Done<B>>,
     ) -> Result<Verdict, Fail> {
         Ok(match self {
@@ -124,8 +123,8 @@ fn recovery_parts(recovered: Recovered) -> (u32, u32, u32) {
 
 /// Takes a ticket, and makes and keeps its step. The answer is the ticket's state, receipt number, send number, value and
 /// hops.
-fn take<B: Behaviour<State = u64, Note = Note>, A: Allocator + Copy>(
-    group: &Group<B, A>,
+fn take<B: Behaviour<State = u64, Note = Note>>(
+    group: &Group<B>,
     (to, from): (u8, u8),
     made: &mut Option<Done<B>>,
 ) -> Result<(u64, u32, u32, u32, u8), Fail> {

@@ -1,7 +1,7 @@
 //! Groups, and drains of them.
 
+use crate::members::start;
 use fbl_base::{Config, ConfigRefusal, Member, Relay, Start, Strike};
-use fbl_fixtures::start;
 use fbl_group::Group;
 use fbl_threads::{DrainRefusal, Drained, NoGate, drain};
 use std::alloc::Global;

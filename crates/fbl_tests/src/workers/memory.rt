@@ -2,8 +2,8 @@
 
 use super::fixtures::{STATES_OF_TWELVE, TURNS, drain_by, group, has_states, starts_of_twelve};
 use super::recording::are_counted;
+use crate::members::strike;
 use fbl_base::Relay;
-use fbl_fixtures::strike;
 use fbl_group::Group;
 use fbl_threads::{DrainRefusal, Drained, NoGate, drain_recorded};
 use std::test::Fail;

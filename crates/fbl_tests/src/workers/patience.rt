@@ -1,8 +1,8 @@
 //! A worker that finds nothing while another makes a long step.
 
 use super::fixtures::{group, has_counts, has_states};
+use crate::members::start;
 use fbl_base::Member;
-use fbl_fixtures::start;
 use fbl_threads::{Gate, drain};
 use std::sync::atomic::{AtomicBool, AtomicU64, Ordering};
 use std::test::Fail;

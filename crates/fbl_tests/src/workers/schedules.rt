@@ -3,8 +3,8 @@
 use super::fixtures::{
     STATES_OF_TWELVE, drain_by, group, has_counts, has_states, total, twelve_receipts,
 };
+use crate::members::{start, strike};
 use fbl_base::{Relay, Strike};
-use fbl_fixtures::{start, strike};
 use fbl_group::Group;
 use fbl_threads::{DrainRefusal, Drained, NoGate, drain};
 use std::alloc::Global;

@@ -1,8 +1,8 @@
 //! A group under a lock, each call of it in a hold of its own, and a drain of it afterwards.
 
 use super::fixtures::{TURNS, group};
+use crate::members::start;
 use fbl_base::{Member, MemberSet, Relay};
-use fbl_fixtures::start;
 use fbl_group::{Group, Recovered};
 use fbl_threads::{NoGate, SharedGroup, drain};
 use std::test::Fail;

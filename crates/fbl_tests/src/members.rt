@@ -6,14 +6,14 @@ use fbl_base::{Determinant, Member, MemberSet, Note, Start, Strike};
 use std::test::Fail;
 
 /// The member with this number.
-pub fn member(number: u8) -> Result<Member, Fail>
+pub(crate) fn member(number: u8) -> Result<Member, Fail>
     ensures { IfOk result (λ m. m ≡ number) }
 {
     Ok(Member::new(number).ok_or("no such member")?)
 }
 
 /// The set of the members with these numbers.
-pub fn set(numbers: &[u8]) -> Result<MemberSet, Fail> {
+pub(crate) fn set(numbers: &[u8]) -> Result<MemberSet, Fail> {
     let mut set = MemberSet::empty();
     for number in numbers {
         set = set.with(member(*number)?);
@@ -22,20 +22,20 @@ pub fn set(numbers: &[u8]) -> Result<MemberSet, Fail> {
 }
 
 /// A message that is sent at the start: from whom, to whom, its value and its hops.
-pub fn start(from: u8, to: u8, value: u32, hops: u8) -> Result<Start, Fail> {
+pub(crate) fn start(from: u8, to: u8, value: u32, hops: u8) -> Result<Start, Fail> {
     let note = Note { value, hops };
     let (from, to) = (member(from)?, member(to)?);
     Ok(Start { from, to, note })
 }
 
 /// A strike of these members at this count.
-pub fn strike(at: u64, numbers: &[u8]) -> Result<Strike, Fail> {
+pub(crate) fn strike(at: u64, numbers: &[u8]) -> Result<Strike, Fail> {
     let set = set(numbers)?;
     Ok(Strike { at, set })
 }
 
 /// The receipt of the sender's first message, which is the receiver's first.
-pub fn first_receipt(from: Member, to: Member) -> Determinant
+pub(crate) fn first_receipt(from: Member, to: Member) -> Determinant
     ensures { result ≡ record { from = from; ssn = 1; to = to; rsn = 1 } }
 {
     Determinant {

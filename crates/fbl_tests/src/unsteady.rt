@@ -6,7 +6,7 @@ use std::io::{self, ErrorKind, Read, Write};
 /// Gives `rest`, at most `most` bytes a read. The first `interruptions` reads are interrupted, and the one with the
 /// number `fails_at`, from 1, fails; at 0 none does. `reads` counts them.
 #[derive(Drop)]
-pub struct UnsteadyReader<'a> {
+pub(crate) struct UnsteadyReader<'a> {
     pub rest: &'a [u8],
     pub most: usize,
     pub interruptions: u32,
@@ -16,7 +16,7 @@ pub struct UnsteadyReader<'a> {
 
 impl<'a> UnsteadyReader<'a> {
     /// A reader of these bytes of which no read is interrupted.
-    pub fn new(rest: &'a [u8], most: usize, fails_at: u32) -> UnsteadyReader<'a> {
+    pub(crate) fn new(rest: &'a [u8], most: usize, fails_at: u32) -> UnsteadyReader<'a> {
         UnsteadyReader {
             rest,
             most,
@@ -46,7 +46,7 @@ impl Read for UnsteadyReader<'_> {
 
 /// What a write does where it fails: it answers an error, is interrupted, or takes no byte.
 #[derive(Clone, Copy, PartialEq, Eq, Debug)]
-pub enum FailedWrite {
+pub(crate) enum FailedWrite {
     Error,
     Interruption,
     NoByte,
@@ -55,7 +55,7 @@ pub enum FailedWrite {
 /// Takes at most `most` bytes a write, and keeps them in `held`. The write with the number `fails_at`, from 1, fails as
 /// `failure` says; at 0 none does. `writes` counts them.
 #[derive(Drop)]
-pub struct UnsteadyWriter {
+pub(crate) struct UnsteadyWriter {
     pub held: Vec<u8>,
     pub most: usize,
     pub writes: u32,
@@ -65,7 +65,12 @@ pub struct UnsteadyWriter {
 
 impl UnsteadyWriter {
     /// A writer that has taken nothing yet.
-    pub fn new(alloc: Global, most: usize, fails_at: u32, failure: FailedWrite) -> UnsteadyWriter {
+    pub(crate) fn new(
+        alloc: Global,
+        most: usize,
+        fails_at: u32,
+        failure: FailedWrite,
+    ) -> UnsteadyWriter {
         UnsteadyWriter {
             held: Vec::new(alloc),
             most,

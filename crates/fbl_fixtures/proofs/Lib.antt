@@ -1,3 +1,0 @@
-mod Asks
-mod Parts
-mod Steps
