@@ -1,5 +1,5 @@
 -- Tables as a map has them, and what adding an entry does to them; added in turn to none, a table's entries give the table.
-use Rattle.fbl_table.proofs.Common.{not, count_by, ◌≡◌, ℕ, zero, suc, ◌+◌, ◌<◌, ◌≤◌, true, false, cond, ◌||◌, ◌&&◌, List, [], ◌∷◌, ◌++◌, map, Some, None, refl, sym, ap, ◌∙◌, arith, take}
+use Rattle.fbl_table.proofs.Common.{not, count_by, ◌≡◌, ℕ, zero, suc, ◌+◌, ◌<◌, ◌≤◌, true, false, cond, ◌||◌, ◌&&◌, get_or, List, [], ◌∷◌, ◌++◌, map, Some, None, refl, sym, ap, ◌∙◌, arith, take}
 use Rattle.fbl_table.proofs.Common.{drop, length, slice_get, lookup, values_of, keys_of, nat_cmp, nat_cmp_total, false≢true, fold, AllByRecursion, append-nil, length-map, take_all}
 use Rattle.fbl_table.proofs.Common.{sum_by-cons, set_value_at, Determinant, same_determinant, insert_entry, Entry, is_held, lacks, has_at, entry_of, gathered, learned, held_by, marked}
 use Rattle.fbl_table.proofs.Common.{is_some, position, drop_next, false_from_ne_true, or_from, or_left, or_right, or_comm, position_or_len, Decides-same_determinant, drop_all, take_more}
@@ -170,6 +170,11 @@ held-carried me (e ∷ carried) d = ap (λ b. same_determinant d e.det || b) (he
 -- what was neither held nor carried is not held after what was carried is learned
 pub not_held_learned : (me : ℕ) (table carried : List Entry) (d : Determinant) → is_held table d ≡ false → is_held carried d ≡ false → is_held (learned me table carried) d ≡ false
 not_held_learned me table carried d none others = grind (arith, nat_tests, held-gathered, or_from, held-carried)
+
+-- one entry more is learned
+pub learned_next : (me : ℕ) (table carried : List Entry) (i : ℕ) (e : Entry) → i < length carried → e ≡ get_or carried i e
+    → learned me table (take (i + 1) carried) ≡ added (learned me table (take i carried)) (held_by me e)
+learned_next me table carried i e below is = rw (take_more carried i e below, ← is, map-append) (fold_push added table (map (held_by me) (take i carried)) (held_by me e))
 
 -- a determinant that differs from those of the entries is not held by them
 missing : (rest : List Entry) (d : Determinant) → AllByRecursion (λ x. same_determinant d x ≡ false) (map (λ (e : Entry). e.det) rest) → is_held rest d ≡ false

@@ -54,13 +54,11 @@ impl<A: Allocator + Copy> IndexedEntries<A> {
         ensures limit { IfOk result (λ copy. copy.limit ≡ self.now.limit) }
         ensures indexed { IfOk result IsIndexed }
     {
-        let mut open_places = Vec::new(*self.entries.allocator());
-        open_places.extend_from_slice(&self.open_places)?;
         Ok(IndexedEntries {
-            entries: self.entries.clone()?,
-            open_places,
-            stale: self.stale,
+            open_places: self.open_places.clone()?,
             likely_places: self.likely_places.copy()?,
+            entries: self.entries.clone()?,
+            stale: self.stale,
             limit: self.limit,
         })
     }
@@ -193,7 +191,6 @@ impl<A: Allocator + Copy> IndexedEntries<A> {
     }
 
     /// Takes in another table's entries. After `Err` there are the same entries.
-    #[tactic(auto, using(crate::proofs::Adding::fold_next, crate::proofs::Indexing::keeps_more))]
     pub(crate) fn gather(&mut self, other: &IndexedEntries<A>) -> Result<(), AllocError>
         ensures gathered { OnOk result (listed self.new ≡ gathered (listed self.old) (listed other.now)) }
         ensures unchanged { OnErr result (listed self.new ≡ listed self.old) }
@@ -239,7 +236,6 @@ impl<A: Allocator + Copy> IndexedEntries<A> {
     }
 
     /// Unites what is known of the determinants at the first places with what another knows, which has the same ones there.
-    #[tactic(auto, using(crate::proofs::Adding::fold_next, crate::proofs::Indexing::keeps_more))]
     fn unite_shared(&mut self, other: &IndexedEntries<A>, shared: usize)
         requires len { shared ≤ length (listed other.now) }
         requires same { HasInPlace shared (listed self.old) (listed other.now) }
@@ -283,7 +279,6 @@ impl<A: Allocator + Copy> IndexedEntries<A> {
     /// Unites what is known of the determinant, which has an entry at the place, with this. It is written only where more is
     /// known.
     #[inline(always)]
-    #[tactic(auto, using(crate::proofs::Adding::has_set, crate::proofs::Adding::within_at, crate::proofs::Indexing::open_less))]
     fn unite(&mut self, det: &Determinant, known: MemberSet, place: usize)
         requires { has_at (listed self.old) det.now place ≡ true }
         ensures entries { listed self.new ≡ added (listed self.old) (record { det = det.now; known = known }) }
@@ -467,6 +462,7 @@ fn is_open<A: Allocator>(entries: &Entries<A>, place: usize, limit: u8) -> bool
 }
 
 /// The entry at the place, if there is one.
+#[tactic(auto, using(crate::proofs::Common::slice_get_map))]
 fn get_entry<A: Allocator>(entries: &Entries<A>, place: usize) -> Option<Entry>
     ensures { result ≡ slice_get (map entry_of entries.now.entries) place }
 {

@@ -88,8 +88,6 @@ fn put_first<A: Allocator>(
     if places.len() <= place {
         places.resize(place + 1, None)?;
     }
-    if places[place].is_none() {
-        places[place] = Some(determinant);
-    }
+    places[place] = places[place].or(Some(determinant));
     Ok(())
 }

@@ -129,9 +129,7 @@ impl<A: Allocator + Copy> Table<A> {
         ensures noted { OnOk result (self.new ≡ noted me self.old det) }
         ensures unchanged { OnErr result (self.new ≡ self.old) }
     {
-        self.entries.reserve(1)?;
-        self.entries.note_own(me, det);
-        Ok(())
+        self.learn_and_note(me, &[], det)
     }
 
     /// Takes in what a message carried to the member, and then the determinant of the message's receipt, as `learn` and
@@ -186,7 +184,6 @@ impl<A: Allocator + Copy> Table<A> {
     /// order. After `Err` the table is unchanged.
     ///
     /// Where there are no entries yet the table becomes a copy of the other, so that no entry is hashed.
-    #[tactic(auto, using(crate::proofs::Adding::gathered_first))]
     pub fn gather(&mut self, other: &Table<A>) -> Result<(), AllocError>
         ensures gathered { OnOk result (self.new ≡ gathered self.old other.now) }
         ensures unchanged { OnErr result (self.new ≡ self.old) }

@@ -1,7 +1,7 @@
-use Rattle.fbl_table.proofs.Common.{◌≡◌, ◌∙◌, sym, eqb-true, or_parts, arith, nat_tests}
+use Rattle.fbl_table.proofs.Common.{◌≡◌, ◌∙◌, sym, eqb-true, or_parts}
 use Rattle.std.specs.FinSet as set
-use Rattle.fbl_table.proofs.Adding.{added_there, added-nothing, found_at}
-use Rattle.fbl_table.proofs.Indexing.{keeps_more, keeps_stale}
+use Rattle.fbl_table.proofs.Adding.{added_there, added-nothing, found_at, has_set, within_at}
+use Rattle.fbl_table.proofs.Indexing.{keeps_more, keeps_stale, open_less}
 use Rattle.fbl_table.proofs.indexed.IndexedEntries.unite.Goals as goal
 
 pub returns-then-is_empty-clause-entries : goal.returns-then-is_empty-clause-entries
@@ -18,4 +18,13 @@ returns-clause-entries g c =
     rw (c.put.ensures.entries, c.union-united.ensures, found.0) (added_there es (record { det = c.args.det.now; known = c.args.known }) _ found.1)
 
 pub returns-clause-kept : goal.returns-clause-kept
-returns-clause-kept g c = grind (arith, nat_tests, keeps_more, keeps_stale, or_parts)
+returns-clause-kept g c = keeps_more (keeps_stale c.args.self.now _ (λ fresh. (or_parts c.args.self.now.stale c.closes.result fresh).0)) c.put.ensures.kept
+
+pub index-before-requires : goal.index-before-requires
+index-before-requires g c = within_at c.args.self.now.entries.entries c.args.det.now c.args.place c.requires
+
+pub put-requires-clause-more : goal.put-requires-clause-more
+put-requires-clause-more g c = rw c.union-united.ensures (open_less c.args.self.now.limit c.index-before.result.now c.args.known)
+
+pub returns-clause-same : goal.returns-clause-same
+returns-clause-same g c d at = rw c.put.ensures.entries (has_set c.args.self.now.entries.entries c.args.place c.union-united.result d at)
