@@ -62,9 +62,13 @@ impl<S: Copy, N: Content, A: Allocator + Copy> MemberRec<S, N, A> {
                 log.push((start.to, start.note))?;
             }
         }
-        let mut member = MemberRec::blank(alloc, config.f(), initial);
-        member.log = log;
-        Ok(member)
+        Ok(MemberRec {
+            state: initial,
+            received: 0,
+            last: [0; 16],
+            log,
+            table: Table::for_limit(alloc, config.f()),
+        })
     }
 
     /// A member in this state that has received nothing and sent nothing. `f` is how many members of its group may be lost at once:

@@ -1,4 +1,4 @@
-use Rattle.fbl_member.proofs.Common.{◌≡◌, ℕ, ◌+◌, ◌<◌, List, [], ◌∷◌, ◌++◌, Option, Some, None, Bor, IfSome, All, arith, common_steps, length, sym, slice_get, option_copied, append_assoc, messages_from, piggybacked, HasRoom, All-pop, All-push, Message, slice_get_within, get_or_from_slice_get, get_or, drop, Entry, drop_more}
+use Rattle.fbl_member.proofs.Common.{◌≡◌, ℕ, ◌+◌, ◌<◌, List, [], ◌∷◌, ◌++◌, Option, Some, None, Bor, IfSome, All, arith, append-nil, drop_all, length, sym, slice_get, option_copied, append_assoc, messages_from, piggybacked, HasRoom, All-pop, All-push, Message, slice_get_within, get_or_from_slice_get, get_or, drop, Entry, drop_more}
 use Rattle.fbl_member.proofs.Once.{carried_once}
 use Rattle.fbl_member.proofs.buffers.Buffers.into_wires.Goals as goal
 
@@ -42,4 +42,4 @@ loop-place-preserved g c =
     }
 
 pub returns : goal.returns
-returns g c = grind (arith, common_steps)
+returns g c = rw (drop_all c.loop-place.place c.args.sends.now c.loop-place-test.false, append-nil) at c.loop-place.invariant.so_far

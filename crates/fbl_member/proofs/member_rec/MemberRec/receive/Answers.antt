@@ -10,7 +10,7 @@ grown g c = rw (c.in_ok-reserve.ensures.items, c.as_slice-sends.ensures.value) a
 
 -- room for this many entries is room for fewer
 fewer : {N A : Type 0} {messages more less : ℕ} {b : Buffers N A} → HasRooms messages more b → less ≤ more → HasRooms messages less b
-fewer rooms le = record { wires = rooms.wires; count = rooms.count; lists = λ k d below. grind (arith, rooms.lists k d below) }
+fewer rooms le = record { wires = rooms.wires; count = rooms.count; lists = λ k d below. (let r = rooms.lists k d below in (r.0, r.1, omega (arith, r.2, le))) }
 
 pub into_wires-requires-clause-numbers : goal.into_wires-requires-clause-numbers
 into_wires-requires-clause-numbers g c = omega (arith, c.sent-before.ensures.value, ap length c.as_slice-sends.ensures.value, c.requires.sends)
@@ -40,3 +40,13 @@ on_err {P} r is = elim r as (λ r. MatchResult r (λ _. Unit {0}) (λ _. P)) [ O
 
 pub returns-in_err-reserve-clause-unchanged : goal.returns-in_err-reserve-clause-unchanged
 returns-in_err-reserve-clause-unchanged g c = rw (← c.self.view_is, c.reserve.ensures.items) (on_err c.from_residual-in_err-reserve.result refl)
+
+pub returns-in_err-learn_and_note-clause-unchanged : goal.returns-in_err-learn_and_note-clause-unchanged
+returns-in_err-learn_and_note-clause-unchanged g c =
+    rw (← c.self.view_is, c.reserve.ensures.items, c.in_err-learn_and_note.ensures.unchanged) (on_err c.from_residual-in_err-learn_and_note.result refl)
+
+pub learn_and_note-requires-clause-table : goal.learn_and_note-requires-clause-table
+learn_and_note-requires-clause-table g c = rw (c.next_determinant-determinant.ensures, ← c.self.view_is) (rw (← c.self.view_is) at c.requires.not_held)
+
+pub learn_and_note-requires-clause-carried : goal.learn_and_note-requires-clause-carried
+learn_and_note-requires-clause-carried g c = rw (c.carried-carried.ensures.value, c.next_determinant-determinant.ensures) c.requires.not_carried
