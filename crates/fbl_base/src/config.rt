@@ -162,10 +162,10 @@ impl<N: Content, A: Allocator + Copy> Config<N, A> {
     pub fn same(&self, other: &Config<N, A>) -> bool
         ensures { IsTrue result ↔ (self.now ≡ other.now) }
     {
-        if self.members != other.members || self.f != other.f || self.limit != other.limit {
-            return false;
-        }
-        self.starts.as_slice() == other.starts.as_slice()
+        self.members == other.members
+            && self.f == other.f
+            && self.limit == other.limit
+            && self.starts.as_slice() == other.starts.as_slice()
     }
 
     /// An equal configuration, in the same allocator's memory. `Err` comes only where there is no memory for the

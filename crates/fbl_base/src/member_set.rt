@@ -94,7 +94,6 @@ impl MemberSet {
     }
 
     /// The members of either set.
-    #[tactic(auto, using(crate::proofs::Sets::union_bits))]
     pub fn union(self, other: MemberSet) -> MemberSet
         ensures { result ≡ set.union self other }
     {
@@ -137,14 +136,13 @@ impl MemberSet {
 /// As the list of its members, rising, as in `[0,2]`.
 impl fmt::Display for MemberSet {
     fn fmt<W: fmt::Write>(&self, f: &mut fmt::Formatter<W>) -> fmt::Result {
-        f.write_str("[")?;
-        let mut end = "";
+        let mut before = "[";
         for number in 0..MOST_MEMBERS {
             if (self.bits >> number) & 1 == 1 {
-                write!(f, "{end}{number}")?;
-                end = ",";
+                write!(f, "{before}{number}")?;
+                before = ",";
             }
         }
-        f.write_str("]")
+        f.write_str(if self.bits == 0 { "[]" } else { "]" })
     }
 }

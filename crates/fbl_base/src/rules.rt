@@ -9,7 +9,7 @@ ghost use Rattle.fbl_base.specs.Rules.{Counted, CountsEvent, first_by, next_by, 
 use crate::fault::EventRule;
 use crate::member::{MOST_MEMBERS, Member};
 use crate::trace::{MOST_EVENTS, Mark, end_outside};
-use std::alloc::{AllocError, Allocator, Global};
+use std::alloc::{AllocError, AllocFailed, Allocator, Global};
 use std::collections::VecDeque;
 use std::marker::Model;
 
@@ -45,11 +45,10 @@ impl<A: Allocator> Channel<A> {
         self.numbers.front().copied()
     }
 
-    fn push(&mut self, ssn: u32) -> Result<(), AllocError>
+    fn push(&mut self, ssn: u32) -> Result<(), AllocFailed<u32>>
         ensures { OnOk result (self.new ≡ self.old ++ ssn ∷ []) }
     {
-        self.numbers.push_back(ssn)?;
-        Ok(())
+        self.numbers.push_back(ssn)
     }
 
     fn pop(&mut self)
