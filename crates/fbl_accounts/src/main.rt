@@ -31,8 +31,9 @@ fn total(group: &Group<Account>) -> u128
     ensures whole { group.now.down ≡ set.empty → result ≡ opened group.now.config }
     ensures most { result ≤ opened group.now.config }
 {
+    let all = group.sum_of_states() + u128::from(group.value_in_flight());
     group.conserved();
-    group.sum_of_states() + u128::from(group.value_in_flight())
+    all
 }
 
 /// Prints where the money is: 600 in all.

@@ -43,13 +43,21 @@ fn look_up(group: &Group<Shard>, key: u8) -> u64
     group.state(owner)[usize::from(key)]
 }
 
+/// The value of a key where the starts bring 50 in all.
+fn value_of(group: &Group<Shard>, key: u8) -> u64
+    requires { amount_brought group.now.config ≡ 50 }
+    ensures { result ≤ 50 }
+{
+    look_up(group, key)
+}
+
 /// Prints the values of the first eight keys, each of which is at most 50.
 fn report<R: Print>(rt: &R, when: &str, group: &Group<Shard>) -> Result<()>
     requires { amount_brought group.now.config ≡ 50 }
 {
     print!(rt; "{when}:")?;
     for key in 0..8 {
-        let value = look_up(group, key);
+        let value = value_of(group, key);
         prove!(value <= 50);
         print!(rt; " {value}")?;
     }
