@@ -1,4 +1,2 @@
 pub mod Circulation
 pub mod Spreading
-pub mod Packets
-pub mod Wide

@@ -15,7 +15,7 @@ const GROUPS: &[(u8, u8)] = &[(2, 1), (3, 1), (3, 2), (16, 15)];
 const AFTERWARDS: u32 = 80;
 
 /// What the crashes of each member in turn counted together.
-#[derive(Clone, Copy, Default)]
+#[derive(Clone, Copy)]
 struct Crashes {
     lost: u64,
     replayed: u64,
@@ -123,7 +123,12 @@ fn print_tried(rt: &HostRuntime, name: &str, members: u8, count: u32, tried: Tri
 
 /// Strikes and recovers each member in turn, and counts what that did.
 fn crash_each(group: &mut Group<Circulate>, members: u8) -> Result<Crashes> {
-    let mut crashes = Crashes::default();
+    let mut crashes = Crashes {
+        lost: 0,
+        replayed: 0,
+        resent: 0,
+        undone: 0,
+    };
     let mut member = Member::default();
     for _ in 0..members {
         let struck = group.strike(MemberSet::empty().with(member))?;

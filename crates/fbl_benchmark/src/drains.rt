@@ -8,7 +8,8 @@ use crate::times::{TRIES, microseconds_since, print_rate};
 use anyhow::Result;
 use fbl_base::{Behaviour, Note};
 use fbl_group::Group;
-use fbl_threads::{NoGate, drain, drain_recorded};
+use fbl_threads::{DrainRefusal, NoGate, drain, drain_recorded};
+use std::alloc::Global;
 use std::sync::Wait;
 use std::thread::Threads;
 use std::time::Instant;
@@ -91,14 +92,6 @@ struct Drain {
     full: bool,
 }
 
-impl Drain {
-    /// A drain that left this group.
-    fn of<B: Behaviour>(group: &Group<B>, full: bool) -> Drain {
-        let receipts = group.receipts_ever().min(u64::from(LIMIT)) as u32;
-        Drain { receipts, full }
-    }
-}
-
 /// Times the drains of a case by each number of workers.
 fn time_drains<B: Behaviour<State = u64, Note = Note> + Send + Sync, T: Threads + Wait + Sync>(
     rt: &HostRuntime,
@@ -141,35 +134,33 @@ fn try_drain<B: Behaviour<State = u64, Note = Note> + Send + Sync, T: Threads + 
     workers: u8,
 ) -> Result<(u128, Drain)> {
     let group = group_of::<B>(rt.alloc(), (MEMBERS, LOST), case.messages, NOTE)?;
-    if case.is_recorded {
-        try_recorded(rt, threads, group, workers)
+    let start = Instant::now(rt)?;
+    let (group, full) = drain_once(threads, rt.alloc(), group, workers, case.is_recorded);
+    let taken = microseconds_since(rt, start);
+    let receipts = group.receipts_ever().min(u64::from(LIMIT)) as u32;
+    drop(group);
+    Ok((
+        taken?,
+        Drain {
+            receipts,
+            full: full?,
+        },
+    ))
+}
+
+/// Drains the group, with its turns handed out or not, and answers whether the trace is full.
+fn drain_once<B: Behaviour<State = u64, Note = Note> + Send + Sync, T: Threads + Wait + Sync>(
+    threads: &T,
+    alloc: Global,
+    group: Group<B>,
+    workers: u8,
+    is_recorded: bool,
+) -> (Group<B>, Result<bool, DrainRefusal>) {
+    if is_recorded {
+        let (group, answer) = drain_recorded(threads, alloc, group, &[], workers, TURNS, &NoGate);
+        (group, answer.map(|recorded| recorded.drained.full))
     } else {
-        try_counted(rt, threads, group, workers)
+        let (group, answer) = drain(threads, alloc, group, &[], workers, TURNS, &NoGate);
+        (group, answer.map(|drained| drained.full))
     }
-}
-
-/// Drains the group, and answers that.
-fn try_counted<B: Behaviour<State = u64, Note = Note> + Send + Sync, T: Threads + Wait + Sync>(
-    rt: &HostRuntime,
-    threads: &T,
-    group: Group<B>,
-    workers: u8,
-) -> Result<(u128, Drain)> {
-    let start = Instant::now(rt)?;
-    let (group, answer) = drain(threads, rt.alloc(), group, &[], workers, TURNS, &NoGate);
-    let taken = microseconds_since(rt, start)?;
-    Ok((taken, Drain::of(&group, answer?.full)))
-}
-
-/// Drains the group with its turns handed out, and answers that. The turns are given back to memory when the time is taken.
-fn try_recorded<B: Behaviour<State = u64, Note = Note> + Send + Sync, T: Threads + Wait + Sync>(
-    rt: &HostRuntime,
-    threads: &T,
-    group: Group<B>,
-    workers: u8,
-) -> Result<(u128, Drain)> {
-    let start = Instant::now(rt)?;
-    let (group, answer) = drain_recorded(threads, rt.alloc(), group, &[], workers, TURNS, &NoGate);
-    let taken = microseconds_since(rt, start)?;
-    Ok((taken, Drain::of(&group, answer?.drained.full)))
 }

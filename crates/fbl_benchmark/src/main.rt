@@ -8,14 +8,11 @@ mod deliveries;
 mod drains;
 mod load;
 mod long_circulate;
-mod packet;
 mod recoveries;
 mod ring;
 mod spread;
 mod spreads;
 mod times;
-mod wide;
-mod wides;
 
 use anyhow::Result;
 use std::sync::Wait;
@@ -25,7 +22,6 @@ use std::thread::Threads;
 fn run<T: Threads + Wait + Sync>(rt: &HostRuntime, threads: &T) -> Result<()> {
     deliveries::time_groups(rt)?;
     spreads::time_spreads(rt)?;
-    wides::time_wides(rt)?;
     recoveries::time_recoveries(rt)?;
     drains::time_workers(rt, threads)?;
     claims::time_claims(rt, threads)

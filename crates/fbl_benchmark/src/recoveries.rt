@@ -76,9 +76,17 @@ fn try_recoveries<B: Behaviour<State = u64, Note = Note>>(
 /// Takes a checkpoint of each member.
 fn checkpoint_each<B: Behaviour<State = u64, Note = Note>>(group: &mut Group<B>) -> Result<()> {
     for number in 0..MEMBERS {
-        group.checkpoint(Member::new(number).unwrap_or_default())?;
+        checkpoint(group, Member::at(number))?;
     }
     Ok(())
+}
+
+/// Takes a checkpoint of the member.
+fn checkpoint<B: Behaviour<State = u64, Note = Note>>(
+    group: &mut Group<B>,
+    member: Member,
+) -> Result<()> {
+    Ok(group.checkpoint(member)?)
 }
 
 /// Strikes the member, recovers it, and answers what the recovery did and how many microseconds it took.

@@ -22,9 +22,8 @@ pub fn group_of<B: Behaviour>(
     let mut from = Member::default();
     for _ in 0..messages {
         let to = next_member(from, members);
-        starts
-            .push(Start { from, to, note })
-            .map_err(|_| AllocError)?;
+        let start = Start { from, to, note };
+        starts.push(start).ok().ok_or(AllocError)?;
         from = to;
     }
     let config = Config::new(alloc, members, f, LIMIT, &starts)?;
@@ -53,10 +52,11 @@ fn deliver_next<B: Behaviour>(
     let mut from = first;
     for _ in 1..members {
         let to = next_member(from, members);
-        match group.deliver(to, from) {
-            Err(DeliverRefusal::Empty) => from = to,
-            done => return Ok((to, done?.carried)),
+        let answer = group.deliver(to, from);
+        if !matches!(answer, Err(DeliverRefusal::Empty)) {
+            return Ok((to, answer?.carried));
         }
+        from = to;
     }
     let to = next_member(from, members);
     Ok((to, group.deliver(to, from)?.carried))
