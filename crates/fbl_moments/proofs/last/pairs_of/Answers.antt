@@ -1,4 +1,4 @@
-use Rattle.fbl_moments.proofs.Common.{◌≡◌, ◌++◌, ◌∷◌, [], sym, ap, refl, ℕ, List, Determinant, length, Some, slice_get, slice_get_read}
+use Rattle.fbl_moments.proofs.Common.{◌≡◌, ◌++◌, ◌∷◌, [], sym, ap, refl, ℕ, List, Determinant, length, Some, slice_get, slice_get_read, take_all}
 use Rattle.fbl_moments.specs.LastMoments.{pair_in}
 use Rattle.fbl_moments.proofs.RunLaws.{kept-none, kept-some}
 use Rattle.fbl_moments.proofs.last.pairs_of.Goals as goal
@@ -13,3 +13,6 @@ loop-entry-preserved c =
       | in-Some+in_ok-push w ↦ (rw (w.pairs-is, w.in_ok-push.ensures.items, kept-some pair_in entries p c.entry-item.result w.in-Some.pair here (sym w.in-Some.ensures)) (ap (λ (t : List (ℕ × Determinant)). t ++ w.in-Some.pair ∷ []) c.loop-entry.invariant))
       | in_default w ↦ (rw (w.pairs-is, kept-none pair_in entries p c.entry-item.result here (sym w.in_default.ensures)) c.loop-entry.invariant)
     ]
+
+pub returns : goal.returns
+returns c = rw (take_all c.loop-entry.entry-index c.args.entries.now c.loop-entry-test.false) at c.loop-entry.invariant

@@ -1,4 +1,4 @@
-use Rattle.fbl_moments.proofs.Common.{arith, ◌≡◌, ◌∙◌, inl, inr, sym, ap, subst, refl, ℕ, List, Some, length, length-append, slice_get, slice_get_read, At-push, [], ◌∷◌}
+use Rattle.fbl_moments.proofs.Common.{arith, ◌≡◌, ◌∙◌, inl, inr, sym, ap, subst, refl, ℕ, List, Some, length, length-append, slice_get, slice_get_read, At-push, take_all, [], ◌∷◌}
 use Rattle.std.proofs.Common.{Global, Vec}
 use Rattle.fbl_moments.specs.Lawful.{IsEventPlace}
 use Rattle.fbl_moments.proofs.RunLaws.{marks-is_none, marks-is_some}
@@ -31,3 +31,6 @@ loop-place-preserved c =
             each = λ k q there. old.each k q (subst (λ (xs : List ℕ). slice_get xs k ≡ Some q) items there);
           }
     ]
+
+pub returns-clause-count : goal.returns-clause-count
+returns-clause-count c = rw (take_all c.loop-place.place c.args.entries.now c.loop-place-test.false) at c.loop-place.invariant.count

@@ -1,10 +1,11 @@
-use Rattle.fbl_moments.proofs.Common.{arith, ◌≡◌, ◌∙◌, ◌+◌, ◌++◌, ◌∷◌, [], ap, sym, subst, refl, inl, inr, suc, List, Some, length, slice_get, slice_get_read, take, take-more, At-push}
+use Rattle.fbl_moments.proofs.Common.{arith, ◌≡◌, ◌∙◌, ◌+◌, ◌++◌, ◌∷◌, [], ap, sym, subst, refl, inl, inr, suc, List, Some, length, slice_get, slice_get_read, take, take-more, take_all, At-push}
 use Rattle.std.proofs.Common.{map}
 use Rattle.std.proofs.lemmas.List.{map-append}
 use Rattle.fbl_moments.specs.declared.check.UnsafeMoment.{UnsafeMoment}
 use Rattle.fbl_moments.specs.declared.reason.MomentReason.{MomentReason}
 use Rattle.fbl_moments.specs.Entries.{receipts_in}
 use Rattle.fbl_moments.specs.Reasons.{IsMomentReason}
+use Rattle.fbl_moments.specs.Unsafe.{SaysUnsafe}
 use Rattle.fbl_moments.proofs.UnsafeLaws.{says_each}
 use Rattle.fbl_moments.proofs.reason.reasons_of.Goals as goal
 use Rattle.fbl_moments.proofs.reason.reasons_of.Goals.{After-said-item}
@@ -34,3 +35,9 @@ loop-said-preserved c =
         | inr last ↦ subst (IsMomentReason c.args.history.now) last.1 c.in_ok-reason_of.ensures.reason
       ];
     }
+
+pub returns : goal.returns
+returns c =
+    let log = c.args.history.now in
+    let said = c.loop-said.invariant.said ∙ take_all c.loop-said.said-index c.deref-said-items.result.now c.loop-said-test.false ∙ c.deref-said-items.ensures.value in
+    record { said = subst (SaysUnsafe log (receipts_in log.entries)) (sym said) c.in_ok-moments_of.ensures.said; each = c.loop-said.invariant.each }

@@ -1,4 +1,5 @@
-use Rattle.fbl_order.proofs.Common.{ℕ, Some, ◌≡◌, ◌<◌, ◌+◌, ◌-◌, ◌∙◌, refl, sym, subst, arith, get_or, length, length-set, slice_get, slice_get_read}
+use Rattle.fbl_order.proofs.Common.{ℕ, Some, ◌≡◌, ◌<◌, ◌+◌, ◌-◌, ◌∙◌, refl, sym, subst, arith, get_or, length, zero, suc, slice_get_within, length-set, slice_get, slice_get_read}
+use Rattle.std.proofs.Common.{replicate}
 use Rattle.fbl_order.proofs.Own.{in_front}
 use Rattle.fbl_order.specs.Cursors.{IsFirstFrom}
 use Rattle.fbl_order.proofs.cursors.firsts_of.Goals as goal
@@ -17,4 +18,22 @@ loop-place-preserved g c =
           (λ q. subst (λ (start : ℕ). IsFirstFrom g.T.Logged.member_in c.args.items.now start q (get_or c.loop-place.firsts q (length c.args.items.now))) (sym more)
           (c.loop-place.invariant.firsts q));
       room = rw length-set c.loop-place.invariant.room;
+    }
+
+pub returns-clause-firsts : goal.returns-clause-firsts
+returns-clause-firsts g c q = (let none : c.loop-place.place ≡ 0 = omega arith in (rw none at (c.loop-place.invariant.firsts q)))
+
+same : (k q n : ℕ) → get_or (replicate k n) q n ≡ n
+same zero q n = refl
+same (suc k) zero n = refl
+same (suc k) (suc q) n = same k q n
+
+pub loop-place-init : goal.loop-place-init
+loop-place-init g c =
+    let items = c.args.items.now in
+    let n = length items in
+    record {
+      firsts = λ q. subst (IsFirstFrom g.T.Logged.member_in items n q) (sym (same 16 q n))
+          (record { later = omega arith; next = (omega arith, λ x at. absurd (omega (arith, slice_get_within items n x at))); skips = refl });
+      room = refl;
     }

@@ -39,3 +39,6 @@ returns-clause-refused c = rw c.refused.ensures (inr (record {
   breaks = c.in-Err.ensures.breach;
   given = ap (λ places. Log (refusal_given places c.in-Err.refusal) (breach_given places c.in-Err.breach)) c.as_slice-in-Err.ensures.value;
 }))
+
+pub placed-requires : goal.placed-requires
+placed-requires c = rw c.as_slice.ensures.value c.in_ok-ordered.ensures.order.logs

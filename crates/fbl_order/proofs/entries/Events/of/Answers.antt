@@ -36,3 +36,6 @@ loop-place-preserved c =
 
 pub returns-clause-places : goal.returns-clause-places
 returns-clause-places c = rw (take_all c.loop-place.place c.args.entries.now c.loop-place-test.false) at c.loop-place.invariant.places
+
+pub returns-clause-marks : goal.returns-clause-marks
+returns-clause-marks c = rw (take_all c.loop-place.place c.args.entries.now c.loop-place-test.false) at c.loop-place.invariant.marks

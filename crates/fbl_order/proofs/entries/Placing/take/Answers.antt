@@ -34,3 +34,9 @@ returns-clause-placing c =
 
 pub next_of-requires : goal.next_of-requires
 next_of-requires c = omega (arith, slice_get_within c.args.entries.now c.args.place c.requires.least.0.0 c.requires.least.0.1)
+
+pub bounds-entries-place : goal.bounds-entries-place
+bounds-entries-place c = slice_get_within c.args.entries.now c.args.place c.requires.least.0.0 c.requires.least.0.1
+
+pub bounds-self-number : goal.bounds-self-number
+bounds-self-number c = omega (arith, c.requires.placing.cursors.room, c.number.ensures.bound)
