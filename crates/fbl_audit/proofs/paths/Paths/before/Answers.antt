@@ -1,4 +1,4 @@
-use Rattle.fbl_audit.proofs.Common.{ap, arith, slice_get_read, At, At-below, Origin, IsFirstDependent, IsSendOf, WellFormed, has_last, member_of}
+use Rattle.fbl_audit.proofs.Common.{ap, arith, ◌<◌, length, List, ℕ, Mark, PlacePrecedes, slice_get_read, At, At-below, Origin, IsFirstDependent, IsSendOf, WellFormed, has_last, member_of}
 use Rattle.fbl_audit.proofs.Searching.{before_own, before_send}
 use Rattle.fbl_audit.proofs.paths.Paths.before.Goals as goal
 use Rattle.fbl_audit.proofs.paths.Paths.before.Goals.{After-end}
@@ -25,3 +25,13 @@ returns-in_default c =
           (let first : IsFirstDependent o.events o.place (member_of c.index-events-place.result) w.in-Some.end = rw c.member.ensures at w.in-Some.ensures in first.first k b (omega (arith, below, w.if-end-place.false)) at own pr)
       | goal.in_default-via-in_default w ↦ (rw c.member.ensures at w.in_default.ensures) (k, b, pr, at, own)
     ]) _ sent
+
+within : (t : List Mark) (i p : ℕ) → PlacePrecedes t i p → p < length t
+within t i p precedes = (let last = has_last precedes in At-below t p last.0 last.1)
+
+pub bounds-events-place : goal.bounds-events-place
+bounds-events-place c =
+    rw (c.events.ensures.events, c.dump.ensures.dump, ap (λ (o : Origin). o.events) c.self.view_is) (within c.args.self.now.events c.args.self.now.place c.args.place c.requires)
+
+pub send_of-requires : goal.send_of-requires
+send_of-requires c = rw (c.clocks.ensures, ap (λ (o : Origin). o.events) c.self.view_is) (within c.args.self.now.events c.args.self.now.place c.args.place c.requires)
