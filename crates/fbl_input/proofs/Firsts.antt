@@ -1,6 +1,8 @@
 -- The first place of a list at which a shape is missing.
 use Rattle.fbl_input.proofs.Common.{◌≡◌, ℕ, ◌+◌, ◌<◌, List, [], ◌∷◌, ◌++◌, append_assoc, refl, option_and_then, map, get_or, length, sym, ap, ◌∙◌, suc, drop, drop-cons}
-use Rattle.fbl_input.proofs.Common.{add-one, below_more, true, Option, Some, None, slice_get, option_map, is_some, Data, all_shaped, slice_get-get_or, slice_get-map}
+use Rattle.std.proofs.lemmas.List.{append-nil, drop_all, length-map}
+use Rattle.fbl_input.specs.Misfits.{IsFirstOther}
+use Rattle.fbl_input.proofs.Common.{◌≤◌, add-one, below_more, true, Option, Some, None, slice_get, option_map, is_some, Data, all_shaped, slice_get-get_or, slice_get-map}
 
 module _ {V A : Type 0} (view : V → Data) (shape : Data → Option A) where
   -- the value at a place, as it is seen
@@ -28,6 +30,18 @@ module _ {V A : Type 0} (view : V → Data) (shape : Data → Option A) where
   pub none_read : (list : List V) (i : ℕ) (v : V) (front : List A) (all : Option (List A)) → i < length list → v ≡ get_or list i v → None ≡ shape (view v)
       → option_map (λ rest. front ++ rest) (all_shaped shape (map view (drop i list))) ≡ all → None ≡ all
   none_read list i v front all within is given h = rw (left_from list i v within is, ← given) at h
+
+  -- nor is any other first
+  pub first_other : (list : List V) (i : ℕ) (v : V) → i < length list → v ≡ get_or list i v → None ≡ shape (view v)
+      → ((j : ℕ) (d : Data) → j < i → slice_get (map view list) j ≡ Some d → is_some (shape d) ≡ true) → IsFirstOther (λ d. is_some (shape d)) (map view list) i
+  first_other list i v within is given before =
+      let seen = seen_at list i v within is in
+      (rw length-map within, λ d at. (let same : view v ≡ d = cc in rw (← same, ← given)), before)
+
+  -- all is read
+  pub all_read : (list : List V) (i : ℕ) (front : List A) (all : Option (List A)) → length list ≤ i
+      → option_map (λ rest. front ++ rest) (all_shaped shape (map view (drop i list))) ≡ all → Some front ≡ all
+  all_read list i front all past h = rw (drop_all i list past, append-nil front) at h
 
   -- what is read of the items so far and of those that are left, with one more read
   pub read_more : (list : List V) (i : ℕ) (v : V) (a : A) (front : List A) (all : Option (List A)) → i < length list → v ≡ get_or list i v → Some a ≡ shape (view v)

@@ -139,16 +139,18 @@ impl InputFault {
 
 /// Writes that the input is of this kind, and must be of the other.
 fn write_other_kind<W: fmt::Write>(f: &mut fmt::Formatter<W>, found: InputKind) -> fmt::Result {
-    let (name, readers, other, wanted) = match found {
-        InputKind::Script => ("script", "play and show", "dump", InputKind::Dump),
-        InputKind::Dump | InputKind::Log => {
-            ("dump", "audit, check and draw", "script", InputKind::Script)
-        }
+    let (words, wanted) = if found.is_script() {
+        (
+            "script, which play and show read, and must be a dump",
+            InputKind::Dump,
+        )
+    } else {
+        (
+            "dump, which audit, check and draw read, and must be a script",
+            InputKind::Script,
+        )
     };
-    write!(
-        f,
-        "the input is a {name}, which {readers} read, and must be a {other}: {wanted}"
-    )
+    write!(f, "the input is a {words}: {wanted}")
 }
 
 /// Writes which key is missing, and the first that is unknown.
@@ -174,11 +176,10 @@ fn write_wrong<W: fmt::Write>(
     found: ShownText<'_>,
     wanted: &str,
 ) -> fmt::Result {
-    f.write_str(name)?;
-    if let Some(place) = place {
-        write!(f, " {place}")?;
+    match place {
+        Some(place) => write!(f, "{name} {place} is {found}, and must be {wanted}"),
+        None => write!(f, "{name} is {found}, and must be {wanted}"),
     }
-    write!(f, " is {found}, and must be {wanted}")
 }
 
 /// Writes the fault, with what stands at its place.
@@ -227,7 +228,7 @@ impl fmt::Display for Explanation<'_> {
             Detail::Written(text) => write_misfit(f, self.fault, text.as_str()),
             Detail::NotJson(stop) => {
                 write_misfit(f, self.fault, "")?;
-                write!(f, "{stop}")
+                fmt::Display::fmt(stop, f)
             }
         }
     }
