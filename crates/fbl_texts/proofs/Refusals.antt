@@ -1,5 +1,5 @@
 -- The fault of an input that is refused for what it gives, and of one that a reader of its form refuses.
-use Rattle.std.proofs.Common.{◌≡◌, ◌<◌, ◌∙◌, ℕ, ap, cond, inl, inr, length, refl, sym, subst, List, None, Ok, Err, Result, Option, Some, IfErr, IfSome}
+use Rattle.std.proofs.Common.{Bool, false, true, ◌≡◌, ◌<◌, ◌∙◌, ℕ, ap, cond, inl, inr, length, refl, sym, subst, List, None, Ok, Err, Result, Option, Some, IfErr, IfSome}
 use Rattle.std.proofs.lemmas.Bool.{lt-ltb}
 use Rattle.std.proofs.lemmas.Option.{IfSome_then}
 use Rattle.std.specs.Result.{IsErrAnd}
@@ -97,3 +97,13 @@ dump_refused input found fault is refusal =
     let misfit = misfits.Dump refusal.refusal refusal.breach in
     let P : InputFault → Type 0 = IsNoDump input in
     subst P (sym refusal.is) (refl, refused kinds.Dump (parts_of_input input) RefusesParts IsOfParts input misfit parts is.0 first (λ _. tt) refusal.why, is.1)
+
+-- the object has no key but its own
+pub known_only : (b : Bool) → ◌≡◌ {A = Result (Unit {0}) RunFault} (cond b (Err faults.UnknownKey) (Ok tt)) (Ok tt) → b ≡ false
+known_only false is = refl
+known_only true is = absurd cc
+
+-- what two steps give, each gives
+pub each_gives : {A B : Type 0} (a : Result A RunFault) (f : A → Result B RunFault) (b : B) → (a >>= f) ≡ Ok b → (x : A) × (a ≡ Ok x) × (f x ≡ Ok b)
+each_gives (Ok x) f b is = (x, refl, is)
+each_gives (Err e) f b is = absurd cc

@@ -209,7 +209,7 @@ pub(crate) fn commands_in(
         match command_in(alloc, version, value)? {
             Some(command) => commands.push(command)?,
             None => {
-                let wanted = wanted_in(version == Version::Second, value);
+                let wanted = wanted_in(version.is_second(), value);
                 return Err(Misfit::BadCommand { place, wanted });
             }
         }

@@ -1,19 +1,31 @@
 //! What a script asks for: a group, the behaviour that it names, and commands, of which a run has a plan.
 
 ghost use Rattle.std.specs.Prelude.{◌≡◌};
-ghost use Rattle.fbl_texts.specs.Scripts.{behaviour_word};
+ghost use Rattle.fbl_texts.specs.Scripts.{behaviour_word, is_second_version};
 
 use fbl_base::{Config, Member, MemberSet, Strike};
 use std::fmt;
 use std::marker::Model;
 
 /// The version of a script, which says what commands it may have.
-#[derive(Clone, Copy, PartialEq, Eq)]
+#[derive(Clone, Copy)]
 pub(crate) enum Version {
     /// Version 1: every command but the checkpoint.
     First,
     /// Version 2: every command.
     Second,
+}
+
+impl Version {
+    /// Whether it is version 2.
+    pub(crate) fn is_second(self) -> bool
+        ensures { result ≡ is_second_version self }
+    {
+        match self {
+            Version::First => false,
+            Version::Second => true,
+        }
+    }
 }
 
 /// A behaviour that a script names.

@@ -1,6 +1,15 @@
 use Rattle.std.proofs.lemmas.Result.{err_from_is_err_and}
 use Rattle.fbl_texts.proofs.Common.{Err, Ok, refl, ap, ◌∙◌, IsAuditText, IsDumpFault, IsDumpOf, PutsOut, over_input}
+use Rattle.fbl_input.proofs.Inputs.{over_fault}
+use Rattle.std.proofs.lemmas.Option.{IfSome_then}
 use Rattle.fbl_texts.proofs.auditing.audit.Goals as goal
+
+pub returns-in_err-dump : goal.returns-in_err-dump
+returns-in_err-dump g c =
+    let had = g.W.Write.contents c.args.writer.now in
+    let known = g.R.Read.remaining c.args.reader.now in
+    over_fault IsDumpOf IsDumpFault (λ dump. PutsOut (λ _. IsAuditText dump) had had) had known _ c.from_residual.result
+    (IfSome_then known c.in_err-dump.ensures.fault (λ _ no. no.1.first)) c.from_residual.ensures.1
 
 pub returns-in_err-write_audit : goal.returns-in_err-write_audit
 returns-in_err-write_audit g c =

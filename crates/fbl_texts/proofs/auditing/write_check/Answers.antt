@@ -1,6 +1,12 @@
-use Rattle.fbl_texts.proofs.Common.{◌≡◌, ◌∙◌, ap, IsSafe, SaysUnsafe, check_lines, receipts, verdict_of}
-use Rattle.fbl_texts.proofs.Verdicts.{puts_verdict}
+use Rattle.fbl_texts.proofs.Common.{◌≡◌, ◌∙◌, ap, IsSafe, SaysUnsafe, check_lines, receipts, verdict_of, IsChecked}
+use Rattle.fbl_texts.proofs.Verdicts.{puts_none, puts_verdict}
 use Rattle.fbl_texts.proofs.auditing.write_check.Goals as goal
+
+pub returns-in_err-said : goal.returns-in_err-said
+returns-in_err-said g c = puts_none (IsChecked c.args.dump.now) _ c.from_residual.result c.from_residual.ensures.1
+
+pub returns-in_err-text : goal.returns-in_err-text
+returns-in_err-text g c = puts_none (IsChecked c.args.dump.now) _ c.from_residual-in_err-text.result c.from_residual-in_err-text.ensures.1
 
 pub returns : goal.returns
 returns g c =

@@ -1,8 +1,9 @@
 use Rattle.fbl_texts.proofs.Common.{◌≡◌, ℕ, ◌+◌, ◌<◌, List, [], ◌∷◌, ◌++◌, Option, Some, Ok, Err, Result, arith, ap, ◌∙◌, sym, refl, drop, get_or, length, map, suc, append_assoc, nat_eq, ◌>>=◌, Data, Value, view, RunFault}
-use Rattle.std.proofs.Common.{add-one, drop-cons, false, rules}
+use Rattle.std.proofs.Common.{add-one, drop-cons, false}
+use Rattle.std.proofs.lemmas.List.{append-nil, drop_all}
 use Rattle.std.proofs.lemmas.Bool.{ne_eqb}
 use Rattle.fbl_input.proofs.Firsts.{seen_at}
-use Rattle.fbl_texts.specs.Scripts.{commands_from, is_second_version, versioned_shape, with_front}
+use Rattle.fbl_texts.specs.Scripts.{commands_from, versioned_shape, with_front}
 use Rattle.fbl_texts.specs.declared.script.Command.{Command}
 use Rattle.fbl_texts.proofs.commands.commands_in.Goals as goal
 
@@ -41,5 +42,7 @@ returns-in-None-clause-exact c = sym c.loop-value.invariant.told ∙ rw (here _ 
 
 pub returns-in-None-clause-misfit : goal.returns-in-None-clause-misfit
 returns-in-None-clause-misfit c =
-    let same : c.eq.result ≡ is_second_version c.args.version = search rules in
-    (omega (arith, c.loop-value.invariant.few), rw (c.loop-value.invariant.counted, seen_at view (versioned_shape c.args.version) c.args.list.now _ _ c.loop-value-test.true c.value-item.is, c.wanted_in-wanted.ensures, same))
+    (omega (arith, c.loop-value.invariant.few), rw (c.loop-value.invariant.counted, seen_at view (versioned_shape c.args.version) c.args.list.now _ _ c.loop-value-test.true c.value-item.is, c.wanted_in-wanted.ensures, c.is_second.ensures))
+
+pub returns-clause-exact : goal.returns-clause-exact
+returns-clause-exact c = sym (rw (drop_all _ c.args.list.now c.loop-value-test.false, append-nil) at c.loop-value.invariant.told)

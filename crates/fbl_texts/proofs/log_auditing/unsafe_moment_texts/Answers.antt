@@ -1,5 +1,5 @@
 use Rattle.std.proofs.lemmas.List.Folds.{concat-append}
-use Rattle.fbl_texts.proofs.Common.{◌++◌, ◌∷◌, [], ◌∙◌, ap, append-nil, sym}
+use Rattle.fbl_texts.proofs.Common.{◌++◌, ◌∷◌, [], ◌∙◌, ap, append-nil, sym, take_all}
 use Rattle.std.specs.List.{concat}
 use Rattle.fbl_texts.specs.LogAuditing.{IsUnsafeMomentLine}
 use Rattle.fbl_texts.proofs.Whys.{reasons_more}
@@ -15,3 +15,6 @@ loop-moment-preserved c =
           c.moment-item.is before.1 pushed.1,
       pushed.2 ∙ ap (λ front. front ++ line) before.2 ∙ ap (λ end. concat before.0 ++ end) (sym (append-nil line)) ∙ sym (concat-append before.0 (line ∷ [])),
     )
+
+pub returns : goal.returns
+returns c = rw (take_all _ _ c.loop-moment-test.false) at c.loop-moment.invariant

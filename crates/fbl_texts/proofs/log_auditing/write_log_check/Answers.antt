@@ -3,9 +3,15 @@ use Rattle.fbl_moments.specs.Entries.{receipts_in}
 use Rattle.fbl_moments.specs.Logs.{run_of}
 use Rattle.fbl_moments.specs.Runs.{AlwaysSafe}
 use Rattle.fbl_moments.specs.Unsafe.{SaysUnsafe}
-use Rattle.fbl_texts.specs.LogAuditing.{IsLogCheckText}
-use Rattle.fbl_texts.proofs.Verdicts.{puts_verdict}
+use Rattle.fbl_texts.specs.LogAuditing.{IsLogChecked, IsLogCheckText}
+use Rattle.fbl_texts.proofs.Verdicts.{puts_none, puts_verdict}
 use Rattle.fbl_texts.proofs.log_auditing.write_log_check.Goals as goal
+
+pub returns-in_err-said : goal.returns-in_err-said
+returns-in_err-said g c = puts_none (IsLogChecked c.args.log.now c.args.sources.now) _ c.from_residual.result c.from_residual.ensures.1
+
+pub returns-in_err-text : goal.returns-in_err-text
+returns-in_err-text g c = puts_none (IsLogChecked c.args.log.now c.args.sources.now) _ c.from_residual-in_err-text.result c.from_residual-in_err-text.ensures.1
 
 pub returns : goal.returns
 returns g c =

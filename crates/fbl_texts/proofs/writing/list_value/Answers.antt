@@ -17,3 +17,6 @@ pub returns-clause-value : goal.returns-clause-value
 returns-clause-value g c =
     let n = c.loop-item.item-index in
     view-Array c.loop-item.values ∙ ap (λ ds. array (items_of ds)) (c.loop-item.invariant.value ∙ ap (λ ys. map view c.args.front.items ++ map g.F.Form.form ys) (take_all n c.args.items.now c.loop-item-test.false))
+
+pub returns-clause-reads_back : goal.returns-clause-reads_back
+returns-clause-reads_back g c = rw (take_all _ _ c.loop-item-test.false) at c.loop-item.invariant.reads_back
