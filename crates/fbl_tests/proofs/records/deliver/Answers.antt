@@ -2,4 +2,4 @@ use Rattle.fbl_member.proofs.Once.{IsOnce-none}
 use Rattle.fbl_tests.proofs.records.deliver.Goals as goal
 
 pub new-wire-requires : goal.new-wire-requires
-new-wire-requires g c = rw c.none.ensures IsOnce-none
+new-wire-requires c = rw c.none.ensures IsOnce-none
