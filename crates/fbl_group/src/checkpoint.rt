@@ -62,7 +62,9 @@ impl<B: Behaviour, A: Allocator + Copy> Group<B, A> {
         ensures unchanged { OnErr result (self.new ≡ self.old) }
     {
         let place = usize::from(member.number());
-        let copy = self.members[place].copy()?;
+        let Ok(copy) = self.members[place].copy() else {
+            return Err(AllocError);
+        };
         self.checkpoints[place] = copy;
         Ok(())
     }

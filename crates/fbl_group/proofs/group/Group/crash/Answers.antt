@@ -12,3 +12,6 @@ returns-in-Ok-clause-holders g c d m left holds =
 
 pub returns-in-Ok-clause-crashed : goal.returns-in-Ok-clause-crashed
 returns-in-Ok-clause-crashed g c = (c.in_ok-struck.ensures.struck.0, (_, c.in_ok-struck.ensures.struck.1, c.in-Ok.ensures.recovered.1))
+
+pub returns-in-Err : goal.returns-in-Err
+returns-in-Err g c = record { crashed = tt; holders = tt; refused = (c.in_ok-struck.ensures.struck.0, (c.in_ok-struck.struck, rw c.in-Err.ensures.unchanged c.in_ok-struck.ensures.struck.1)) }

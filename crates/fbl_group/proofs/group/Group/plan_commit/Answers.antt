@@ -1,4 +1,5 @@
-use Rattle.fbl_group.proofs.Delivering.{◌≡◌, length, arith, sym, ◌∙◌, false≢true, is_full, is_current, is_fresh, is_planned}
+use Rattle.fbl_group.proofs.Delivering.{◌≡◌, length, ap, arith, sym, ◌∙◌, false≢true, is_full, is_current, is_fresh, is_planned}
+use Rattle.fbl_group.proofs.Common.{trace_fits}
 use Rattle.fbl_group.proofs.group.Group.plan_commit.Goals as goal
 
 pub returns-then-size-ticket-clause-refused : goal.returns-then-size-ticket-clause-refused
@@ -40,3 +41,12 @@ returns-clause-planned g c =
 
 pub front-requires : goal.front-requires
 front-requires g c = (let ends = c.args.done.now.ticket.ends in record { from = omega (arith, ends, c.size.ensures.value, c.if-size-ticket.false); to = omega (arith, ends, c.size.ensures.value, c.if-size-ticket.false) })
+
+pub returns-then-count-ne0-clause-refused : goal.returns-then-count-ne0-clause-refused
+returns-then-count-ne0-clause-refused g c = rw (c.count.ensures, c.down.ensures.down) at c.if-count-ne0.true
+
+pub record-member-requires : goal.record-member-requires
+record-member-requires g c = omega (arith, c.args.done.now.ticket.ends, c.size.ensures.value, c.if-size-ticket.false)
+
+pub is_full-requires-clause-len : goal.is_full-requires-clause-len
+is_full-requires-clause-len g c = omega (arith, trace_fits g.B.Behaviour.next c.args.self.now c.trace.ensures.sound, ap length c.trace.ensures.trace)

@@ -36,7 +36,7 @@ take_in-requires g c =
     let place : c.args.done.now.ticket.to < vec_len c.self.inside.members = rw (c.self.inside.members.ok.0, c.self.invariant.members) (rw (← c.self.view_is) at c.requires.to_member) in
     let may = planning.may_take_in g.met.B.Behaviour.laws.sends c.self.invariant c.self.view_is c.requires c.reserve_from.ensures.same
     (rw c.unwrap-wire.ensures at c.front.ensures.some) refl c.members-n.ensures.value in
-    search (rules, place, may)
+    (search rules, (place, may))
 
 pub invariant_of-self-in_default-take_in : goal.invariant_of-self-in_default-take_in
 invariant_of-self-in_default-take_in g c = rw (c.reserve_from.ensures.same, c.in_default-take_in.ensures.unchanged, c.reserve_from.ensures.trace) c.self.invariant
