@@ -160,20 +160,11 @@ module _ {S N : Type 0} (next : Next S N) (r : GroupRecord S N) (p q : ℕ) (t :
   here : front r t.from t.to ≡ Some message
   here = simp (ends.0, ends.1) taken.1.1
 
+  current : IsCurrent (member r t.to) message t
+  current = record { state = sym (is.state ∙ ap (λ k. (member r k).state) (sym is.to)); rsn = sym (is.rsn ∙ ap (λ k. (member r k).received + 1) (sym is.to)); ssn = sym is.ssn; note = sym is.note }
+
   fresh : IsFresh r t
-  fresh = (
-    sym is.n,
-    (
-      message,
-      here,
-      record {
-        state = sym (is.state ∙ ap (λ k. (member r k).state) (sym is.to));
-        rsn = sym (is.rsn ∙ ap (λ k. (member r k).received + 1) (sym is.to));
-        ssn = sym is.ssn;
-        note = sym is.note;
-      },
-    ),
-  )
+  fresh = (sym is.n, (message, here, current))
 
   same_step : next.step t.to t.n t.state t.note ≡ step_of next r message
   same_step = cc (is.to, is.n, is.state, is.note)

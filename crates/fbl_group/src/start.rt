@@ -53,12 +53,12 @@ fn send_starts<N: Content, A: Allocator + Copy>(
     for start in config.starts() {
         let Start { from, to, note } = *start;
         let ssn = count_sends(&trace, from) + 1;
-        trace.push(Event::Send {
+        trace.push_reserved(Event::Send {
             from,
             ssn,
             to,
             note,
-        })?;
+        });
         channels.send(Wire::new(from, to, ssn, note, Carried::none(alloc)))?;
     }
     Ok((trace, channels))

@@ -2,7 +2,7 @@ use Rattle.fbl_group.proofs.Queues.{ap, arith, length, at_drop_more, refl, sym, 
 use Rattle.fbl_group.proofs.start.send_starts.Goals as goal
 
 pub loop-start-init : goal.loop-start-init
-loop-start-init g c = let none = rw c.members.ensures.value at c.in_ok-channels.ensures in rw c.in_ok-trace.ensures.items (record { so_far = refl; made = c.in_ok-trace.ensures.len; shape = none-shape _ _ none; sent = λ q p. none-in _ _ q p none })
+loop-start-init g c = let none = rw c.members.ensures.value at c.in_ok-channels.ensures in rw c.in_ok-trace.ensures.items (record { so_far = refl; made = c.in_ok-trace.ensures.len; room = omega (arith, c.in_ok-trace.ensures.exact, ap length c.starts.ensures, ap length c.starts-start-items.ensures); shape = none-shape _ _ none; sent = λ q p. none-in _ _ q p none })
 
 pub count_sends-ssn-requires : goal.count_sends-ssn-requires
 count_sends-ssn-requires g c = omega (arith, c.deref.ensures.len, c.loop-start.invariant.made, c.loop-start-test.true, ap length c.starts-start-items.ensures, c.members.ensures.rules.few_starts)
@@ -20,9 +20,10 @@ loop-start-preserved g c =
     let next = (rw (← c.start-item.is) at (at_drop_more (start_events c.loop-start.trace.items) starts c.loop-start.start-index c.start-item.result c.loop-start-test.true)) in
     let number = rw c.deref.ensures.value at c.count_sends-ssn.ensures.value in
     let put = rw (c.new.ensures, c.none.ensures) at c.in_ok-send.ensures in
-    rw (c.in_ok-push.ensures.items, number) (record {
+    rw (c.push_reserved.ensures.items, number) (record {
       so_far = sym next ∙ so_far.so_far;
-      made = omega (arith, c.in_ok-push.ensures.len, so_far.made);
+      made = omega (arith, c.push_reserved.ensures.len, so_far.made);
+      room = omega (arith, c.push_reserved.ensures.capacity, so_far.room);
       shape = start-shape c.members.ensures.rules c.starts-start-items.ensures c.loop-start-test.true c.start-item.is so_far.shape _ put;
       sent = λ q p.
           start-sent c.members.ensures.rules c.starts-start-items.ensures c.loop-start-test.true c.start-item.is so_far.shape _ (rw number at put) q p
@@ -35,3 +36,6 @@ returns g c = record {
   shape = c.loop-start.invariant.shape;
   channels = c.loop-start.invariant.sent;
 }
+
+pub push_reserved-requires : goal.push_reserved-requires
+push_reserved-requires g c = omega (arith, c.loop-start.invariant.made, c.loop-start.invariant.room, c.loop-start-test.true)
