@@ -1,5 +1,4 @@
 use Rattle.fbl_group.proofs.Recovering.{◌∙◌, arith, refl, set-get_or, read_at}
-use Rattle.fbl_group.proofs.Common.{rules}
 use Rattle.fbl_group.proofs.deliver.take_in.Goals as goal
 
 pub returns-in_err-made-clause-unchanged : goal.returns-in_err-made-clause-unchanged
@@ -13,9 +12,3 @@ returns-clause-taken g c =
       numbered = c.received-rsn.ensures.value ∙ rw (c.in_ok-made.ensures.received, is) refl;
       sent = rw (c.in_ok-made.ensures.received, is) at c.in_ok-made.ensures.sent;
     }
-
-pub receive-requires : goal.receive-requires
-receive-requires g c =
-    let may = c.requires.may in
-    let is = read_at (g.B.Behaviour.next.initial 0 0) c.args.members.now.items (c.from.ensures ∙ c.number.ensures.value) (omega (arith, c.requires.place, c.args.members.now.ok.0)) c.index_mut-member.ensures.value in
-    (search rules, rw is (may.least, (may.most, (may.member, (may.to_me, (may.newer, (may.not_held, (may.not_carried, (may.step, (may.receipts, may.sends))))))))))

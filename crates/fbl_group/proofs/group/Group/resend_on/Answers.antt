@@ -8,12 +8,3 @@ returns g c =
     let sent = rw (c.last_from-last.ensures, c.working-sender.ensures, c.working.ensures) at c.in_ok-unsent.ensures in
     let put = rw (c.f.ensures, c.config.ensures, c.table.ensures, c.working-sender.ensures) at c.put_again.ensures in
     record { passed = put.passed; made = rw (← (rw c.down.ensures.down at c.has_either.ensures), c.if-not-has_either.false) (rw (c.as_slice.ensures.value, sent) at put.made) }
-
-pub returns-then-not-has_either : goal.returns-then-not-has_either
-returns-then-not-has_either g c = record { passed = c.requires.passed; made = rw (← (rw c.down.ensures.down at c.has_either.ensures), c.if-not-has_either.true) c.new.ensures.items }
-
-pub working-sender-requires : goal.working-sender-requires
-working-sender-requires g c = record { size = c.requires.size; member = c.requires.from }
-
-pub working-requires : goal.working-requires
-working-requires g c = record { size = c.requires.size; member = c.requires.to }
