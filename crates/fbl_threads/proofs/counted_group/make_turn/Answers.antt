@@ -11,6 +11,18 @@ pub add-requires-clause-fits : goal.add-requires-clause-fits
 add-requires-clause-fits g c =
     omega (arith, at-within _ _ c.requires.places.0, c.requires.counted.0, c.in_default.ensures.committed.1.1.2.delivery.receipts_ever, c.receipts_ever-ever.ensures, c.receipts_ever-ever.type_inv)
 
+pub add-requires-clause-place : goal.add-requires-clause-place
+add-requires-clause-place g c = c.requires.places.0
+
+pub keep-requires : goal.keep-requires
+keep-requires g c = c.in_default.ensures.room
+
+pub keep-requires-2 : goal.keep-requires-2
+keep-requires-2 g c = c.in_default.ensures.room
+
+pub crash-recovery-requires-clause-place : goal.crash-recovery-requires-clause-place
+crash-recovery-requires-clause-place g c = c.requires.places.1
+
 pub crash-recovery-requires-clause-counted : goal.crash-recovery-requires-clause-counted
 crash-recovery-requires-clause-counted g c = omega (arith, c.requires.counted.1, c.in_default.ensures.committed.1.1.2.delivery.undone_ever)
 

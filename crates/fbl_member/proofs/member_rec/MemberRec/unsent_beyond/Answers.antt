@@ -6,6 +6,3 @@ loop-place-preserved g c = grind (arith, common_steps)
 
 pub returns : goal.returns
 returns g c = grind (arith, common_steps)
-
-pub loop-place-init : goal.loop-place-init
-loop-place-init g c = rw c.new-beyond.ensures.items

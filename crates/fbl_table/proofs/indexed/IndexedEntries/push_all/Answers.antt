@@ -1,4 +1,4 @@
-use Rattle.fbl_table.proofs.Common.{[], ◌∷◌, ap, arith, length, listed, piggybacked, length-append, append-nil, append_assoc, drop_all, nat_tests}
+use Rattle.fbl_table.proofs.Common.{[], ◌∷◌, ap, arith, length, listed, piggybacked, length-append, append_assoc, nat_tests}
 use Rattle.fbl_table.proofs.Indexing.{passed-next}
 use Rattle.fbl_table.proofs.indexed.IndexedEntries.push_all.Goals as goal
 
@@ -10,6 +10,3 @@ push_if_open-requires g c =
 
 pub loop-place-preserved : goal.loop-place-preserved
 loop-place-preserved g c = grind (arith, nat_tests, append_assoc, passed-next)
-
-pub returns : goal.returns
-returns g c = rw (← c.loop-place.invariant.so_far, drop_all c.loop-place.place (listed c.args.self.now) (omega arith), append-nil)

@@ -1,14 +1,11 @@
-use Rattle.fbl_table.proofs.Common.{◌≡◌, ◌∷◌, ◌++◌, ◌+◌, ◌∙◌, ap, arith, drop, drop_next, length, slice_get, filter_map, listed, append_assoc, length-append, piggybacked, refl, slice_get-get_or}
+use Rattle.fbl_table.proofs.Common.{◌≡◌, ◌∷◌, ◌++◌, ◌+◌, ◌∙◌, ap, arith, drop, drop_next, length, slice_get, filter_map, listed, append_assoc, length-append, piggybacked, slice_get-get_or, nat_tests}
 use Rattle.fbl_table.proofs.Indexing.{open-piggybacked, open-within}
 use Rattle.fbl_table.proofs.indexed.IndexedEntries.push_open.Goals as goal
 use Rattle.fbl_table.proofs.indexed.IndexedEntries.push_open.Goals.{After-entry_at}
 use Rattle.fbl_table.proofs.indexed.IndexedEntries.push_open.Given.{Over}
 
 pub loop-place-init : goal.loop-place-init
-loop-place-init g c =
-    let kept = c.args.self.now in
-    let opened = open-piggybacked kept.limit (listed kept) kept.open_places.items (rw c.requires.exact at c.requires.indexed) in
-    record { so_far = rw opened; room = refl }
+loop-place-init g c = grind (arith, nat_tests, open-piggybacked)
 
 pub entry_at-requires : goal.entry_at-requires
 entry_at-requires g c =
@@ -20,11 +17,7 @@ entry_at-requires g c =
 left : (g : Over) (c : After-entry_at g) → c.loop-place.carried.items
     ++ (c.entry_at.result ∷ filter_map (slice_get (listed c.args.self.now)) (drop (c.loop-place.place-index + 1) c.args.self.now.open_places.items))
     ≡ c.args.carried.now.items ++ piggybacked c.args.self.now.limit (listed c.args.self.now)
-left g c =
-    let places = c.args.self.now.open_places.items in
-    let below = rw c.deref-place-items.ensures.value at c.loop-place-test.true in
-    let next = drop_next places c.loop-place.place-index _ (slice_get-get_or places c.loop-place.place-index 0 below) in
-    rw (next, (rw c.deref-place-items.ensures.value at c.entry_at.ensures)) at c.loop-place.invariant.so_far
+left g c = grind (arith, nat_tests, slice_get-get_or, drop_next)
 
 pub push_reserved-requires : goal.push_reserved-requires
 push_reserved-requires g c =
