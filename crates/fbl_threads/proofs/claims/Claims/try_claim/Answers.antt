@@ -7,6 +7,5 @@ compare_exchange-found-requires g c = (search rules, search rules, rw c.pass.inv
 
 pub invariant_of-result : goal.invariant_of-result
 invariant_of-result g c =
-    let free : c.compare_exchange-found.result ≡ 0 = omega arith in
-    let at = rw free at c.compare_exchange-found.ensures.2 in
+    let free : c.compare_exchange-found.result ≡ 0 = omega arith in let at = rw free at c.compare_exchange-found.ensures.2 in
     (search rules, search rules)
