@@ -62,9 +62,7 @@ impl<B: Behaviour, A: Allocator + Copy> Group<B, A> {
         ensures unchanged { OnErr result (self.new ≡ self.old) }
     {
         let place = usize::from(member.number());
-        let Ok(copy) = self.members[place].copy() else {
-            return Err(AllocError);
-        };
+        let copy = self.members[place].copy()?;
         self.checkpoints[place] = copy;
         Ok(())
     }

@@ -12,14 +12,24 @@ const MARK: &[u8] = b"\xef\xbb\xbf";
 /// What stands where the reader of JSON stopped.
 #[derive(Debug, Drop)]
 pub(crate) enum Stop {
-    /// What these words name.
-    Named(&'static str),
+    /// A byte order mark, at the start.
+    ByteOrderMark,
+    /// Bytes that are not UTF-8.
+    NotUtf8,
+    /// The end of a text that has nothing but spaces.
+    Nothing,
     /// The end of a text that goes on, with so many lists and objects open.
     End(usize),
+    /// What closes a list, behind a comma.
+    ListEnd,
+    /// What closes an object, behind a comma.
+    ObjectEnd,
     /// A number that is too great. It stands before the place.
     GreatNumber(String),
     /// This character.
     Character(char),
+    /// Nothing that can be named.
+    Unknown,
 }
 
 /// The place of the byte in this column of this line, both from 1.
@@ -48,10 +58,10 @@ fn stop_at(text: &str, place: usize) -> Stop {
     let front = text.as_bytes().get(..place).unwrap_or(&[]);
     let after_comma = last_byte(front) == Some(b',');
     match text.get(place..).and_then(|rest| rest.chars().next()) {
-        Some(']') if after_comma => Stop::Named(": ] stands behind a comma, and a value is wanted"),
-        Some('}') if after_comma => Stop::Named(": } stands behind a comma, and a key is wanted"),
+        Some(']') if after_comma => Stop::ListEnd,
+        Some('}') if after_comma => Stop::ObjectEnd,
         Some(character) => Stop::Character(character),
-        None => Stop::Named(""),
+        None => Stop::Unknown,
     }
 }
 
@@ -97,13 +107,10 @@ fn great_number_at(alloc: Global, text: &str, place: usize) -> Result<Option<Str
 /// What stands where the reader of JSON stopped in the text.
 fn stop_in_text(alloc: Global, text: &str, error: &JsonError) -> Result<Stop, AllocError> {
     if text.trim_ascii().is_empty() {
-        return Ok(Stop::Named(": nothing stands there, and { is wanted"));
+        return Ok(Stop::Nothing);
     }
     if error.is_eof() {
-        return match open_in(alloc, text)? {
-            0 => Ok(Stop::Named(": the text ends too early")),
-            open => Ok(Stop::End(open)),
-        };
+        return Ok(Stop::End(open_in(alloc, text)?));
     }
     let place = place_of(text.as_bytes(), error.line(), error.column());
     match great_number_at(alloc, text, place)? {
@@ -117,11 +124,11 @@ impl Stop {
     /// for it.
     pub(crate) fn of(alloc: Global, input: &[u8], error: &JsonError) -> Result<Stop, AllocError> {
         if input.starts_with(MARK) {
-            return Ok(Stop::Named(": a byte order mark stands there, and { is wanted"));
+            return Ok(Stop::ByteOrderMark);
         }
         match str::from_utf8(input) {
             Ok(text) => stop_in_text(alloc, text, error),
-            Err(_) => Ok(Stop::Named(": what stands there is not UTF-8")),
+            Err(_) => Ok(Stop::NotUtf8),
         }
     }
 }
@@ -130,8 +137,13 @@ impl Stop {
 impl fmt::Display for Stop {
     fn fmt<W: fmt::Write>(&self, f: &mut fmt::Formatter<W>) -> fmt::Result {
         match self {
-            Stop::Named(words) => f.write_str(words),
+            Stop::ByteOrderMark => f.write_str(": a byte order mark stands there, and { is wanted"),
+            Stop::NotUtf8 => f.write_str(": what stands there is not UTF-8"),
+            Stop::Nothing => f.write_str(": nothing stands there, and { is wanted"),
+            Stop::End(0) => f.write_str(": the text ends too early"),
             Stop::End(open) => write!(f, ": the text ends too early, with brackets open: {open}"),
+            Stop::ListEnd => f.write_str(": ] stands behind a comma, and a value is wanted"),
+            Stop::ObjectEnd => f.write_str(": } stands behind a comma, and a key is wanted"),
             Stop::GreatNumber(number) => {
                 let number = ShownText(number.as_str());
                 write!(
@@ -140,6 +152,7 @@ impl fmt::Display for Stop {
                 )
             }
             Stop::Character(character) => write!(f, ": {character:?} stands there"),
+            Stop::Unknown => Ok(()),
         }
     }
 }

@@ -2,7 +2,7 @@ use Rattle.fbl_group.proofs.Striking.{◌∙◌, arith, subst, IsSound, group_ch
 use Rattle.fbl_group.proofs.group.Group.save.Goals as goal
 
 pub returns-clause-saved : goal.returns-clause-saved
-returns-clause-saved g c = is_checkpoint c.self.invariant c.self.view_is (c.from-place.ensures ∙ c.number.ensures.value) c.requires.below c.requires.nobody_down c.in-Ok.ensures c.index.ensures
+returns-clause-saved g c = is_checkpoint c.self.invariant c.self.view_is (c.from-place.ensures ∙ c.number.ensures.value) c.requires.below c.requires.nobody_down c.in_ok-copy.ensures c.index.ensures
 
 pub invariant_of-self : goal.invariant_of-self
 invariant_of-self g c = group_checkpoint_keeps _ _ g.B.Behaviour.next _ _ _ (returns-clause-saved g c) (subst (IsSound g.B.Behaviour.next) c.self.view_is c.self.invariant)
