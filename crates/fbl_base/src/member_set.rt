@@ -94,6 +94,7 @@ impl MemberSet {
     }
 
     /// The members of either set.
+    #[tactic(auto, using(crate::proofs::Sets::union_bits))]
     pub fn union(self, other: MemberSet) -> MemberSet
         ensures { result ≡ set.union self other }
     {
