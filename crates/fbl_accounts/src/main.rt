@@ -2,7 +2,7 @@
 //! deliver the rest, and strike and recover another account on the way. No money is made or lost.
 #![tactic(auto)]
 
-ghost use Rattle.std.specs.Prelude.{◌≡◌, ◌≤◌, true};
+ghost use Rattle.std.specs.Prelude.{◌≡◌, ◌≤◌, true, IfOk, OnOk};
 ghost use Rattle.std.specs.FinSet as set;
 ghost use Rattle.fbl_accounts.specs.Accounts.{opened};
 
@@ -12,7 +12,7 @@ use account::Account;
 use anyhow::{Result, ensure};
 use fbl_base::{Config, Member, MemberSet, Note, Start, Strike};
 use fbl_group::Group;
-use fbl_threads::{NoGate, drain};
+use fbl_threads::{DrainRefusal, Drained, NoGate, drain};
 use std::alloc::Global;
 use std::sync::Wait;
 use std::thread::Threads;
@@ -56,29 +56,55 @@ fn is_settled(group: &Group<Account>) -> bool
     group.is_quiet()
 }
 
-/// Runs the accounts until no payment is in flight.
-fn run<R: Print + Threads + Wait + Sync>(rt: &R, alloc: Global) -> Result<()> {
-    let a = Member::at(0);
-    let b = Member::at(1);
-    let c = Member::at(2);
+/// Three accounts, which hold 600 in all. Each is asked to pay.
+fn open(alloc: Global) -> Result<Group<Account>>
+    ensures opened { IfOk result (λ group. opened group.config ≡ 600) }
+    ensures nobody { IfOk result (λ group. group.down ≡ set.empty) }
+{
+    let (a, b, c) = (Member::at(0), Member::at(1), Member::at(2));
     let starts = [asking(b, a), asking(c, b), asking(a, c)];
     let config = Config::new(alloc, 3, 1, 8192, &starts)?;
-    let mut group = Group::<Account>::new(alloc, config)?;
+    Ok(Group::<Account>::new(alloc, config)?)
+}
+
+/// Delivers some payments, and strikes and recovers an account.
+fn begin<R: Print>(rt: &R, group: &mut Group<Account>) -> Result<()>
+    requires opened { opened group.old.config ≡ 600 }
+    requires nobody { group.old.down ≡ set.empty }
+    ensures { OnOk result (opened group.new.config ≡ 600) }
+{
+    let (a, b, c) = (Member::at(0), Member::at(1), Member::at(2));
     for (to, from) in [(a, b), (b, c), (c, b), (b, a)] {
         group.deliver(to, from)?;
     }
-    report(rt, "delivered", &group)?;
+    report(rt, "delivered", group)?;
     group.strike(MemberSet::empty().with(b))?;
     let recovered = group.recover()?;
     println!(rt; "account 1 struck: receipts undone {}", recovered.undone)?;
-    report(rt, "recovered", &group)?;
-    let set = MemberSet::empty().with(c);
+    report(rt, "recovered", group)
+}
+
+/// Reports what a drain leaves.
+fn end<R: Print>(
+    rt: &R,
+    group: &Group<Account>,
+    drained: Result<Drained, DrainRefusal>,
+) -> Result<()>
+    requires { opened group.now.config ≡ 600 }
+{
+    drained?;
+    ensure!(is_settled(group), "payments are left in flight");
+    report(rt, "drained", group)
+}
+
+/// Runs the accounts until no payment is in flight.
+fn run<R: Print + Threads + Wait + Sync>(rt: &R, alloc: Global) -> Result<()> {
+    let mut group = open(alloc)?;
+    begin(rt, &mut group)?;
+    let set = MemberSet::empty().with(Member::at(2));
     let plan = [Strike { at: 20, set }];
     let (group, drained) = drain(rt, alloc, group, &plan, 2, 1_000_000, &NoGate);
-    drained?;
-    ensure!(is_settled(&group), "payments are left in flight");
-    report(rt, "drained", &group)?;
-    Ok(())
+    end(rt, &group, drained)
 }
 
 fn main(rt: HostRuntime) -> Result<()> {

@@ -2,7 +2,7 @@
 //! it is struck and recovered, and then two workers deliver the rest, and strike and recover another member on the way.
 #![tactic(auto)]
 
-ghost use Rattle.std.specs.Prelude.{◌≡◌, ◌≤◌, ◌<◌, ℕ, IsTrue};
+ghost use Rattle.std.specs.Prelude.{◌≡◌, ◌≤◌, ◌<◌, ℕ, IsTrue, IfOk, OnOk};
 ghost use Rattle.fbl_group.specs.Readers.{is_quiet};
 ghost use Rattle.fbl_law.specs.Groups.{member as record_of};
 ghost use Rattle.fbl_law.specs.StepLaws.{HoldsOf};
@@ -14,7 +14,7 @@ use anyhow::{Result, ensure};
 use candidate::Candidate;
 use fbl_base::{Config, Member, MemberSet, Note, Start, Strike};
 use fbl_group::Group;
-use fbl_threads::{NoGate, drain};
+use fbl_threads::{DrainRefusal, Drained, NoGate, drain};
 use std::alloc::Global;
 use std::sync::Wait;
 use std::thread::Threads;
@@ -70,12 +70,12 @@ fn declare<R: Print>(rt: &R, group: &Group<Candidate>) -> Result<()>
     Ok(())
 }
 
-/// Runs the election until nothing is in flight.
-fn run<R: Print + Threads + Wait + Sync>(rt: &R, alloc: Global) -> Result<()> {
-    let a = Member::at(0);
-    let b = Member::at(1);
-    let c = Member::at(2);
-    let d = Member::at(3);
+/// Four members in a ring, in which the greatest identifier is 9 and is to reach all.
+fn open(alloc: Global) -> Result<Group<Candidate>>
+    ensures greatest { IfOk result (λ group. greatest group.config.starts ≡ 9) }
+    ensures reaches { IfOk result (λ group. ReachesAll group.config) }
+{
+    let (a, b, c, d) = (Member::at(0), Member::at(1), Member::at(2), Member::at(3));
     let starts = [
         bringing(d, a, 7),
         bringing(a, b, 3),
@@ -83,21 +83,48 @@ fn run<R: Print + Threads + Wait + Sync>(rt: &R, alloc: Global) -> Result<()> {
         bringing(c, d, 5),
     ];
     let config = Config::new(alloc, 4, 1, 8192, &starts)?;
-    let mut group = Group::<Candidate>::new(alloc, config)?;
+    Ok(Group::<Candidate>::new(alloc, config)?)
+}
+
+/// Delivers some notes, and strikes and recovers the one member that has the greatest identifier.
+fn begin<R: Print>(rt: &R, group: &mut Group<Candidate>) -> Result<()>
+    requires { greatest group.old.config.starts ≡ 9 }
+    ensures { OnOk result (group.new.config ≡ group.old.config) }
+{
+    let (a, b, c, d) = (Member::at(0), Member::at(1), Member::at(2), Member::at(3));
     for (to, from) in [(a, d), (b, a), (b, a), (c, b)] {
         group.deliver(to, from)?;
     }
-    report(rt, "delivered", &group)?;
+    report(rt, "delivered", group)?;
     group.strike(MemberSet::empty().with(c))?;
-    report(rt, "member 2 struck", &group)?;
+    report(rt, "member 2 struck", group)?;
     let recovered = group.recover()?;
     println!(rt; "receipts undone {}", recovered.undone)?;
-    report(rt, "recovered", &group)?;
-    let set = MemberSet::empty().with(d);
+    report(rt, "recovered", group)
+}
+
+/// Prints what a drain leaves.
+fn end<R: Print>(
+    rt: &R,
+    group: &Group<Candidate>,
+    drained: Result<Drained, DrainRefusal>,
+) -> Result<()>
+    requires greatest { greatest group.now.config.starts ≡ 9 }
+    requires reaches { ReachesAll group.now.config }
+{
+    drained?;
+    ensure!(group.is_quiet(), "identifiers are left in flight");
+    declare(rt, group)
+}
+
+/// Runs the election until nothing is in flight.
+fn run<R: Print + Threads + Wait + Sync>(rt: &R, alloc: Global) -> Result<()> {
+    let mut group = open(alloc)?;
+    begin(rt, &mut group)?;
+    let set = MemberSet::empty().with(Member::at(3));
     let plan = [Strike { at: 8, set }];
     let (group, drained) = drain(rt, alloc, group, &plan, 2, 1_000_000, &NoGate);
-    ensure!(drained?.quiet, "identifiers are left in flight");
-    declare(rt, &group)
+    end(rt, &group, drained)
 }
 
 fn main(rt: HostRuntime) -> Result<()> {

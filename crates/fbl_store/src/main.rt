@@ -4,7 +4,7 @@
 //! never more than the starts bring.
 #![tactic(auto)]
 
-ghost use Rattle.std.specs.Prelude.{◌≡◌, ℕ, ◌<◌, ◌≤◌, ◌==◌, slice_index, if◌then◌else◌};
+ghost use Rattle.std.specs.Prelude.{◌≡◌, ℕ, ◌<◌, ◌≤◌, ◌==◌, slice_index, if◌then◌else◌, IfOk, OnOk};
 ghost use Rattle.fbl_law.specs.Groups.{knowledge, member as record_of, received_notes};
 ghost use Rattle.fbl_law.specs.Knowledge.{IsUp};
 ghost use Rattle.fbl_store.specs.Commands.{amount_of, made_of};
@@ -17,7 +17,7 @@ use anyhow::{Result, ensure};
 use command::Command;
 use fbl_base::{Config, Member, MemberSet, Start, Strike};
 use fbl_group::Group;
-use fbl_threads::{NoGate, drain};
+use fbl_threads::{DrainRefusal, Drained, NoGate, drain};
 use shard::Shard;
 use std::alloc::Global;
 use std::sync::Wait;
@@ -65,11 +65,11 @@ fn report<R: Print>(rt: &R, when: &str, group: &Group<Shard>) -> Result<()>
     Ok(())
 }
 
-/// Runs the store until no command is in flight.
-fn run<R: Print + Threads + Wait + Sync>(rt: &R, alloc: Global) -> Result<()> {
-    let a = Member::at(0);
-    let b = Member::at(1);
-    let c = Member::at(2);
+/// Three members, of whom two ask others for what the starts bring: 50 in all.
+fn open(alloc: Global) -> Result<Group<Shard>>
+    ensures { IfOk result (λ group. amount_brought group.config ≡ 50) }
+{
+    let (a, b, c) = (Member::at(0), Member::at(1), Member::at(2));
     let starts = [
         asking(a, b, Command::Put { key: 3, value: 40 }),
         asking(a, b, Command::Add { key: 3, amount: 2 }),
@@ -77,21 +77,41 @@ fn run<R: Print + Threads + Wait + Sync>(rt: &R, alloc: Global) -> Result<()> {
         asking(c, a, Command::Add { key: 4, amount: 1 }),
     ];
     let config = Config::new(alloc, 3, 1, 8192, &starts)?;
-    let mut group = Group::<Shard>::new(alloc, config)?;
+    Ok(Group::<Shard>::new(alloc, config)?)
+}
+
+/// Delivers some commands, and strikes and recovers a member.
+fn begin<R: Print>(rt: &R, group: &mut Group<Shard>) -> Result<()>
+    requires { amount_brought group.old.config ≡ 50 }
+    ensures { OnOk result (amount_brought group.new.config ≡ 50) }
+{
+    let (a, b, c) = (Member::at(0), Member::at(1), Member::at(2));
     for (to, from) in [(b, a), (c, b), (c, b), (a, c), (a, c)] {
         group.deliver(to, from)?;
     }
-    report(rt, "delivered", &group)?;
+    report(rt, "delivered", group)?;
     group.strike(MemberSet::empty().with(a))?;
     let recovered = group.recover()?;
     println!(rt; "member 0 struck: receipts undone {}", recovered.undone)?;
-    report(rt, "recovered", &group)?;
-    let set = MemberSet::empty().with(c);
+    report(rt, "recovered", group)
+}
+
+/// Reports what a drain leaves.
+fn end<R: Print>(rt: &R, group: &Group<Shard>, drained: Result<Drained, DrainRefusal>) -> Result<()>
+    requires { amount_brought group.now.config ≡ 50 }
+{
+    ensure!(drained?.quiet, "commands are left in flight");
+    report(rt, "drained", group)
+}
+
+/// Runs the store until no command is in flight.
+fn run<R: Print + Threads + Wait + Sync>(rt: &R, alloc: Global) -> Result<()> {
+    let mut group = open(alloc)?;
+    begin(rt, &mut group)?;
+    let set = MemberSet::empty().with(Member::at(2));
     let plan = [Strike { at: 8, set }];
     let (group, drained) = drain(rt, alloc, group, &plan, 2, 1_000_000, &NoGate);
-    ensure!(drained?.quiet, "commands are left in flight");
-    report(rt, "drained", &group)?;
-    Ok(())
+    end(rt, &group, drained)
 }
 
 fn main(rt: HostRuntime) -> Result<()> {
