@@ -162,7 +162,7 @@ def try_tests_without_memory(refuser, _, tally):
             tally.note(ran.status == 0, f"{test}, request {number}: {ran}")
             told += ran.text + ran.fault
         tally.note(wanted in told, f"{test} never told {wanted}")
-        tally.note(number > 10, f"{test} asked for memory {number - 1} times alone")
+        tally.note(number > 2, f"{test} asked for memory {number - 1} times alone")
 
 
 def refusals():
