@@ -1,60 +1,35 @@
 -- The names that proofs of this crate take from outside: of the standard library, of the crates below, and of the definitions here.
-pub use Rattle.std.proofs.Common.{Bool, List, None, Option, Some, [], ap, append-nil, arith, below_more, cond, eq-eqb, eqb, false, filter, find, get_or, get_or-set_other, get_or-set_same, inl, inr}
-pub use Rattle.std.proofs.Common.{length-append, not, ◌≢◌, ◌==◌, ◌||◌, ◌↔◌, ◌∙◌, ◌∷◌, ◌≡◌, ◌≤◌, ◌⊎◌}
-pub use Rattle.std.proofs.Common.{length, length-set, map, ne_eqb, option_map, refl, rules, set, slice_index, subst, suc, sum, sym, take, true, true≢false, zero, ℕ, ◌++◌, ◌+◌, ◌<◌}
-pub use Rattle.std.proofs.Math.ListN.{replicate}
-pub use Rattle.std.proofs.Math.Logic.{∥∥₁_elim, ∥∥₁_map}
-pub use Rattle.std.proofs.lemmas.Bool.{cases_eq, cases_lt}
+pub use Rattle.std.proofs.Common.{Bool, List, Some, [], ap, append-nil, arith, cond, get_or-set_other, get_or-set_same, inl, inr}
+pub use Rattle.std.proofs.Common.{length-append, ◌≢◌, ◌==◌, ◌∙◌, ◌∷◌, ◌≡◌, ◌≤◌, ◌⊎◌}
+pub use Rattle.std.proofs.Common.{length, option_map, refl, slice_index, sum, sym, ℕ, ◌++◌, ◌+◌, ◌<◌}
+pub use Rattle.std.proofs.Math.Logic.{∥∥₁_elim}
+pub use Rattle.std.proofs.lemmas.Bool.{cases_eq}
 pub use Rattle.std.proofs.lemmas.Bool.Decides.{nat_tests}
-pub use Rattle.std.proofs.lemmas.List.{ext_get_or, length-replicate, length-take, set-get_or, take-append-le, take_all}
-pub use Rattle.std.proofs.lemmas.List.Elements.{filter-append}
 pub use Rattle.std.proofs.lemmas.List.Folds.{sum_by-replicate}
-pub use Rattle.std.proofs.lemmas.List.Sums.{get_or-le-sum_by, sum_by-set, sum_by_push}
-pub use Rattle.std.specs.Cmp.{nat_cmp_total}
-pub use Rattle.std.specs.Coded.{Coded, Coded-set, coded_ℕ, codes}
-pub use Rattle.std.specs.Option.{is_none, is_some}
+pub use Rattle.std.proofs.lemmas.List.Sums.{sum_by_push}
+pub use Rattle.std.specs.Coded.{Coded-set, coded_ℕ, codes}
 pub use Rattle.std.specs.Ordering.{nat_cmp}
-pub use Rattle.atomic_table.proofs.Lists.{at_longer, at_set, at_snoc, set_again, set_else}
-pub use Rattle.atomic_table.specs.Table.{Allows, Joins, Splits, State, keeps}
 pub use Rattle.fbl_base.proofs.Gets.{At-push, get_or-same}
-pub use Rattle.fbl_base.specs.Configs.{Settings}
-pub use Rattle.fbl_base.specs.Events.{mark_of, member_of}
 pub use Rattle.fbl_base.specs.Fold.{Next}
-pub use Rattle.fbl_base.specs.MemberSets.{Members, same_from_contains}
-pub use Rattle.fbl_base.specs.Breaches.{IsPlan, MayBeStruck, set_at}
-pub use Rattle.fbl_base.specs.Precedence.{Has}
+pub use Rattle.fbl_base.specs.MemberSets.{Members}
 pub use Rattle.fbl_base.specs.declared.strike.Strike.{Strike}
-pub use Rattle.fbl_base.specs.declared.trace.Event.{Event}
-pub use Rattle.fbl_base.specs.declared.trace.Mark.{Mark}
-pub use Rattle.fbl_group.proofs.Striking.{is_allowed}
-pub use Rattle.fbl_group.specs.Records.{Commits, IsPlannedCrash, IsRecoveryRecord, StrikeLeads, TurnLeads, TurnsLead}
-pub use Rattle.fbl_group.specs.Strikes.{Recovers, strike_refusal}
-pub use Rattle.fbl_group.specs.Deliveries.{RefusesCommit}
 pub use Rattle.fbl_group.specs.declared.answers.Recovered.{Recovered}
 pub use Rattle.fbl_group.specs.declared.record.CrashRecord.{CrashRecord}
-pub use Rattle.fbl_group.specs.declared.record.RecoveryRecord.{RecoveryRecord}
 pub use Rattle.fbl_group.specs.declared.record.TurnRecord.{TurnRecord}
-pub use Rattle.fbl_group.specs.declared.refusals.CommitRefusal.{CommitRefusal}
-pub use Rattle.fbl_group.specs.declared.refusals.CommitRefusal.TheVariants.{Down, Full, Memory, Stale}
 pub use Rattle.fbl_base.specs.declared.ticket.Ticket.{Ticket}
-pub use Rattle.fbl_law.specs.GroupSteps.{IsDelivery, IsStrike, delivery_events, IsEventCut, Stays}
-pub use Rattle.fbl_law.specs.Groups.{GroupRecord, knowledge, member}
-pub use Rattle.fbl_member.specs.Members.{Message}
-pub use lib.ListN.{get_elem?}
-pub use mathlib.Core.Logic.{dite, ⊎_elim}
-pub use mathlib.Core.Option.{some, some-ne-none}
-pub use native.Mathlib.Decide.{ℕ_discrete}
-pub use prog.Atomic.{either}
-pub use Rattle.fbl_threads.specs.Claims.{HasOneHolder, IsClaimed, IsExclusive, IsFree, IsSaidBy, ViewHolds, WordsFollowViews}
-pub use Rattle.fbl_threads.specs.Counted.{counts_of}
+pub use Rattle.fbl_law.specs.Groups.{GroupRecord}
+pub use mathlib.Core.Logic.{⊎_elim}
+pub use Rattle.fbl_turns.proofs.Keeping.{kept, sum-more}
+pub use Rattle.fbl_turns.proofs.Kept.{kept_by_some, still}
+pub use Rattle.fbl_turns.proofs.Recording.{forgets, listed, some_run}
+pub use Rattle.fbl_turns.specs.Counted.{counts_of}
 pub use Rattle.fbl_threads.specs.Crossing.{StrikesAsPlanned, planned_at, struck_in, struck_on}
-pub use Rattle.fbl_threads.specs.Pasts.{Keeps, TurnsKeep, events_of}
-pub use Rattle.fbl_threads.specs.Plans.{is_named, struck_at}
-pub use Rattle.fbl_threads.specs.Recorded.{IsReceiptRecord, IsRecordedAs, ReachedBy, RecordedTurnsLead, TellsCounts, crash_undid, made_by, undone_in, undone_of}
-pub use Rattle.fbl_threads.specs.Recorded.ReachedBy.{begins, goes_on}
-pub use Rattle.fbl_threads.specs.Recorders.{CountsRefusal, CrashesAs, IsAdded, ReachedAs, TurnAs, recorded, with_record}
-pub use Rattle.fbl_threads.specs.Runs.{Counts, Reached, Turn, commits_one, more_at, nothing_done, undoes}
-pub use Rattle.fbl_threads.specs.Runs.Reached.{starts, turns}
-pub use Rattle.fbl_threads.specs.Runs.Turn.{commits, crashes, is_full, is_late, strikes, wants}
+pub use Rattle.fbl_turns.specs.Pasts.{Keeps}
+pub use Rattle.fbl_turns.specs.Plans.{struck_at}
+pub use Rattle.fbl_turns.specs.Recorded.{ReachedBy, TellsCounts, crash_undid, made_by, undone_in, undone_of}
+pub use Rattle.fbl_turns.specs.Recorded.ReachedBy.{begins, goes_on}
+pub use Rattle.fbl_turns.specs.Recorders.{recorded}
+pub use Rattle.fbl_turns.specs.Runs.{Counts, Reached, Turn, more_at}
+pub use Rattle.fbl_turns.specs.Runs.Reached.{starts, turns}
+pub use Rattle.fbl_turns.specs.Runs.Turn.{commits, crashes, strikes}
 pub use Rattle.fbl_threads.specs.Stages.{IsOf}
-pub use Rattle.fbl_threads.specs.Turns.{MayTake}

@@ -2,10 +2,8 @@
 use Rattle.fbl_threads.proofs.Common.{◌≡◌, ◌≢◌, ℕ, ◌+◌, ◌<◌, ◌==◌, ◌∙◌, ◌∷◌, ◌++◌, [], cond, List, sym, ap, arith, inl, inr, length, length-append, append-nil, nat_tests, option_map, slice_index}
 use Rattle.fbl_threads.proofs.Common.{get_or-set_same, get_or-set_other, sum, sum_by_push, sum_by-replicate, cases_eq, get_or-same, At-push, ⊎_elim, Next, Strike, GroupRecord, struck_at, Counts}
 use Rattle.fbl_threads.proofs.Common.{more_at, commits, crashes, strikes, TurnRecord, CrashRecord, ReachedBy, TellsCounts, begins, goes_on, made_by, undone_of, undone_in, crash_undid, Keeps}
-use Rattle.fbl_threads.proofs.Common.{Recovered, ∥∥₁_elim, Coded-set, coded_ℕ, codes, nat_cmp}
+use Rattle.fbl_threads.proofs.Common.{Recovered, forgets, kept, sum-more, ∥∥₁_elim, Coded-set, coded_ℕ, codes, nat_cmp}
 use Rattle.std.specs.FinSet as set
-use Rattle.fbl_threads.proofs.Keeping.{kept, sum-more}
-use Rattle.fbl_threads.proofs.Recording.{forgets}
 
 -- so many more at a place
 record MoreAt (w n : ℕ) (old new : List ℕ) : Type 0 where

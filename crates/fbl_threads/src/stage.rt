@@ -1,7 +1,7 @@
 //! How far a worker is with its turns.
 
-use crate::claims::{Claim, Pass};
 use fbl_group::Ticket;
+use fbl_turns::{Claim, Pass};
 
 /// How far a worker is with its turn, between two holds of the lock.
 pub(crate) enum Stage<S, N> {

@@ -1,4 +1,4 @@
-use Rattle.fbl_threads.proofs.Recording.{listed}
+use Rattle.fbl_threads.proofs.Common.{listed}
 use Rattle.fbl_threads.proofs.Telling.{tells_some}
 use Rattle.fbl_threads.proofs.draining.drain_recorded.Goals as goal
 

@@ -1,6 +1,0 @@
-use Rattle.fbl_threads.proofs.Common.{rules, ap}
-use Rattle.fbl_threads.proofs.Exclusion.{splits}
-use Rattle.fbl_threads.proofs.claims.Claims.split.Goals as goal
-
-pub split_seat-other-requires : goal.split_seat-other-requires
-split_seat-other-requires g c = (search rules, search rules, rw (ap (λ m. m.0) c.pass.invariant) (splits _ _ _))

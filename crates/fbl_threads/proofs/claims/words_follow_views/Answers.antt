@@ -1,5 +1,0 @@
-use Rattle.fbl_threads.proofs.Exclusion as exclusive
-use Rattle.fbl_threads.proofs.claims.words_follow_views.Goals as goal
-
-pub returns : goal.returns
-returns c = exclusive.words_follow_views

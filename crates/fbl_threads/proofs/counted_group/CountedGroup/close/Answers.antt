@@ -1,4 +1,0 @@
-use Rattle.fbl_threads.proofs.counted_group.CountedGroup.close.Goals as goal
-
-pub returns-clause-reached : goal.returns-clause-reached
-returns-clause-reached g c = c.args.self.reached

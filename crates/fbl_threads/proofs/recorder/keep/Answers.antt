@@ -1,5 +1,0 @@
-use Rattle.fbl_threads.proofs.Common.{ap, Some}
-use Rattle.fbl_threads.proofs.recorder.keep.Goals as goal
-
-pub returns-in-Some : goal.returns-in-Some
-returns-in-Some g c = rw c.in-Some.is (ap Some c.push_reserved.ensures.items)

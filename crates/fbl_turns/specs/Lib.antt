@@ -1,0 +1,9 @@
+pub mod Claims
+pub mod Counted
+pub mod Origins
+pub mod Pasts
+pub mod Plans
+pub mod Recorded
+pub mod Recorders
+pub mod Runs
+pub mod Turns
