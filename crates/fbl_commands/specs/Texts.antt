@@ -10,7 +10,7 @@ use Rattle.fbl_law.specs.Promises.{dump_of}
 use Rattle.fbl_texts.specs.DumpLines.{dump_line}
 use Rattle.fbl_texts.specs.Lines.{line, lost_line, orphans_line}
 use Rattle.fbl_texts.specs.Sets.{set_words}
-use Rattle.fbl_threads.specs.declared.draining.Drained.{Drained}
+use Rattle.fbl_turns.specs.declared.counted.Drained.{Drained}
 use Rattle.fbl_commands.specs.declared.answer.Answer.{Answer}
 use Rattle.fbl_commands.specs.declared.answer.Answer.TheVariants as answers
 use Rattle.fbl_commands.specs.declared.answer.Totals.{Totals}

@@ -22,7 +22,7 @@ pub use Rattle.fbl_law.specs.GroupSteps.{IsGroupStart}
 pub use Rattle.fbl_law.specs.Groups.{GroupRecord, IsSound}
 pub use Rattle.fbl_texts.specs.Scripts.{IsScriptFault, IsScriptOf, outline}
 pub use Rattle.fbl_texts.specs.declared.script.Command.{Command}
-pub use Rattle.fbl_threads.proofs.Leading.{turns_lead}
+pub use Rattle.fbl_turns.proofs.Leading.{turns_lead}
 pub use Rattle.fbl_threads.specs.Drains.{RecordedDrains}
 pub use Rattle.fbl_threads.specs.declared.draining.DrainRefusal.{DrainRefusal}
 pub use Rattle.fbl_threads.specs.declared.draining.Recorded.{Recorded}
