@@ -27,8 +27,8 @@ use std::marker::PhantomData;
 /// A group beside what the workers have done to it and the records of their turns: all are reached from where the drain began.
 #[derive(Drop)]
 pub struct CountedGroup<B: Behaviour, O: Origin<B::State, B::Note>> {
-    pub(crate) group: Group<B>,
-    pub(crate) counted: Drained,
+    group: Group<B>,
+    counted: Drained,
     records: Records<B::State, B::Note>,
     origin: PhantomData<O>,
     ghost reached: { ∥ ReachedAs B.next O.plan O.workers (O.start (B.next.initial 0 0)) (recorded records) group (counts_of counted) ∥₁ },

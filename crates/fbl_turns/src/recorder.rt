@@ -10,7 +10,7 @@ use std::alloc::{AllocError, Global};
 /// The records of the turns so far, in order, if they are kept.
 pub type Records<S, N> = Option<Vec<TurnRecord<S, N>>>;
 
-/// Of no turn yet.
+/// The records of no turn yet, if they are to be kept.
 pub fn no_records<S: Exact, N: Content>(alloc: Global, keeps: bool) -> Records<S, N>
     ensures { recorded result ≡ (if keeps then Some [] else None) }
 {

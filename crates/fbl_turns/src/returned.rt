@@ -28,11 +28,13 @@ impl<O: Workers> Returned<O> {
     }
 }
 
-/// The passes of workers that have ended, joined to one: how many workers these are, and how many of them had a thread.
+/// The passes of workers that have ended, joined to one.
 #[derive(Drop)]
 pub struct Joined<O: Workers> {
     pass: Pass,
+    /// How many workers these are.
     pub workers: u8,
+    /// How many of them had a thread.
     pub started: u8,
     origin: PhantomData<O>,
     ghost pass_is_of: { pass ≡ O.claims },
