@@ -2,11 +2,11 @@
 use Rattle.fbl_moments.proofs.Common.{ℕ, suc, Bool, true, false, cond, ◌≡◌, ◌==◌, ◌<◌, ◌≤◌, ◌+◌, ◌⊎◌, ◌↔◌, inl, inr, List, [], ◌∷◌, ◌++◌, length, length-append, Some, slice_get, max, refl, sym, ap, subst, ◌∙◌, arith}
 use Rattle.fbl_moments.proofs.Common.{At-push, nat_tests, cases_eq, cases_lt, eqb-true, slice_get_within, Entry, entry_member, Logs, Position, Precedes, at, Cut, HasCome}
 use Rattle.std.proofs.Common.{nat_lt}
-use Rattle.fbl_moments.specs.declared.clocks.Advance.{Advance}
-use Rattle.fbl_moments.specs.Clocks.{AreAdvances, IsAdvance, IsClock, PrecedesSome, StandsAt, seen}
+use Rattle.fbl_logs.specs.declared.clocks.Advance.{Advance}
+use Rattle.fbl_logs.specs.Clocks.{AreAdvances, IsAdvance, IsClock, PrecedesSome, StandsAt, seen}
 use Rattle.fbl_moments.specs.Histories.{IsFirstAfter, IsLeastMomentOfReceipt}
-use Rattle.fbl_moments.specs.Indexes.{EndsStep}
-use Rattle.fbl_moments.proofs.ClockLaws.{IsClock-none, first_there, last_there}
+use Rattle.fbl_logs.specs.Indexes.{EndsStep}
+use Rattle.fbl_logs.proofs.ClockLaws.{first_there, last_there}
 use Rattle.fbl_moments.proofs.LeastMoments.{cut_of_step, least_moment, max_or}
 
 -- an entry precedes one of the member's first ones where it has come by their clock

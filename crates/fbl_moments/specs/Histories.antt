@@ -1,13 +1,13 @@
 -- What a history answers of the entries of a run.
 use Rattle.std.specs.Prelude.{ℕ, ◌≡◌, ◌<◌, List, length}
 use Rattle.fbl_base.specs.declared.trace.Determinant.{Determinant}
-use Rattle.fbl_moments.specs.declared.clock.Clock.{Clock}
-use Rattle.fbl_moments.specs.declared.clocks.Advance.{Advance}
-use Rattle.fbl_moments.specs.declared.entry.Entry.{Entry}
-use Rattle.fbl_moments.specs.Clocks.{AreAdvances, IsNoClock}
-use Rattle.fbl_moments.specs.Entries.{Logs}
-use Rattle.fbl_moments.specs.HappenedBefore.{Position, Precedes, at}
-use Rattle.fbl_moments.specs.Moments.{Cut, IsLeastMoment, IsReceiptAt}
+use Rattle.fbl_logs.specs.declared.clock.Clock.{Clock}
+use Rattle.fbl_logs.specs.declared.clocks.Advance.{Advance}
+use Rattle.fbl_logs.specs.declared.entry.Entry.{Entry}
+use Rattle.fbl_logs.specs.Clocks.{AreAdvances, IsNoClock}
+use Rattle.fbl_logs.specs.Entries.{Logs}
+use Rattle.fbl_logs.specs.HappenedBefore.{Position, Precedes, at}
+use Rattle.fbl_logs.specs.Moments.{Cut, IsLeastMoment, IsReceiptAt}
 
 -- it is its member's first entry that the other precedes
 pub record IsFirstAfter (logs : Logs) (i j : Position) : Type 0 where

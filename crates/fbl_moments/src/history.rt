@@ -2,24 +2,20 @@
 
 ghost use Rattle.std.specs.Prelude.{◌≡◌, ◌<◌, ◌+◌, ◌≤◌, ◌↔◌, ℕ, true, IfOk, MatchOption, length};
 ghost use Rattle.std.specs.FinSet as set;
-ghost use Rattle.fbl_moments.specs.Clocks.{IsAdvance, IsClock, PrecedesSome, StandsAt, cut_of};
-ghost use Rattle.fbl_moments.specs.Entries.{log_of};
-ghost use Rattle.fbl_moments.specs.HappenedBefore.{Position, Precedes, at};
+ghost use Rattle.fbl_logs.specs.Clocks.{IsAdvance, IsClock, PrecedesSome, StandsAt, cut_of};
+ghost use Rattle.fbl_logs.specs.Entries.{log_of};
+ghost use Rattle.fbl_logs.specs.HappenedBefore.{Position, Precedes, at};
 ghost use Rattle.fbl_moments.specs.Histories.{IsFirstAfter, IsLeastMomentOfReceipt};
-ghost use Rattle.fbl_moments.specs.Logs.{IsLog};
+ghost use Rattle.fbl_logs.specs.Logs.{IsLog};
 
-use crate::clock::Clock;
-use crate::clocks::{Advance, Clocks};
-use crate::entry::Entry;
-use crate::index::Index;
-use crate::log::RunLog;
 use fbl_base::{Member, MemberSet};
+use fbl_logs::{Advance, Clock, Clocks, Entry, Index, RunLog};
 use std::alloc::{AllocError, Global};
 use std::marker::Model;
 
 /// A log with the index of its entries and with their clocks. Contracts see the log.
 #[derive(Drop)]
-pub(crate) struct History<'a> {
+pub struct History<'a> {
     log: &'a RunLog,
     index: Index<'a>,
     /// The clock at which nothing has come.
@@ -30,14 +26,14 @@ pub(crate) struct History<'a> {
 
 impl<'a> Model for History<'a> {
     ghost use Rattle.fbl_moments.specs.Histories.{AreOf};
-    ghost use Rattle.fbl_moments.specs.Logs.{LogParts};
+    ghost use Rattle.fbl_logs.specs.Logs.{LogParts};
 
     ghost Value = { LogParts };
 
     ghost use Rattle.std.specs.Coded.{codes, coded_ℕ};
     ghost use Rattle.std.specs.Ordering.{nat_cmp};
     ghost use Rattle.std.specs.FinSet as set;
-    ghost use Rattle.fbl_moments.specs.contracts.entry.Entry as entry;
+    ghost use Rattle.fbl_logs.specs.contracts.entry.Entry as entry;
 
     ghost coded = { Prim.hlevel (codes, entry.the_row.coded, set.code {R = nat_cmp} coded_ℕ) };
 
@@ -47,7 +43,8 @@ impl<'a> Model for History<'a> {
 }
 
 impl<'a> History<'a> {
-    pub(crate) fn of(alloc: Global, log: &'a RunLog) -> Result<History<'a>, AllocError>
+    /// The history of the log.
+    pub fn of(alloc: Global, log: &'a RunLog) -> Result<History<'a>, AllocError>
         ensures { IfOk result (λ history. history ≡ log.now) }
     {
         let entries = log.entries();
@@ -66,14 +63,14 @@ impl<'a> History<'a> {
     }
 
     /// The log.
-    pub(crate) fn log(&self) -> &'a RunLog
+    pub fn log(&self) -> &'a RunLog
         ensures { result.now ≡ self.now }
     {
         self.log
     }
 
     /// The log's entries, as they are listed.
-    pub(crate) fn entries(&self) -> &'a [Entry]
+    pub fn entries(&self) -> &'a [Entry]
         ensures entries { result.now ≡ self.now.entries }
         ensures rules { IsLog self.now }
     {
@@ -81,7 +78,7 @@ impl<'a> History<'a> {
     }
 
     /// What a pass over the entries knows of the entry at the place.
-    pub(crate) fn advance(&self, place: usize) -> &Advance
+    pub fn advance(&self, place: usize) -> &Advance
         requires { place < length self.now.entries }
         ensures { IsAdvance self.now.entries place result.now }
     {
@@ -89,7 +86,7 @@ impl<'a> History<'a> {
     }
 
     /// The entries' index.
-    pub(crate) fn index(&self) -> &Index<'a>
+    pub fn index(&self) -> &Index<'a>
         ensures { result.now ≡ self.now.entries }
     {
         &self.index
@@ -157,7 +154,7 @@ impl<'a> History<'a> {
     }
 
     /// The least moment at which the entry at the place, a receipt, has come.
-    pub(crate) fn moment_at(&self, place: usize) -> Clock
+    pub fn moment_at(&self, place: usize) -> Clock
         requires { (i : Position) × StandsAt self.now.entries place i }
         ensures { (i : Position) → StandsAt self.now.entries place i → IsLeastMomentOfReceipt (log_of self.now.entries) i (cut_of result) }
     {
@@ -166,7 +163,7 @@ impl<'a> History<'a> {
     }
 
     /// The members that have an entry at the clock's cut that the source's entry with the number precedes.
-    pub(crate) fn reached(&self, source: Member, number: usize, moment: &Clock) -> MemberSet
+    pub fn reached(&self, source: Member, number: usize, moment: &Clock) -> MemberSet
         requires { (q : ℕ) → cut_of moment.now q ≤ length (log_of self.now.entries q) }
         ensures { (q : ℕ) → (set.contains result q ≡ true) ↔ PrecedesSome (log_of self.now.entries) (at source number) q (cut_of moment.now q) }
     {

@@ -1,10 +1,10 @@
 use Rattle.fbl_moments.proofs.Common.{◌<◌, List, Entry, Determinant, length, refl, sym, subst, slice_get_within, log_of, at, IsFirstDependent, IsLeastMoment}
-use Rattle.fbl_moments.specs.Clocks.{StandsAt, cut_of}
-use Rattle.fbl_moments.specs.Indexes.{AreRecords}
-use Rattle.fbl_moments.specs.Logs.{LogParts, run_of}
-use Rattle.fbl_moments.specs.Runs.{IsCovered}
+use Rattle.fbl_logs.specs.Clocks.{StandsAt, cut_of}
+use Rattle.fbl_logs.specs.Indexes.{AreRecords}
+use Rattle.fbl_logs.specs.Logs.{LogParts, run_of}
+use Rattle.fbl_logs.specs.Runs.{IsCovered}
 use Rattle.fbl_moments.specs.Unsafe.{IsUncovered}
-use Rattle.fbl_moments.proofs.ClockLaws.{last_there}
+use Rattle.fbl_logs.proofs.ClockLaws.{last_there}
 use Rattle.fbl_moments.proofs.SafeAlways.{first_is_receipt}
 use Rattle.fbl_moments.proofs.UnsafeLaws.{covered_for, first_dependent, left_orphans, none_covered}
 use Rattle.fbl_moments.proofs.check.found_for.Goals as goal

@@ -1,7 +1,7 @@
 -- what is said of the receipts so far, and what is to be said of the rest, is what is said of all
 use Rattle.fbl_moments.proofs.Common.{List, ◌++◌, drop}
 use Rattle.fbl_moments.specs.declared.check.UnsafeMoment.{UnsafeMoment}
-use Rattle.fbl_moments.specs.Entries.{receipts_in}
+use Rattle.fbl_logs.specs.Entries.{receipts_in}
 use Rattle.fbl_moments.specs.Unsafe.{SaysUnsafe}
 use Rattle.fbl_moments.proofs.check.moments_of.Given as goal
 

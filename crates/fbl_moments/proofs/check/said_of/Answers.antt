@@ -1,7 +1,7 @@
 use Rattle.fbl_moments.proofs.Common.{arith, ◌≡◌, ◌+◌, ℕ, sym, subst, Option}
 use Rattle.std.proofs.Common.{MatchOption}
 use Rattle.fbl_moments.specs.declared.check.UnsafeMoment.{UnsafeMoment}
-use Rattle.fbl_moments.specs.Logs.{run_of}
+use Rattle.fbl_logs.specs.Logs.{run_of}
 use Rattle.fbl_moments.specs.Unsafe.{IsCoveredFor, IsFirstFound, IsFoundFor}
 use Rattle.fbl_moments.proofs.UnsafeLaws.{found_next, said_all}
 use Rattle.fbl_moments.proofs.check.said_of.Goals as goal

@@ -1,6 +1,6 @@
 use Rattle.fbl_moments.proofs.Common.{[], ◌≡◌, ◌↔◌, subst, AlwaysSafe}
 use Rattle.std.proofs.Common.{IfOk}
-use Rattle.fbl_moments.specs.Logs.{LogParts, run_of}
+use Rattle.fbl_logs.specs.Logs.{LogParts, run_of}
 use Rattle.fbl_moments.proofs.check.unsafe_moments.Goals as goal
 
 pub returns-clause-safe : goal.returns-clause-safe

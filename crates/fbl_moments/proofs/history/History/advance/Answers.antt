@@ -1,6 +1,6 @@
 use Rattle.fbl_moments.proofs.Common.{arith, ◌≡◌, ◌<◌, length, Some, slice_get, slice_get_read, refl, subst}
-use Rattle.fbl_moments.specs.Clocks.{IsAdvance}
-use Rattle.fbl_moments.specs.Logs.{LogParts}
+use Rattle.fbl_logs.specs.Clocks.{IsAdvance}
+use Rattle.fbl_logs.specs.Logs.{LogParts}
 use Rattle.fbl_moments.proofs.history.History.advance.Goals as goal
 
 pub returns : goal.returns

@@ -1,6 +1,6 @@
 use Rattle.fbl_moments.proofs.Common.{arith, ◌≡◌, ◌+◌, ◌-◌, ℕ, List, Entry, Position, ap, ◌∙◌, at, slice_get_within, subst, log_of, nat_tests}
-use Rattle.fbl_moments.specs.Clocks.{IsClock, StandsAt, cut_of}
-use Rattle.fbl_moments.specs.Logs.{LogParts}
+use Rattle.fbl_logs.specs.Clocks.{IsClock, StandsAt, cut_of}
+use Rattle.fbl_logs.specs.Logs.{LogParts}
 use Rattle.fbl_moments.proofs.HistoryLaws.{advance_at}
 use Rattle.fbl_moments.proofs.history.History.clock.Goals as goal
 use Rattle.fbl_moments.proofs.history.History.clock.Goals.{After-place}

@@ -1,5 +1,5 @@
 use Rattle.fbl_moments.proofs.Common.{◌<◌, ◌≤◌, ◌+◌, ◌-◌, length, log_of, at}
-use Rattle.fbl_moments.specs.Clocks.{PrecedesSome}
+use Rattle.fbl_logs.specs.Clocks.{PrecedesSome}
 use Rattle.fbl_moments.proofs.history.History.count_before.Given as goal
 
 abbrev pub invariant-loop-first : goal.invariant-loop-first

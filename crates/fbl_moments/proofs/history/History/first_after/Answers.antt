@@ -1,5 +1,5 @@
 use Rattle.fbl_moments.proofs.Common.{arith, ◌≡◌, ◌∙◌, ap, List, Entry, at, length, log_of, subst}
-use Rattle.fbl_moments.specs.Logs.{LogParts}
+use Rattle.fbl_logs.specs.Logs.{LogParts}
 use Rattle.fbl_moments.proofs.HistoryLaws.{first_after, none_after}
 use Rattle.fbl_moments.proofs.history.History.first_after.Goals as goal
 

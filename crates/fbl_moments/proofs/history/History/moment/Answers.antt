@@ -1,7 +1,7 @@
 use Rattle.fbl_moments.proofs.Common.{◌≡◌, ◌∙◌, ap, List, Entry, subst, log_of}
-use Rattle.fbl_moments.specs.Clocks.{cut_of}
-use Rattle.fbl_moments.specs.Indexes.{EndsStep}
-use Rattle.fbl_moments.specs.Logs.{LogParts}
+use Rattle.fbl_logs.specs.Clocks.{cut_of}
+use Rattle.fbl_logs.specs.Indexes.{EndsStep}
+use Rattle.fbl_logs.specs.Logs.{LogParts}
 use Rattle.fbl_moments.proofs.HistoryLaws.{moment_of, moment_within}
 use Rattle.fbl_moments.proofs.history.History.moment.Goals as goal
 use Rattle.fbl_moments.proofs.history.History.moment.Goals.{After-reaching}

@@ -1,8 +1,8 @@
 use Rattle.fbl_moments.proofs.Common.{◌<◌, Position, length, log_of, slice_get_within, subst, sym}
-use Rattle.fbl_moments.specs.Clocks.{cut_of}
+use Rattle.fbl_logs.specs.Clocks.{cut_of}
 use Rattle.fbl_moments.specs.Histories.{IsLeastMomentOfReceipt}
 use Rattle.fbl_moments.proofs.HistoryLaws.{advance_at}
-use Rattle.fbl_moments.proofs.Listing.{stands_at}
+use Rattle.fbl_logs.proofs.Listing.{stands_at}
 use Rattle.fbl_moments.proofs.history.History.moment_at.Goals as goal
 
 pub advance-advance-requires : goal.advance-advance-requires

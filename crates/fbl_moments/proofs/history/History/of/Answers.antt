@@ -1,6 +1,6 @@
 use Rattle.fbl_moments.proofs.Common.{arith, ◌≡◌, ◌∙◌, ◌+◌, ℕ, List, Entry, length, sym, subst}
-use Rattle.fbl_moments.specs.declared.clocks.Advance.{Advance}
-use Rattle.fbl_moments.specs.Clocks.{AreAdvances, IsLawful}
+use Rattle.fbl_logs.specs.declared.clocks.Advance.{Advance}
+use Rattle.fbl_logs.specs.Clocks.{AreAdvances, IsLawful}
 use Rattle.fbl_moments.proofs.HistoryLaws.{AreAdvances-none, AreAdvances-push}
 use Rattle.fbl_moments.proofs.history.History.of.Goals as goal
 

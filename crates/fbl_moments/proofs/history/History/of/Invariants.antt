@@ -1,4 +1,4 @@
-use Rattle.fbl_moments.specs.Clocks.{AreAdvances, HasSeen}
+use Rattle.fbl_logs.specs.Clocks.{AreAdvances, HasSeen}
 use Rattle.fbl_moments.proofs.history.History.of.Given as goal
 
 abbrev pub invariant-loop-place : goal.invariant-loop-place

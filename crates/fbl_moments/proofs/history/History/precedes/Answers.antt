@@ -1,5 +1,5 @@
 use Rattle.fbl_moments.proofs.Common.{log_of}
-use Rattle.fbl_moments.specs.Clocks.{cut_of}
+use Rattle.fbl_logs.specs.Clocks.{cut_of}
 use Rattle.fbl_moments.proofs.HistoryLaws.{precedes_iff}
 use Rattle.fbl_moments.proofs.history.History.precedes.Goals as goal
 

@@ -1,7 +1,7 @@
 use Rattle.fbl_moments.proofs.Common.{arith, ℕ, ◌≡◌, ◌∙◌, inl, inr, true, false, cases_lt, sym, subst, log_of, refl, at}
 use Rattle.std.proofs.lemmas.List.{get_or_past}
-use Rattle.fbl_moments.specs.Clocks.{PrecedesSome, cut_of}
-use Rattle.fbl_moments.proofs.TableLaws.{found_more, found_none}
+use Rattle.fbl_logs.specs.Clocks.{PrecedesSome, cut_of}
+use Rattle.fbl_logs.proofs.TableLaws.{found_more, found_none}
 use Rattle.fbl_moments.proofs.history.History.reached.Goals as goal
 use Rattle.fbl_moments.proofs.history.History.reached.Goals.{then-precedes, else-precedes}
 

@@ -1,6 +1,6 @@
 use Rattle.fbl_moments.proofs.Common.{ℕ, ◌≡◌, ◌<◌, ◌↔◌, true, log_of, at}
 use Rattle.std.specs.FinSet as set
-use Rattle.fbl_moments.specs.Clocks.{PrecedesSome, cut_of}
+use Rattle.fbl_logs.specs.Clocks.{PrecedesSome, cut_of}
 use Rattle.fbl_moments.proofs.history.History.reached.Given as goal
 
 abbrev pub invariant-loop-number_of_member : goal.invariant-loop-number_of_member

@@ -1,0 +1,7 @@
+pub mod Common
+pub mod Listing
+pub mod ClockLaws
+pub mod Passes
+pub mod NumberLaws
+pub mod TableLaws
+pub mod RunLaws

@@ -1,0 +1,9 @@
+pub mod Entries
+pub mod HappenedBefore
+pub mod Moments
+pub mod Runs
+pub mod Clocks
+pub mod Numbers
+pub mod Indexes
+pub mod Lawful
+pub mod Logs

@@ -1,0 +1,4 @@
+pub mod Common
+pub mod LastChecks
+pub mod Audits
+pub mod PathLaws

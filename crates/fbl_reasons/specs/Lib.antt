@@ -1,0 +1,2 @@
+pub mod LastMoments
+pub mod Reasons
