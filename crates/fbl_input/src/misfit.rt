@@ -5,7 +5,7 @@ ghost use Rattle.fbl_input.specs.declared.misfit.Misfit.TheVariants.{Memory};
 
 use crate::fault::{Key, RunFault};
 use fbl_base::{Breach, ConfigRefusal, DumpRefusal};
-use fbl_moments::LogBreach;
+use fbl_logs::LogBreach;
 use serde_json::Error as JsonError;
 use std::alloc::{AllocError, AllocFailed};
 use std::fmt;

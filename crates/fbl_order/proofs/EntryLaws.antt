@@ -1,19 +1,19 @@
 -- A log may have its entries in any order that keeps the members' logs.
 use Rattle.fbl_order.proofs.Common.{ℕ, List, Some, ◌≡◌, ◌<◌, ◌≤◌, ◌+◌, ◌∙◌, refl, sym, ap, arith, length, slice_get, slice_get_within, subst, take}
 use Rattle.fbl_base.specs.declared.trace.Determinant.{Determinant}
-use Rattle.fbl_moments.specs.declared.entry.Entry.{Entry}
-use Rattle.fbl_moments.specs.Entries.{Logs, entry_member, log_of, marks, recorded_in}
-use Rattle.fbl_moments.specs.Lawful.{IsFewAt, records}
-use Rattle.fbl_moments.specs.Logs.{IsLog, LogParts}
-use Rattle.fbl_moments.specs.Moments.{DependsOn}
-use Rattle.fbl_moments.specs.HappenedBefore.{IsAt}
-use Rattle.fbl_moments.specs.Runs.{AlwaysSafe, Run}
+use Rattle.fbl_logs.specs.declared.entry.Entry.{Entry}
+use Rattle.fbl_logs.specs.Entries.{Logs, entry_member, log_of, marks, recorded_in}
+use Rattle.fbl_logs.specs.Lawful.{IsFewAt, records}
+use Rattle.fbl_logs.specs.Logs.{IsLog, LogParts}
+use Rattle.fbl_logs.specs.Moments.{DependsOn}
+use Rattle.fbl_logs.specs.HappenedBefore.{IsAt}
+use Rattle.fbl_logs.specs.Runs.{AlwaysSafe, Run}
 use Rattle.fbl_moments.specs.Unsafe.{IsUnsafe}
 use Rattle.fbl_base.specs.declared.fault.Breach.{Breach}
 use Rattle.fbl_base.specs.declared.fault.Breach.TheVariants as breach
 use Rattle.fbl_base.specs.declared.refusal.DumpRefusal.{DumpRefusal}
 use Rattle.fbl_base.specs.declared.refusal.DumpRefusal.TheVariants.{BadEvent, BadF, BadMembers, Memory}
-use Rattle.fbl_moments.specs.declared.fault.LogBreach.TheVariants.{Trace}
+use Rattle.fbl_logs.specs.declared.fault.LogBreach.TheVariants.{Trace}
 use Rattle.fbl_order.specs.Faults.{RefusesGroup, RefusesOrder}
 use Rattle.fbl_order.specs.LogFaults.{AreEventPlaces, RefusesAmong, RefusesInOrder, breach_given, place_given, refusal_given}
 use Rattle.fbl_order.specs.LogOrders.{ArePlaces, IsOrderOfEntries, SameEntryLogs, SameLogAnswers, items_at, with_entries}
@@ -25,7 +25,7 @@ use Rattle.fbl_order.proofs.EventPlaces.{mark_at}
 use Rattle.std.proofs.Common.{Global, sum_by}
 use Rattle.fbl_order.proofs.Own.{At-some, same_own-permutation}
 use Rattle.fbl_order.proofs.LogLaws.{filter-At}
-use Rattle.fbl_moments.specs.declared.entry.Entry.TheVariants.{Event, Hold, Store}
+use Rattle.fbl_logs.specs.declared.entry.Entry.TheVariants.{Event, Hold, Store}
 use Rattle.std.proofs.lemmas.List.Sorted.{sum_by-IsPermutation}
 use Rattle.fbl_order.proofs.Common.{[], ◌∷◌, ◌++◌, ◌==◌, zero, suc, add-one, At-filter, drop, sum_by-cons, eqb-self, filter_map-append, length-append, take-append-drop, take-more, take_all}
 

@@ -3,10 +3,10 @@ use Rattle.fbl_order.proofs.Common.{At, drop, take-append-drop, List, Mark, ℕ,
 use Rattle.fbl_order.proofs.Common.{filter_map-append, inl, inr, length, length-append, refl, slice_get, slice_get_within, sym, take, take_all}
 use Rattle.fbl_base.proofs.Gets.{At-seam, drop_next}
 use Rattle.std.proofs.lemmas.List.{take-append-le}
-use Rattle.fbl_moments.specs.declared.entry.Entry.{Entry}
-use Rattle.fbl_moments.specs.declared.entry.Entry.TheVariants.{Event, Hold, Store}
-use Rattle.fbl_moments.specs.Entries.{mark_in, marks}
-use Rattle.fbl_moments.specs.Lawful.{IsEventPlace}
+use Rattle.fbl_logs.specs.declared.entry.Entry.{Entry}
+use Rattle.fbl_logs.specs.declared.entry.Entry.TheVariants.{Event, Hold, Store}
+use Rattle.fbl_logs.specs.Entries.{mark_in, marks}
+use Rattle.fbl_logs.specs.Lawful.{IsEventPlace}
 use Rattle.fbl_order.specs.LogFaults.{AreEventPlaces}
 
 -- with one entry more

@@ -4,8 +4,8 @@ use Rattle.fbl_order.proofs.Common.{slice_get, take, take-append-drop, take-more
 use Rattle.fbl_base.proofs.Gets.{drop_next}
 use Rattle.std.proofs.Common.{flat_map}
 use Rattle.std.proofs.lemmas.Grind.{flat_map-append}
-use Rattle.fbl_moments.specs.declared.entry.Entry.{Entry}
-use Rattle.fbl_moments.specs.declared.log.RawLog.{RawLog}
+use Rattle.fbl_logs.specs.declared.entry.Entry.{Entry}
+use Rattle.fbl_logs.specs.declared.log.RawLog.{RawLog}
 use Rattle.fbl_order.specs.Parts.{IsOriginOf, entries_of}
 
 -- with one part more

@@ -5,9 +5,9 @@ use Rattle.fbl_order.proofs.Common.{member_of, nat_tests, refl, slice_get, slice
 use Rattle.fbl_base.proofs.Gets.{At-seam, drop_next}
 use Rattle.std.proofs.Common.{is_some, set}
 use Rattle.std.proofs.lemmas.List.{drop_all, take-append-le}
-use Rattle.fbl_moments.specs.declared.entry.Entry.{Entry}
-use Rattle.fbl_moments.specs.declared.entry.Entry.TheVariants.{Event, Hold, Store}
-use Rattle.fbl_moments.specs.Entries.{entry_member, mark_in, marks}
+use Rattle.fbl_logs.specs.declared.entry.Entry.{Entry}
+use Rattle.fbl_logs.specs.declared.entry.Entry.TheVariants.{Event, Hold, Store}
+use Rattle.fbl_logs.specs.Entries.{entry_member, mark_in, marks}
 use Rattle.fbl_order.specs.Cursors.{AreCursors, IsFirstFrom, IsInStep, cursor_in, own}
 use Rattle.fbl_order.specs.LogOrders.{ArePlaces, SameEntryLogs, items_at}
 use Rattle.fbl_order.specs.Placings.{IsLeastNextEntry, IsPlacing, MayComeNext, placed_of}

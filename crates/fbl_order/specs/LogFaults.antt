@@ -5,13 +5,13 @@ use Rattle.fbl_base.specs.declared.fault.Breach.TheVariants as breach
 use Rattle.fbl_base.specs.declared.refusal.DumpRefusal.{DumpRefusal}
 use Rattle.fbl_base.specs.declared.refusal.DumpRefusal.TheVariants.{BadEvent, Memory}
 use Rattle.fbl_base.specs.Configs.{FAllowed, MembersAllowed}
-use Rattle.fbl_moments.specs.declared.entry.Entry.{Entry}
-use Rattle.fbl_moments.specs.declared.entry.Entry.TheVariants.{Event}
-use Rattle.fbl_moments.specs.declared.fault.LogBreach.{LogBreach}
-use Rattle.fbl_moments.specs.declared.fault.LogBreach.TheVariants.{Record, Trace}
-use Rattle.fbl_moments.specs.Entries.{marks}
-use Rattle.fbl_moments.specs.Lawful.{IsEventPlace}
-use Rattle.fbl_moments.specs.Logs.{IsLogBreach, LogParts, RefusesLog}
+use Rattle.fbl_logs.specs.declared.entry.Entry.{Entry}
+use Rattle.fbl_logs.specs.declared.entry.Entry.TheVariants.{Event}
+use Rattle.fbl_logs.specs.declared.fault.LogBreach.{LogBreach}
+use Rattle.fbl_logs.specs.declared.fault.LogBreach.TheVariants.{Record, Trace}
+use Rattle.fbl_logs.specs.Entries.{marks}
+use Rattle.fbl_logs.specs.Lawful.{IsEventPlace}
+use Rattle.fbl_logs.specs.Logs.{IsLogBreach, LogParts, RefusesLog}
 use Rattle.fbl_order.specs.declared.fault.LogOrderFault.{LogOrderFault}
 use Rattle.fbl_order.specs.declared.fault.LogOrderFault.TheVariants.{NoOrder, Log}
 use Rattle.fbl_order.specs.declared.fault.Obstacle.{Obstacle}

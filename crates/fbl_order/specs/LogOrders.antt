@@ -3,11 +3,11 @@ use Rattle.std.specs.Prelude.{ℕ, ◌≡◌, ◌↔◌, List, Some, length, sli
 use Rattle.std.specs.List.{filter_map}
 use Rattle.fbl_base.specs.Rules.{WellFormed}
 use Rattle.fbl_base.specs.declared.trace.Determinant.{Determinant}
-use Rattle.fbl_moments.specs.declared.entry.Entry.{Entry}
-use Rattle.fbl_moments.specs.Clocks.{seen}
-use Rattle.fbl_moments.specs.Entries.{entry_member, log_of, marks}
-use Rattle.fbl_moments.specs.Logs.{IsLog, LogParts, run_of}
-use Rattle.fbl_moments.specs.Runs.{AlwaysSafe}
+use Rattle.fbl_logs.specs.declared.entry.Entry.{Entry}
+use Rattle.fbl_logs.specs.Clocks.{seen}
+use Rattle.fbl_logs.specs.Entries.{entry_member, log_of, marks}
+use Rattle.fbl_logs.specs.Logs.{IsLog, LogParts, run_of}
+use Rattle.fbl_logs.specs.Runs.{AlwaysSafe}
 use Rattle.fbl_moments.specs.Unsafe.{IsUnsafe}
 
 -- each member has the same log in both

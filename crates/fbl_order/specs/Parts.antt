@@ -5,10 +5,10 @@ use Rattle.std.specs.FinSet as set
 use Rattle.fbl_base.specs.declared.raw_dump.RawDump.{RawDump}
 use Rattle.fbl_base.specs.Audit.{Parts}
 use Rattle.fbl_base.specs.Configs.{IsFirstBreach}
-use Rattle.fbl_moments.specs.declared.entry.Entry.{Entry}
-use Rattle.fbl_moments.specs.declared.log.EntryOrigin.{EntryOrigin}
-use Rattle.fbl_moments.specs.declared.log.RawLog.{RawLog}
-use Rattle.fbl_moments.specs.Logs.{LogParts}
+use Rattle.fbl_logs.specs.declared.entry.Entry.{Entry}
+use Rattle.fbl_logs.specs.declared.log.EntryOrigin.{EntryOrigin}
+use Rattle.fbl_logs.specs.declared.log.RawLog.{RawLog}
+use Rattle.fbl_logs.specs.Logs.{LogParts}
 use Rattle.fbl_order.specs.declared.parts.Group.{Group}
 use Rattle.fbl_order.specs.declared.parts.PartsFault.{PartsFault}
 use Rattle.fbl_order.specs.declared.parts.PartsFault.TheVariants.{Members, F, Memory}

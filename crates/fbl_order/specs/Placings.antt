@@ -2,8 +2,8 @@
 use Rattle.std.specs.Prelude.{ℕ, ◌≡◌, List, Option, Some, length, slice_get, take}
 use Rattle.fbl_base.specs.declared.trace.Mark.{Mark}
 use Rattle.fbl_base.specs.Events.{At}
-use Rattle.fbl_moments.specs.declared.entry.Entry.{Entry}
-use Rattle.fbl_moments.specs.Entries.{entry_member, mark_in, marks}
+use Rattle.fbl_logs.specs.declared.entry.Entry.{Entry}
+use Rattle.fbl_logs.specs.Entries.{entry_member, mark_in, marks}
 use Rattle.fbl_order.specs.Cursors.{AreCursors, IsInStep, IsLeastCursor, cursor_in}
 use Rattle.fbl_order.specs.LogOrders.{ArePlaces, items_at}
 use Rattle.fbl_order.specs.declared.entries.Placing.{Placing}

@@ -4,7 +4,7 @@ ghost use Rattle.std.specs.Prelude.{◌≡◌, ◌<◌, ◌≤◌, ℕ, length, 
 ghost use Rattle.fbl_order.specs.Cursors.{IsFirstFrom, IsLeastGiven};
 
 use fbl_base::{Mark, Member};
-use fbl_moments::Entry;
+use fbl_logs::Entry;
 
 /// What stands in the log of a member.
 pub(crate) trait Logged {
@@ -28,7 +28,7 @@ impl Logged for Mark {
 }
 
 impl Logged for Entry {
-    ghost use Rattle.fbl_moments.specs.Entries.{entry_member};
+    ghost use Rattle.fbl_logs.specs.Entries.{entry_member};
 
     ghost member_in = { entry_member };
 

@@ -3,7 +3,7 @@
 ghost use Rattle.std.specs.Prelude.{◌≡◌, ◌<◌, ◌+◌, ◌↔◌, true, IfOk, OnOk, List, Some, length, vec_len};
 ghost use Rattle.fbl_base.specs.Events.{At};
 ghost use Rattle.fbl_base.specs.declared.trace.Mark.{Mark};
-ghost use Rattle.fbl_moments.specs.Entries.{marks};
+ghost use Rattle.fbl_logs.specs.Entries.{marks};
 ghost use Rattle.fbl_order.specs.LogFaults.{AreEventPlaces};
 ghost use Rattle.fbl_order.specs.LogOrders.{ArePlaces, SameEntryLogs, items_at};
 ghost use Rattle.fbl_order.specs.Orders.{SameLogs};
@@ -11,7 +11,7 @@ ghost use Rattle.fbl_order.specs.Placings.{IsLeastNextEntry, IsPlacing, MayComeN
 
 use crate::cursors::{firsts_of, least_cursor, next_of};
 use fbl_base::Mark;
-use fbl_moments::Entry;
+use fbl_logs::Entry;
 use std::alloc::{AllocError, Global};
 
 /// The sends and receipts among the entries of a log.

@@ -1,7 +1,7 @@
 //! Why the events of a run have no order.
 
 use fbl_base::{Breach, DumpRefusal, EventRule, Mark};
-use fbl_moments::LogBreach;
+use fbl_logs::LogBreach;
 use std::alloc::{AllocError, Allocator, Global};
 use std::convert::From;
 use thiserror::Error;
@@ -71,7 +71,7 @@ impl From<AllocError> for LogOrderFault {
     ghost use Rattle.std.specs.Prelude.{◌≡◌};
     ghost use Rattle.fbl_base.specs.declared.fault.Breach.TheVariants as breach;
     ghost use Rattle.fbl_base.specs.declared.refusal.DumpRefusal.TheVariants.{Memory};
-    ghost use Rattle.fbl_moments.specs.declared.fault.LogBreach.TheVariants.{Trace};
+    ghost use Rattle.fbl_logs.specs.declared.fault.LogBreach.TheVariants.{Trace};
     ghost use Rattle.fbl_order.specs.declared.fault.LogOrderFault.TheVariants.{Log};
 
     ghost from_gives = { λ _ e. e ≡ Log Memory (Trace breach.Memory) };

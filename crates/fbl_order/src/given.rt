@@ -7,7 +7,7 @@ ghost use Rattle.fbl_order.specs.declared.fault.LogOrderFault.TheVariants.{Log};
 
 use crate::fault::{LogOrderFault, Obstacle, Stuck};
 use fbl_base::{Breach, DumpRefusal, EventFault};
-use fbl_moments::{LogBreach, RecordFault};
+use fbl_logs::{LogBreach, RecordFault};
 
 /// The place at which what has this number was given.
 fn given(places: &[usize], number: usize) -> usize

@@ -2,8 +2,8 @@
 
 ghost use Rattle.std.specs.Prelude.{◌≡◌, ◌≤◌, IfErr, IfOk};
 ghost use Rattle.fbl_base.specs.Rules.{WellFormed};
-ghost use Rattle.fbl_moments.specs.Entries.{marks};
-ghost use Rattle.fbl_moments.specs.Logs.{IsLog, parts_of_log};
+ghost use Rattle.fbl_logs.specs.Entries.{marks};
+ghost use Rattle.fbl_logs.specs.Logs.{IsLog, parts_of_log};
 ghost use Rattle.fbl_order.specs.LogFaults.{RefusesAmong, RefusesUnorderedLog};
 ghost use Rattle.fbl_order.specs.LogOrders.{AnswersAlike, ArePlaces, IsOrderOfEntries, with_entries};
 ghost use Rattle.fbl_order.specs.Orders.{IsOrder};
@@ -14,7 +14,7 @@ use crate::fault::{LogOrderFault, OrderFault};
 use crate::given::given_chain;
 use crate::placing::order;
 use fbl_base::Mark;
-use fbl_moments::{Entry, LogBreach, RawLog, RunLog, checked_log};
+use fbl_logs::{Entry, LogBreach, RawLog, RunLog, checked_log};
 use std::alloc::Global;
 
 /// A log whose entries were put in an order.

@@ -2,12 +2,12 @@
 
 ghost use Rattle.std.specs.Prelude.{◌≡◌, ◌<◌, ◌≤◌, ℕ, IfErr, IfOk, MatchOption, length, sum};
 ghost use Rattle.fbl_base.specs.Audit.{parts_of};
-ghost use Rattle.fbl_moments.specs.Logs.{parts_of_log};
+ghost use Rattle.fbl_logs.specs.Logs.{parts_of_log};
 ghost use Rattle.fbl_order.specs.Parts.{Agrees, AgreesAt, Differs, IsFirstOther, IsUnion, RefusesParts, dump_group, log_group};
 ghost use Rattle.fbl_order.specs.Parts.{AreOrigins, IsPlaceIn, IsUnited, IsUnitedLog};
 
 use fbl_base::{MemberSet, RawDump};
-use fbl_moments::{EntryOrigin, RawLog};
+use fbl_logs::{EntryOrigin, RawLog};
 use std::alloc::{AllocError, Allocator, Global};
 use std::convert::From;
 use thiserror::Error;

@@ -15,8 +15,8 @@ pub use Rattle.fbl_base.specs.Events.{is_message, same_determinant, same_message
 pub use Rattle.fbl_base.specs.declared.trace.Determinant.{Determinant}
 pub use Rattle.fbl_base.specs.declared.trace.MessageName.{MessageName}
 pub use Rattle.fbl_history.specs.declared.column.Column.{Column}
-pub use Rattle.fbl_moments.specs.declared.entry.Entry.{Entry}
-pub use Rattle.fbl_moments.specs.declared.entry.Entry.TheVariants.{Event, Hold, Store}
+pub use Rattle.fbl_logs.specs.declared.entry.Entry.{Entry}
+pub use Rattle.fbl_logs.specs.declared.entry.Entry.TheVariants.{Event, Hold, Store}
 pub use Rattle.fbl_input.proofs.Outputs.{puts_text}
 pub use Rattle.fbl_pictures.specs.DumpPictures.{ArePathsDrawn, AreStepsTo, HasOrphan, IsPicture, dump_entries, IsFirstUnsafe, dump_heading}
 pub use Rattle.fbl_pictures.specs.FoundPictures.{ArePaths, AreSteps, IsStart, NoColumns, AreFoundShapes, column_of, column_of_end}
@@ -29,10 +29,10 @@ pub use Rattle.fbl_pictures.specs.Pictures.{picture}
 pub use Rattle.fbl_shapes.specs.Shapes.{drawn}
 pub use Rattle.fbl_shapes.specs.declared.shape.Shape.{Shape}
 pub use Rattle.fbl_shapes.specs.Names.{label_and_names}
-pub use Rattle.fbl_moments.specs.Entries.{marks, entry_member, log_of, receipts_in}
-pub use Rattle.fbl_moments.specs.Reasons.{cut_in}
+pub use Rattle.fbl_logs.specs.Entries.{marks, entry_member, log_of, receipts_in}
+pub use Rattle.fbl_reasons.specs.Reasons.{cut_in}
 pub use Rattle.fbl_pictures.specs.Crossings.{HasPassed, IsBehind, IsBeyond, IsCrossing, IsEnd, IsCrossingOf, AreCrossings}
-pub use Rattle.fbl_moments.specs.Clocks.{seen, StandsAt}
+pub use Rattle.fbl_logs.specs.Clocks.{seen, StandsAt}
 pub use Rattle.fbl_shapes.specs.declared.shape.Legend.TheVariants.{Dump, UnsafeDump, Log, UnsafeLog}
 pub use Rattle.fbl_pictures.specs.declared.columns.Columns.{Columns}
 pub use Rattle.fbl_moments.specs.declared.check.UnsafeMoment.{UnsafeMoment}

@@ -1,9 +1,9 @@
 -- Where the line of a moment crosses the members' lines, as a pass over the entries finds it.
 use Rattle.fbl_pictures.proofs.Common.{ℕ, ◌+◌, ◌<◌, ◌≤◌, ◌≡◌, ◌≢◌, List, Option, Some, None, length, slice_get, inl, inr, refl, sym, ap, ◌∙◌, subst, arith, get_or, cases_eq, cases_lt, nat_tests, true, false, cond, ◌==◌, Entry, column_in, is_some, set, get_or-set_same, get_or-set_other, add-one, length-set, entry_member, log_of, HasPassed, IsBehind, IsBeyond, IsCrossing, IsEnd, seen, Columns}
 use Rattle.std.specs.Prelude.{min}
-use Rattle.fbl_moments.proofs.Listing.{locate_all, seen_mono, seen-later, seen-other, seen-own, some_entry}
-use Rattle.fbl_moments.specs.HappenedBefore.{at}
-use Rattle.fbl_moments.specs.Moments.{Cut}
+use Rattle.fbl_logs.proofs.Listing.{locate_all, seen_mono, seen-later, seen-other, seen-own, some_entry}
+use Rattle.fbl_logs.specs.HappenedBefore.{at}
+use Rattle.fbl_logs.specs.Moments.{Cut}
 use Rattle.fbl_pictures.specs.declared.cut.Pass.{Pass}
 
 -- ---- columns that are set

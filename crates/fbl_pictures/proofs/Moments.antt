@@ -3,12 +3,12 @@ use Rattle.fbl_pictures.proofs.Common.{ℕ, ◌<◌, ◌≤◌, ◌≡◌, true,
 use Rattle.std.specs.FinSet as set
 use Rattle.fbl_base.proofs.PrecedenceLaws.{Has-first}
 use Rattle.fbl_base.specs.Precedence.{Depends, Has}
-use Rattle.fbl_moments.proofs.LastChecks.{depends_iff}
-use Rattle.fbl_moments.proofs.Listing.{stands_at}
-use Rattle.fbl_moments.specs.HappenedBefore.{Position}
-use Rattle.fbl_moments.specs.LastMoments.{last_of}
-use Rattle.fbl_moments.specs.Logs.{IsLog, LogParts}
-use Rattle.fbl_moments.specs.Moments.{Cut, IsLeastMoment, IsMoment}
+use Rattle.fbl_reasons.proofs.LastChecks.{depends_iff}
+use Rattle.fbl_logs.proofs.Listing.{stands_at}
+use Rattle.fbl_logs.specs.HappenedBefore.{Position}
+use Rattle.fbl_reasons.specs.LastMoments.{last_of}
+use Rattle.fbl_logs.specs.Logs.{IsLog, LogParts}
+use Rattle.fbl_logs.specs.Moments.{Cut, IsLeastMoment, IsMoment}
 use Rattle.fbl_moments.specs.Unsafe.{IsSaidOf, SaysUnsafe}
 
 -- the cut of all entries is a moment

@@ -1,10 +1,10 @@
 -- Where the line of a moment crosses the members' lines.
 use Rattle.std.specs.Prelude.{ℕ, ◌≡◌, ◌<◌, ◌≤◌, List, Option, Some, None, length, slice_get, slice_index}
-use Rattle.fbl_moments.specs.declared.entry.Entry.{Entry}
-use Rattle.fbl_moments.specs.Clocks.{StandsAt, seen}
-use Rattle.fbl_moments.specs.Entries.{entry_member}
-use Rattle.fbl_moments.specs.HappenedBefore.{Position}
-use Rattle.fbl_moments.specs.Moments.{Cut, HasCome}
+use Rattle.fbl_logs.specs.declared.entry.Entry.{Entry}
+use Rattle.fbl_logs.specs.Clocks.{StandsAt, seen}
+use Rattle.fbl_logs.specs.Entries.{entry_member}
+use Rattle.fbl_logs.specs.HappenedBefore.{Position}
+use Rattle.fbl_logs.specs.Moments.{Cut, HasCome}
 use Rattle.fbl_pictures.specs.declared.columns.Columns.{Columns}
 use Rattle.fbl_pictures.specs.declared.cut.Pass.{Pass}
 use Rattle.fbl_pictures.specs.RunPictures.{column_in}

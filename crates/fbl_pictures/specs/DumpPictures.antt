@@ -8,8 +8,8 @@ use Rattle.fbl_base.specs.MemberSets.{Members}
 use Rattle.fbl_audit.specs.Checking.{IsSafe, SaysUnsafe}
 use Rattle.fbl_audit.specs.Paths.{IsOrphanPath}
 use Rattle.fbl_audit.specs.declared.checking.UnsafeReceipt.{UnsafeReceipt}
-use Rattle.fbl_moments.specs.declared.entry.Entry.{Entry}
-use Rattle.fbl_moments.specs.declared.entry.Entry.TheVariants.{Event}
+use Rattle.fbl_logs.specs.declared.entry.Entry.{Entry}
+use Rattle.fbl_logs.specs.declared.entry.Entry.TheVariants.{Event}
 use Rattle.fbl_pictures.specs.declared.run_members.Lines.{Lines}
 use Rattle.fbl_shapes.specs.declared.shape.Legend.TheVariants.{Dump, UnsafeDump}
 use Rattle.fbl_shapes.specs.declared.shape.Shape.{Shape}

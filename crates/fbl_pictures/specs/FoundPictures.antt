@@ -7,7 +7,7 @@ use Rattle.fbl_base.specs.Events.{At, receipt_of}
 use Rattle.fbl_base.specs.MemberSets.{Members}
 use Rattle.fbl_audit.specs.Paths.{IsFirstDependent, IsPathTo, Origin}
 use Rattle.fbl_audit.specs.declared.checking.UnsafeReceipt.{UnsafeReceipt}
-use Rattle.fbl_moments.specs.declared.entry.Entry.{Entry}
+use Rattle.fbl_logs.specs.declared.entry.Entry.{Entry}
 use Rattle.fbl_pictures.specs.declared.columns.Columns.{Columns}
 use Rattle.fbl_pictures.specs.declared.entries.Placed.{Placed}
 use Rattle.fbl_pictures.specs.declared.run_members.Lines.{Lines}

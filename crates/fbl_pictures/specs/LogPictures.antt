@@ -4,15 +4,15 @@ use Rattle.std.specs.Prelude.{ℕ, ◌≡◌, ◌⊎◌, List, [], ◌∷◌, So
 use Rattle.fbl_base.specs.Audit.{Parts}
 use Rattle.fbl_audit.specs.declared.checking.UnsafeReceipt.{UnsafeReceipt}
 use Rattle.fbl_moments.specs.declared.check.UnsafeMoment.{UnsafeMoment}
-use Rattle.fbl_moments.specs.declared.entry.Entry.{Entry}
-use Rattle.fbl_moments.specs.declared.last.LogAudit.{LogAudit}
-use Rattle.fbl_moments.specs.Clocks.{StandsAt}
-use Rattle.fbl_moments.specs.Entries.{log_of, receipts_in}
-use Rattle.fbl_moments.specs.HappenedBefore.{Position}
-use Rattle.fbl_moments.specs.LastMoments.{IsLogAudit, dump_of}
-use Rattle.fbl_moments.specs.Logs.{LogParts, run_of}
-use Rattle.fbl_moments.specs.Moments.{Cut, IsLeastMoment}
-use Rattle.fbl_moments.specs.Runs.{AlwaysSafe}
+use Rattle.fbl_logs.specs.declared.entry.Entry.{Entry}
+use Rattle.fbl_reasons.specs.declared.last.LogAudit.{LogAudit}
+use Rattle.fbl_logs.specs.Clocks.{StandsAt}
+use Rattle.fbl_logs.specs.Entries.{log_of, receipts_in}
+use Rattle.fbl_logs.specs.HappenedBefore.{Position}
+use Rattle.fbl_reasons.specs.LastMoments.{IsLogAudit, dump_of}
+use Rattle.fbl_logs.specs.Logs.{LogParts, run_of}
+use Rattle.fbl_logs.specs.Moments.{Cut, IsLeastMoment}
+use Rattle.fbl_logs.specs.Runs.{AlwaysSafe}
 use Rattle.fbl_moments.specs.Unsafe.{SaysUnsafe}
 use Rattle.fbl_pictures.specs.declared.run_members.Lines.{Lines}
 use Rattle.fbl_shapes.specs.declared.shape.Legend.TheVariants.{Log, UnsafeLog}

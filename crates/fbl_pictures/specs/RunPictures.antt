@@ -11,9 +11,9 @@ use Rattle.fbl_base.specs.declared.trace.Mark.TheVariants.{Send, Receipt}
 use Rattle.fbl_base.specs.declared.trace.MessageName.{MessageName}
 use Rattle.fbl_base.specs.Audit.{Parts, is_held_outside, holders_of}
 use Rattle.fbl_base.specs.Events.{is_message, member_of, same_determinant, same_message}
-use Rattle.fbl_moments.specs.Entries.{mark_in}
-use Rattle.fbl_moments.specs.declared.entry.Entry.{Entry}
-use Rattle.fbl_moments.specs.declared.entry.Entry.TheVariants.{Event, Hold, Store}
+use Rattle.fbl_logs.specs.Entries.{mark_in}
+use Rattle.fbl_logs.specs.declared.entry.Entry.{Entry}
+use Rattle.fbl_logs.specs.declared.entry.Entry.TheVariants.{Event, Hold, Store}
 use Rattle.fbl_pictures.specs.declared.columns.Columns.{Columns}
 use Rattle.fbl_pictures.specs.declared.entries.Placed.{Placed}
 use Rattle.fbl_pictures.specs.declared.run_members.Lines.{Lines}

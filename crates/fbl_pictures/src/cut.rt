@@ -1,13 +1,13 @@
 //! Where the line of a moment crosses the members' lines.
 
 ghost use Rattle.std.specs.Prelude.{◌≡◌, ◌<◌, ◌+◌, ◌≤◌, ℕ, length};
-ghost use Rattle.fbl_moments.specs.Entries.{log_of};
-ghost use Rattle.fbl_moments.specs.Reasons.{cut_in};
+ghost use Rattle.fbl_logs.specs.Entries.{log_of};
+ghost use Rattle.fbl_reasons.specs.Reasons.{cut_in};
 ghost use Rattle.fbl_pictures.specs.Crossings.{AreCrossings, HasPassed, IsCrossing};
 
 use crate::columns::Columns;
 use fbl_base::Member;
-use fbl_moments::Entry;
+use fbl_logs::Entry;
 
 /// What a pass over entries knows of a cut of them.
 #[derive(Drop)]

@@ -4,7 +4,7 @@ ghost use Rattle.std.specs.Prelude.{◌≡◌, ℕ, true, IfOk};
 ghost use Rattle.std.specs.FinSet as set;
 ghost use Rattle.fbl_base.specs.Events.{At, receipt_of};
 ghost use Rattle.fbl_base.specs.Precedence.{Depends, Has};
-ghost use Rattle.fbl_moments.specs.Entries.{marks};
+ghost use Rattle.fbl_logs.specs.Entries.{marks};
 ghost use Rattle.fbl_pictures.specs.FoundPictures.{AreFoundShapes};
 
 use crate::columns::Columns;

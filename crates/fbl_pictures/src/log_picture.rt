@@ -2,7 +2,7 @@
 
 ghost use Rattle.std.specs.Prelude.{◌≡◌, IfOk, string_bytes};
 ghost use Rattle.fbl_input.specs.Faults.{PutsOut};
-ghost use Rattle.fbl_moments.specs.LastMoments.{dump_of};
+ghost use Rattle.fbl_reasons.specs.LastMoments.{dump_of};
 ghost use Rattle.fbl_moments.specs.Unsafe.{IsSaidOf};
 ghost use Rattle.fbl_pictures.specs.LogPictures.{AreSafeShapes, AreUnsafeShapes, IsLogPicture, IsSafePicture, IsUnsafePicture, log_heading as log_heading_of};
 
@@ -18,7 +18,9 @@ use crate::run_picture::lines_and_arrows;
 use fbl_audit::UnsafeReceipt;
 use fbl_base::audit::Audit;
 use fbl_input::{OutputFault, put};
-use fbl_moments::{RunLog, UnsafeMoment, audit_log, last_dump, moment_reason, unsafe_moments};
+use fbl_logs::RunLog;
+use fbl_moments::{UnsafeMoment, unsafe_moments};
+use fbl_reasons::{audit_log, last_dump, moment_reason};
 use fbl_shapes::{Legend, Shape};
 use std::alloc::{AllocError, Global};
 use std::io::Write;

@@ -5,7 +5,7 @@ ghost use Rattle.fbl_pictures.specs.RunPictures.{lines_and_arrows as lines_and_a
 
 use crate::run_events::push_arrows;
 use crate::run_members::{Lines, push_members, push_moment};
-use fbl_moments::Entry;
+use fbl_logs::Entry;
 use fbl_shapes::Shape;
 use std::alloc::{AllocError, Global};
 

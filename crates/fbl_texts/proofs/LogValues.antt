@@ -1,9 +1,9 @@
 -- The value of a log, and how it is read back.
 use Rattle.fbl_texts.proofs.Common.{IsWritable, ◌≡◌, ◌≤◌, refl, arith, false, Some, Ok, All, member_list, member_shape, depth, has_float, number_data}
 use Rattle.fbl_input.specs.Items.{entry_shape}
-use Rattle.fbl_moments.specs.Logs.{IsLog, LogParts}
-use Rattle.fbl_moments.specs.declared.entry.Entry.{Entry}
-use Rattle.fbl_moments.specs.declared.entry.Entry.TheVariants.{Event, Hold, Store}
+use Rattle.fbl_logs.specs.Logs.{IsLog, LogParts}
+use Rattle.fbl_logs.specs.declared.entry.Entry.{Entry}
+use Rattle.fbl_logs.specs.declared.entry.Entry.TheVariants.{Event, Hold, Store}
 use Rattle.fbl_texts.specs.LogLines.{entry_data, log_data}
 use Rattle.fbl_texts.specs.Logs.{log_of_data, recorded_of_data}
 use Rattle.fbl_texts.specs.declared.recorded.Checked.TheVariants.{Log}

@@ -6,8 +6,8 @@ use Rattle.fbl_base.specs.declared.refusal.DumpRefusal.TheVariants as dump
 use Rattle.fbl_input.specs.declared.fault.Key.TheVariants as keys
 use Rattle.fbl_input.specs.declared.misfit.InputKind.TheVariants as kinds
 use Rattle.fbl_input.specs.declared.misfit.Misfit.TheVariants as misfits
-use Rattle.fbl_moments.specs.Logs.{IsLogBreach, LogParts, RefusesLog}
-use Rattle.fbl_moments.specs.declared.fault.LogBreach.{LogBreach}
+use Rattle.fbl_logs.specs.Logs.{IsLogBreach, LogParts, RefusesLog}
+use Rattle.fbl_logs.specs.declared.fault.LogBreach.{LogBreach}
 use Rattle.fbl_texts.proofs.Common.{Breach, DumpInput, DumpRefusal, InputFault, InputKind, IsRefusalOf, parts_of}
 use Rattle.fbl_texts.proofs.Common.{Data, IsFirstFault, Parts, RefusesDump, RunFault, name_of, parts_of_data, refused, run_fault, value_of_input, ◌>>=◌}
 use Rattle.fbl_texts.specs.Logs.{IsMisfitOf, IsNotChecked, IsNotRecorded, IsOfRecorded, IsRecordedOf, RefusesRecorded, log_of_data, log_version, recorded_as, recorded_kind, recorded_of_data, recorded_of_input, recorded_parts}

@@ -2,14 +2,14 @@
 use Rattle.std.specs.Prelude.{◌≡◌, ℕ, List, [], ◌∷◌, codes, Option, Some, None, IfSome, map, option_and_then, slice_get}
 use Rattle.std.specs.List.{AllZip, concat}
 use Rattle.std.specs.Fmt.{debug_str, ◌++?◌}
-use Rattle.fbl_moments.specs.Entries.{receipts_in}
-use Rattle.fbl_moments.specs.LastMoments.{IsLogAudit, dump_of}
-use Rattle.fbl_moments.specs.Logs.{LogParts, run_of}
-use Rattle.fbl_moments.specs.Runs.{AlwaysSafe}
+use Rattle.fbl_logs.specs.Entries.{receipts_in}
+use Rattle.fbl_reasons.specs.LastMoments.{IsLogAudit, dump_of}
+use Rattle.fbl_logs.specs.Logs.{LogParts, run_of}
+use Rattle.fbl_logs.specs.Runs.{AlwaysSafe}
 use Rattle.fbl_moments.specs.Unsafe.{SaysUnsafe}
 use Rattle.fbl_moments.specs.declared.check.UnsafeMoment.{UnsafeMoment}
-use Rattle.fbl_moments.specs.declared.last.LogAudit.{LogAudit}
-use Rattle.fbl_moments.specs.declared.log.EntryOrigin.{EntryOrigin}
+use Rattle.fbl_reasons.specs.declared.last.LogAudit.{LogAudit}
+use Rattle.fbl_logs.specs.declared.log.EntryOrigin.{EntryOrigin}
 use Rattle.fbl_texts.specs.Auditing.{IsLossReason, IsVerdictThat}
 use Rattle.fbl_texts.specs.Lines.{audit_lines, line, unsafe_moment_line}
 use Rattle.fbl_texts.specs.declared.auditing.Verdict.{Verdict}

@@ -6,9 +6,9 @@ use Rattle.fbl_base.specs.declared.trace.Determinant.{Determinant}
 use Rattle.fbl_base.specs.MemberSets.{member_list}
 use Rattle.fbl_input.specs.declared.fault.Key.TheVariants as keys
 use Rattle.fbl_input.specs.Shapes.{longest, name_of}
-use Rattle.fbl_moments.specs.Logs.{LogParts}
-use Rattle.fbl_moments.specs.declared.entry.Entry.{Entry}
-use Rattle.fbl_moments.specs.declared.entry.Entry.TheVariants.{Event, Hold, Store}
+use Rattle.fbl_logs.specs.Logs.{LogParts}
+use Rattle.fbl_logs.specs.declared.entry.Entry.{Entry}
+use Rattle.fbl_logs.specs.declared.entry.Entry.TheVariants.{Event, Hold, Store}
 use Rattle.fbl_texts.specs.declared.recorded.Checked.TheVariants.{Log}
 use Rattle.fbl_texts.specs.DumpLines.{event_data, list_data, number_data}
 use Rattle.fbl_texts.specs.Logs.{recorded_of_input}

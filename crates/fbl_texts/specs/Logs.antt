@@ -16,7 +16,7 @@ use Rattle.fbl_input.specs.Faults.{HasInput, IsFaultOf}
 use Rattle.fbl_input.specs.Items.{entry_shape, unknown_key}
 use Rattle.fbl_input.specs.Misfits.{IsOfParts}
 use Rattle.fbl_input.specs.Shapes.{◌>>=◌, or_fault, byte_shape, field, list_of, name_of, number_within, set_shape, value_of_input}
-use Rattle.fbl_moments.specs.Logs.{IsLog, IsLogBreach, LogParts, RefusesLog, parts_of_log}
+use Rattle.fbl_logs.specs.Logs.{IsLog, IsLogBreach, LogParts, RefusesLog, parts_of_log}
 use Rattle.fbl_texts.specs.declared.recorded.Checked.{Checked}
 use Rattle.fbl_texts.specs.declared.recorded.Checked.TheVariants as parts
 use Rattle.fbl_texts.specs.declared.recorded.Recorded.{Recorded}

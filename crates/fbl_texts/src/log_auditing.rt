@@ -8,7 +8,9 @@ ghost use Rattle.fbl_texts.specs.LogAuditing.{AreUnsafeMomentLines, IsLogAuditTe
 use crate::auditing::{Verdict, lines_text, push_numbers, push_outcome, put_verdict, verdict_on};
 use crate::sources::Sources;
 use fbl_input::{OutputFault, put};
-use fbl_moments::{RunLog, UnsafeMoment, audit_log, unsafe_moments};
+use fbl_logs::RunLog;
+use fbl_moments::{UnsafeMoment, unsafe_moments};
+use fbl_reasons::audit_log;
 use std::alloc::{AllocError, Global};
 use std::io::Write;
 

@@ -5,7 +5,7 @@ ghost use Rattle.serde_json.specs.View.{view};
 ghost use Rattle.fbl_input.specs.Items.{entry_from, record_from};
 ghost use Rattle.fbl_input.specs.Misfits.{Gives, IsMisfit, IsOfShape};
 ghost use Rattle.fbl_input.specs.declared.misfit.InputKind.TheVariants as kinds;
-ghost use Rattle.fbl_moments.specs.Logs.{parts_of_log};
+ghost use Rattle.fbl_logs.specs.Logs.{parts_of_log};
 ghost use Rattle.fbl_texts.specs.Logs.{log_of_data};
 
 use crate::reading::{event_of, pair_in};
@@ -14,7 +14,7 @@ use fbl_input::shapes::{
     value_field, values_field,
 };
 use fbl_input::{InputKind, Key, Misfit};
-use fbl_moments::{Entry, RawLog};
+use fbl_logs::{Entry, RawLog};
 use serde_json::Value;
 use std::alloc::Global;
 

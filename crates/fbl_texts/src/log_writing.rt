@@ -8,7 +8,7 @@ ghost use Rattle.fbl_texts.specs.Logs.{log_of_data};
 use crate::writing::{
     EventForm, Form, common_members, line_of, list_value, named_value, pair_numbers,
 };
-use fbl_moments::{Entry, RunLog};
+use fbl_logs::{Entry, RunLog};
 use serde_json::{Value, put};
 use std::alloc::{AllocError, Global};
 

@@ -15,7 +15,7 @@ use fbl_base::RawDump;
 use fbl_base::audit::Dump;
 use fbl_input::shapes::{JsonShape, value_in};
 use fbl_input::{InputFault, InputKind, Key, Misfit};
-use fbl_moments::{RawLog, RunLog, checked_log};
+use fbl_logs::{RawLog, RunLog, checked_log};
 use serde_json::Value;
 use std::alloc::Global;
 use std::io::Read;

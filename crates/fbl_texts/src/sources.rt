@@ -3,7 +3,7 @@
 ghost use Rattle.std.specs.Prelude.{◌≡◌, option_map};
 ghost use Rattle.fbl_texts.specs.LogAuditing.{own_file, own_place};
 
-use fbl_moments::EntryOrigin;
+use fbl_logs::EntryOrigin;
 use std::fmt;
 
 /// Where the entries of a log stand in the files from which it was put together. Both lists are empty where it is that of one file.

@@ -3,8 +3,8 @@
 
 ghost use Rattle.std.specs.Prelude.{◌≡◌, IfOk};
 ghost use Rattle.std.specs.List.{AllZip};
-ghost use Rattle.fbl_moments.specs.LastMoments.{dump_of};
-ghost use Rattle.fbl_moments.specs.Reasons.{AreMomentReasons};
+ghost use Rattle.fbl_reasons.specs.LastMoments.{dump_of};
+ghost use Rattle.fbl_reasons.specs.Reasons.{AreMomentReasons};
 ghost use Rattle.fbl_texts.specs.Auditing.{IsLossReason};
 ghost use Rattle.fbl_texts.specs.LogAuditing.{TellsLostInLog};
 
@@ -12,7 +12,8 @@ use crate::sources::Sources;
 use crate::why::{LossReason, OnPath, loss_reasons, write_holders, write_losses, write_path};
 use fbl_base::audit::{Audit, Dump};
 use fbl_base::{Determinant, Mark};
-use fbl_moments::{Entry, MomentReason, RunLog, audit_log, last_dump, moment_reasons};
+use fbl_logs::{Entry, RunLog};
+use fbl_reasons::{MomentReason, audit_log, last_dump, moment_reasons};
 use std::alloc::{AllocError, Global};
 use std::fmt;
 

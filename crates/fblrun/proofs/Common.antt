@@ -51,8 +51,8 @@ pub use Rattle.fblrun.specs.Orders.{DoesScript, EndsLogs, EndsMerged, IsDumpAnsw
 pub use Rattle.fblrun.specs.declared.merging.MergeFault.{MergeFault}
 pub use Rattle.fblrun.specs.declared.DumpTask.{DumpTask}
 pub use Rattle.fbl_pictures.specs.DumpPictures.{IsPicture}
-pub use Rattle.fbl_moments.specs.Logs.{LogParts, parts_of_log}
-pub use Rattle.fbl_moments.specs.declared.log.RawLog.{RawLog}
+pub use Rattle.fbl_logs.specs.Logs.{LogParts, parts_of_log}
+pub use Rattle.fbl_logs.specs.declared.log.RawLog.{RawLog}
 pub use Rattle.fbl_pictures.specs.LogPictures.{IsLogPicture}
 pub use Rattle.fbl_texts.specs.Auditing.{IsAuditText, IsChecked}
 pub use Rattle.fbl_texts.specs.LogAuditing.{IsLogAuditText, IsLogChecked}

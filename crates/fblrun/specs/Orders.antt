@@ -4,8 +4,8 @@ use Rattle.std.specs.Io.KnownBytes.{Keeps}
 use Rattle.std.specs.List.{list_any}
 use Rattle.fbl_base.specs.declared.raw_dump.RawDump.{RawDump}
 use Rattle.fbl_base.specs.Audit.{Parts}
-use Rattle.fbl_moments.specs.Logs.{LogParts}
-use Rattle.fbl_moments.specs.declared.log.RawLog.{RawLog}
+use Rattle.fbl_logs.specs.Logs.{LogParts}
+use Rattle.fbl_logs.specs.declared.log.RawLog.{RawLog}
 use Rattle.fbl_pictures.specs.DumpPictures.{IsPicture}
 use Rattle.fbl_pictures.specs.LogPictures.{IsLogPicture}
 use Rattle.fbl_texts.specs.Auditing.{IsAuditText, IsChecked}

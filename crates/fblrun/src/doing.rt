@@ -14,7 +14,7 @@ use fbl_base::RawDump;
 use fbl_base::audit::Dump;
 use fbl_input::shapes::LONGEST;
 use fbl_input::{OutputFault, put};
-use fbl_moments::{RawLog, RunLog};
+use fbl_logs::{RawLog, RunLog};
 use fbl_pictures::{show_text, write_log_picture, write_picture};
 use fbl_play::{history_of_script, play_script};
 use fbl_texts::{

@@ -1,13 +1,13 @@
 //! What several files record of a run, as one: what they have together, with the events in an order that obeys the rules.
 
 ghost use Rattle.std.specs.Prelude.{◌≡◌, ◌<◌, IfErr, IfOk, length};
-ghost use Rattle.fbl_moments.specs.Logs.{parts_of_log};
+ghost use Rattle.fbl_logs.specs.Logs.{parts_of_log};
 ghost use Rattle.fblrun.specs.Merging.{IsLogMergeOf, IsMergeOf, IsOrderedFrom, RefusesLogMerge, RefusesMerge, RefusesOrder, merge_status};
 
 use crate::{INPUT_FAULT, MEMORY_FAULT};
 use fbl_base::audit::Dump;
 use fbl_base::{Breach, DumpRefusal, MemberSet, PairFault, RawDump};
-use fbl_moments::{EntryOrigin, LogBreach, RawLog, RunLog};
+use fbl_logs::{EntryOrigin, LogBreach, RawLog, RunLog};
 use fbl_order::{
     LogOrderFault, Obstacle, OrderFault, OrderedLog, PartsFault, Stuck, at_places, order_dump,
     order_log, place_in_lists, united, united_logs,

@@ -13,7 +13,7 @@ use fbl_base::{Behaviour, Note};
 use fbl_commands::{Account, Answer};
 use fbl_group::Group;
 use fbl_input::{InputFault, RunFault};
-use fbl_moments::RunLog;
+use fbl_logs::RunLog;
 use fbl_play::{Observer, Transcribed};
 use fbl_texts::{
     Checked, Command, Sources, why_lost, why_lost_in_log, why_unsafe, why_unsafe_in_log,

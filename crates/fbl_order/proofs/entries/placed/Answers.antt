@@ -1,5 +1,5 @@
 use Rattle.fbl_order.proofs.Common.{arith}
-use Rattle.fbl_moments.specs.Entries.{entry_member}
+use Rattle.fbl_logs.specs.Entries.{entry_member}
 use Rattle.fbl_order.proofs.Own.{few_passed}
 use Rattle.fbl_order.proofs.PlacingLaws.{ends-kept, ends-logs, ends-marks}
 use Rattle.fbl_order.specs.Placings.{placed_of}

@@ -1,5 +1,5 @@
 use Rattle.fbl_order.proofs.Common.{ap, inr, refl}
-use Rattle.fbl_moments.specs.Logs.{parts_of_log}
+use Rattle.fbl_logs.specs.Logs.{parts_of_log}
 use Rattle.fbl_order.specs.LogFaults.{breach_given, refusal_given}
 use Rattle.fbl_order.specs.declared.fault.LogOrderFault.TheVariants.{Log}
 use Rattle.fbl_order.proofs.EntryLaws.{group_refused, order_log_answers, placed_order}

@@ -1,7 +1,7 @@
 use Rattle.fbl_order.proofs.Common.{[], ◌∷◌, ◌<◌, ◌≡◌, ap, arith, At-push, inl, inr, length, length-append, refl, slice_get_read, take, take_all}
-use Rattle.fbl_moments.specs.declared.log.EntryOrigin.{EntryOrigin}
+use Rattle.fbl_logs.specs.declared.log.EntryOrigin.{EntryOrigin}
 use Rattle.fbl_order.proofs.Own.{At-some}
-use Rattle.fbl_moments.specs.declared.log.RawLog.{RawLog}
+use Rattle.fbl_logs.specs.declared.log.RawLog.{RawLog}
 use Rattle.fbl_order.specs.Parts.{entries_of}
 use Rattle.fbl_order.proofs.PartLaws.{flat_map-more, origin_at}
 use Rattle.fbl_order.proofs.parts.origins_of.Goals as goal

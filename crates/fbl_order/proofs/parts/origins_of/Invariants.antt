@@ -1,5 +1,5 @@
 use Rattle.std.proofs.Common.{ℕ, ◌≡◌, ◌+◌, Some, length, slice_get, take}
-use Rattle.fbl_moments.specs.declared.log.EntryOrigin.{EntryOrigin}
+use Rattle.fbl_logs.specs.declared.log.EntryOrigin.{EntryOrigin}
 use Rattle.fbl_order.specs.Parts.{IsOriginOf, entries_of}
 use Rattle.fbl_order.proofs.parts.origins_of.Given as goal
 

@@ -1,6 +1,6 @@
 use Rattle.fbl_pictures.proofs.Common.{List, ◌≡◌, ◌∙◌, Some, None, ap, inl, inr, slice_get, subst, sym, IfOk-weaker, option_copied, receipts_in, UnsafeMoment}
-use Rattle.fbl_moments.specs.Logs.{run_of}
-use Rattle.fbl_moments.specs.Runs.{AlwaysSafe}
+use Rattle.fbl_logs.specs.Logs.{run_of}
+use Rattle.fbl_logs.specs.Runs.{AlwaysSafe}
 use Rattle.fbl_moments.specs.Unsafe.{SaysUnsafe}
 use Rattle.fbl_pictures.proofs.Moments.{first_of, nothing_of, says_first}
 use Rattle.fbl_pictures.proofs.log_picture.log_picture.Goals as goal

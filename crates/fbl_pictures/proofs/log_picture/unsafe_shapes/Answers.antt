@@ -1,5 +1,5 @@
 use Rattle.fbl_pictures.proofs.Common.{ℕ, List, ◌≡◌, ◌≤◌, length, subst, sym, Entry, IfOk-weaker, Parts, log_of, cut_in, AreCrossings, AreFoundShapes, StandsAt, UnsafeMoment, found_in, Columns}
-use Rattle.fbl_moments.specs.LastMoments.{dump_of}
+use Rattle.fbl_reasons.specs.LastMoments.{dump_of}
 use Rattle.fbl_pictures.proofs.Finding.{weaker_moment}
 use Rattle.fbl_pictures.proofs.Moments.{least_within, orphans_depend, said_is_received}
 use Rattle.fbl_pictures.proofs.log_picture.unsafe_shapes.Goals as goal

@@ -1,7 +1,7 @@
 use Rattle.fbl_texts.proofs.Common.{◌∙◌, ap, verdict_of}
-use Rattle.fbl_moments.specs.Entries.{receipts_in}
-use Rattle.fbl_moments.specs.Logs.{run_of}
-use Rattle.fbl_moments.specs.Runs.{AlwaysSafe}
+use Rattle.fbl_logs.specs.Entries.{receipts_in}
+use Rattle.fbl_logs.specs.Logs.{run_of}
+use Rattle.fbl_logs.specs.Runs.{AlwaysSafe}
 use Rattle.fbl_moments.specs.Unsafe.{SaysUnsafe}
 use Rattle.fbl_texts.specs.LogAuditing.{IsLogChecked, IsLogCheckText}
 use Rattle.fbl_texts.proofs.Verdicts.{puts_none, puts_verdict}

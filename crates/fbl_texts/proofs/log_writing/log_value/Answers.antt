@@ -1,7 +1,7 @@
 use Rattle.std.proofs.Common.{rules}
 use Rattle.fbl_texts.proofs.Common.{◌≡◌, List, subst, Some, All}
 use Rattle.fbl_input.specs.Items.{entry_shape}
-use Rattle.fbl_moments.specs.declared.entry.Entry.{Entry}
+use Rattle.fbl_logs.specs.declared.entry.Entry.{Entry}
 use Rattle.fbl_texts.specs.LogLines.{entry_data, log_data}
 use Rattle.serde_json.proofs.Views.{view-Object}
 use Rattle.fbl_texts.proofs.LogValues.{log_read}

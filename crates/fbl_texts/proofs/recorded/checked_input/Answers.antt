@@ -1,5 +1,5 @@
 use Rattle.std.proofs.Common.{ap, refl}
-use Rattle.fbl_moments.specs.Logs.{parts_of_log}
+use Rattle.fbl_logs.specs.Logs.{parts_of_log}
 use Rattle.fbl_texts.specs.Logs.{IsNotChecked, recorded_parts}
 use Rattle.fbl_texts.proofs.Records.{dump_refused, log_refused}
 use Rattle.fbl_texts.proofs.Refusals.{is_passed}

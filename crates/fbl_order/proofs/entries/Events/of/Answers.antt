@@ -1,7 +1,7 @@
 use Rattle.fbl_order.proofs.Common.{List, Mark, None, Some, [], ◌∷◌, ◌++◌, ◌+◌, ◌≡◌, ◌∙◌, add-one, ap, arith, length, refl, slice_get, slice_get_read, sym, take, take-more, take_all, ℕ}
 use Rattle.std.proofs.lemmas.List.{length-take-le}
-use Rattle.fbl_moments.specs.declared.entry.Entry.{Entry}
-use Rattle.fbl_moments.specs.Entries.{mark_in}
+use Rattle.fbl_logs.specs.declared.entry.Entry.{Entry}
+use Rattle.fbl_logs.specs.Entries.{mark_in}
 use Rattle.fbl_order.proofs.EventPlaces.{marks-event, marks-record, places-event, places-record}
 use Rattle.fbl_order.proofs.entries.Events.of.Goals as goal
 use Rattle.fbl_order.proofs.entries.Events.of.Goals.{in-Some+in_ok-push+in_ok-push-2, in_default}

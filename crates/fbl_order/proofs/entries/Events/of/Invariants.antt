@@ -1,5 +1,5 @@
 use Rattle.fbl_order.proofs.Common.{◌≡◌, take}
-use Rattle.fbl_moments.specs.Entries.{marks}
+use Rattle.fbl_logs.specs.Entries.{marks}
 use Rattle.fbl_order.specs.LogFaults.{AreEventPlaces}
 use Rattle.fbl_order.proofs.entries.Events.of.Given as goal
 

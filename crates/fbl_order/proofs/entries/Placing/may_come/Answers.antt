@@ -1,5 +1,5 @@
 use Rattle.fbl_order.proofs.Common.{None, Some, ◌≡◌, ◌∙◌, ap, refl, slice_get_read, sym}
-use Rattle.fbl_moments.specs.Entries.{mark_in}
+use Rattle.fbl_logs.specs.Entries.{mark_in}
 use Rattle.fbl_order.proofs.entries.Placing.may_come.Goals as goal
 
 pub returns-in-None : goal.returns-in-None

@@ -1,4 +1,4 @@
-use Rattle.fbl_moments.specs.Entries.{entry_member}
+use Rattle.fbl_logs.specs.Entries.{entry_member}
 use Rattle.fbl_order.proofs.Own.{none_passed}
 use Rattle.fbl_order.proofs.PlacingLaws.{begins}
 use Rattle.fbl_order.proofs.Common.{refl}

@@ -1,7 +1,7 @@
 use Rattle.fbl_order.proofs.Common.{List, Some, ◌+◌, ◌≡◌, ◌∙◌, ap, arith, false, refl, slice_get, slice_get_read, slice_get_within, sym, true, ℕ}
 use Rattle.std.proofs.Common.{is_some, set}
-use Rattle.fbl_moments.specs.declared.entry.Entry.{Entry}
-use Rattle.fbl_moments.specs.Entries.{entry_member, mark_in}
+use Rattle.fbl_logs.specs.declared.entry.Entry.{Entry}
+use Rattle.fbl_logs.specs.Entries.{entry_member, mark_in}
 use Rattle.fbl_order.specs.Cursors.{IsFirstFrom}
 use Rattle.fbl_order.proofs.PlacingLaws.{no_marks, one_mark, placed_more}
 use Rattle.fbl_order.proofs.entries.Placing.take.Goals as goal

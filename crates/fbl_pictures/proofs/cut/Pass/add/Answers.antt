@@ -1,5 +1,5 @@
 use Rattle.fbl_pictures.proofs.Common.{ℕ, ◌+◌, ◌==◌, ◌<◌, ◌≤◌, ◌≡◌, ◌∙◌, None, Some, ap, arith, column_in, cond, false≢true, get_or, is_some, not, slice_get, slice_get-get_or, subst, sym, set, entry_member, cut_in, IsBeyond, IsEnd, seen}
-use Rattle.fbl_moments.proofs.Passes.{seen-le}
+use Rattle.fbl_logs.proofs.Passes.{seen-le}
 use Rattle.fbl_pictures.proofs.Crossing.{beyond_kept, beyond_set, end_come, end_kept, pass_more, is_none}
 use Rattle.fbl_pictures.specs.declared.cut.Pass.{Pass}
 use Rattle.fbl_pictures.proofs.cut.Pass.add.Goals as goal
