@@ -1,11 +1,11 @@
 -- The names that proofs of this crate take from outside: of the standard library, of the crates below, and of the definitions here.
-pub use Rattle.std.proofs.Common.{All, Bool, Fits, IfSome, List, None, Option, Some, Vec, [], add-one, ap, append-nil, append_assoc, arith, cond, count_by, deque_capacity, deque_items, deque_len, drop, drop_of_length-le, false, get_or, inl, inr, length, length-append, map, nat_lt, not, refl, replicate, rules, set, slice_get, slice_index_or, slice_set, subst, suc, sum_by, sym, take, true, vec_capacity, vec_len, w32, w64, zero, ℕ, ◌*◌, ◌++◌, ◌+◌}
+pub use Rattle.std.proofs.Common.{All, Bool, Fits, IfSome, List, None, Option, Some, [], add-one, ap, append-nil, append_assoc, arith, cond, count_by, deque_items, drop, drop_of_length-le, false, get_or, inl, inr, length, length-append, map, nat_lt, not, refl, replicate, rules, slice_get, slice_index_or, slice_set, subst, suc, sum_by, sym, take, true, vec_capacity, vec_len, w32, w64, zero, ℕ, ◌*◌, ◌++◌, ◌+◌}
 pub use Rattle.std.proofs.Common.{◌-◌, ◌<◌, ◌==◌, ◌^◌, ◌||◌, ◌↔◌, ◌∙◌, ◌∷◌, ◌≡◌, ◌≢◌, ◌≤◌, ◌⊎◌}
 pub use Rattle.std.proofs.lemmas.Bool.{false≢true, true_from_ne_false}
 pub use Rattle.std.proofs.lemmas.Bool.Decides.{nat_tests}
 pub use Rattle.std.proofs.lemmas.Fn.{filter_same}
 pub use Rattle.std.proofs.lemmas.Grind.{common_steps}
-pub use Rattle.std.proofs.lemmas.List.{at_drop_more, get_or-map, get_or-replicate, get_or-set_other, get_or-set_same, get_or_default, get_or_past, length-map, length-replicate, length-set, map-append, map-set, set-get_or, length-take, map_more, replicate_more, take_all}
+pub use Rattle.std.proofs.lemmas.List.{at_drop_more, get_or-replicate, get_or-set_other, get_or-set_same, get_or_default, get_or_past, length-map, length-replicate, length-set, map-append, set-get_or, length-take, map_more, take_all}
 pub use Rattle.std.proofs.lemmas.List.Elements.{filter-append, filter_map-append}
 pub use Rattle.std.proofs.lemmas.List.Folds.{Any-from_list_any, list_any-from_Any}
 pub use Rattle.std.proofs.lemmas.List.Sums.{AllPass-from_list_all, count_by_more_no, count_by_more_yes, fold-append, list_all-from_AllPass, sum_by-cons, count_by-le-length}
@@ -14,9 +14,6 @@ pub use Rattle.std.specs.Cmp.{nat_cmp_total, unsigned_tied}
 pub use Rattle.std.specs.FinSet.{contains, empty_of_len, len-empty}
 pub use Rattle.std.specs.List.{filter, filter_map, list_any}
 pub use Rattle.std.specs.Ordering.{eq_by_cmp, nat_cmp}
-pub use Rattle.std.specs.Vec.{with_item}
-pub use Rattle.std.specs.Vec.Iter.{into_iter_items}
-pub use Rattle.std.specs.declared.collections.VecDeque.{VecDeque}
 pub use Rattle.fbl_base.proofs.LawfulLaws.{after_notes-state}
 pub use Rattle.fbl_base.proofs.RulesLaws.{eqb-self}
 pub use Rattle.fbl_base.proofs.Gets.{length-filter_map, length-left}
@@ -56,10 +53,11 @@ pub use Rattle.fbl_member.specs.Members.{MemberRecord, Message, blank, logged_no
 pub use Rattle.fbl_table.specs.Receipts.{IsByNumber, receipt_at}
 pub use Rattle.fbl_table.specs.Tables.{found, piggybacked}
 pub use Rattle.fbl_table.specs.declared.entry.Entry.{Entry}
-pub use Rattle.fbl_group.specs.Channels.{AreReplaced, each, first_message, front, front_message, room_in, rooms, rows, send_of_message, taken_and_sent, value_of, with_at, with_sent}
-pub use Rattle.fbl_group.specs.Deliveries.{Delivered, Delivers, IsDeliverRefusal, IsPlanned, MayTakeIn, TakesIn, deliver_refusal, of_commit, IsCurrent, IsFresh, IsTicket, MayCommit, RefusesCommit, is_full, record_at, sends_at, take_refusal}
+pub use Rattle.fbl_answers.specs.Refusals.{of_commit}
+pub use Rattle.fbl_answers.specs.declared.answers.Receipted.{Receipted}
+pub use Rattle.fbl_answers.specs.declared.refusals.CommitRefusal.{CommitRefusal}
+pub use Rattle.fbl_channels.proofs.Queues.{Replacing, in-channels, reads, replacing-kept, replacing-other}
+pub use Rattle.fbl_channels.specs.Channels.{AreReplaced, each, first_message, front, front_message, room_in, rows, send_of_message, taken_and_sent, with_at, with_sent}
+pub use Rattle.fbl_group.specs.Deliveries.{Delivered, Delivers, IsDeliverRefusal, IsPlanned, MayTakeIn, TakesIn, deliver_refusal, IsCurrent, IsFresh, IsTicket, MayCommit, RefusesCommit, is_full, record_at, sends_at, take_refusal}
 pub use Rattle.fbl_group.specs.Strikes.{AreByNumber, AreReplaying, AreSentAgain, IsReady, Rounds, Tries, Recovers, messages_at, AreRecordsReplaced, is_lost_receipt_of, is_within, lost_receipts, strike_refusal}
-pub use Rattle.fbl_group.specs.declared.answers.Receipted.{Receipted}
-pub use Rattle.fbl_group.specs.declared.channels.Channels.{Channels}
-pub use Rattle.fbl_group.specs.declared.refusals.CommitRefusal.{CommitRefusal}
 pub use Rattle.fbl_base.specs.declared.ticket.Ticket.{Ticket}

@@ -6,7 +6,7 @@ use Rattle.std.specs.FinSet as set
 use Rattle.fbl_base.specs.declared.trace.Event.TheVariants as event
 use Rattle.std.specs.Prelude.{Bool}
 use Rattle.fbl_group.proofs.Recovering.{read_at}
-use Rattle.fbl_group.specs.declared.answers.Recovered.{Recovered}
+use Rattle.fbl_answers.specs.declared.answers.Recovered.{Recovered}
 use Rattle.fbl_group.specs.Strikes.{Recovers}
 use Rattle.fbl_group.specs.Theorem.{AreStruck, IsRecoverable, Restores}
 use Rattle.fbl_group.specs.Theorem.AreStruck.{nobody, and_these}

@@ -1,9 +1,9 @@
 -- When a checkpoint is refused.
-use Rattle.std.specs.Prelude.{◌≡◌, ℕ, List, codes, ◌==◌, not, nat_lt, Option, Some, None, if◌then◌else◌}
+use Rattle.std.specs.Prelude.{◌≡◌, ℕ, ◌==◌, not, nat_lt, Option, Some, None, if◌then◌else◌}
 use Rattle.std.specs.FinSet as set
 use Rattle.fbl_law.specs.Groups.{GroupRecord}
-use Rattle.fbl_group.specs.declared.refusals.CheckpointRefusal.{CheckpointRefusal}
-use Rattle.fbl_group.specs.declared.refusals.CheckpointRefusal.TheVariants.{BadMember, Down, Memory}
+use Rattle.fbl_answers.specs.declared.refusals.CheckpointRefusal.{CheckpointRefusal}
+use Rattle.fbl_answers.specs.declared.refusals.CheckpointRefusal.TheVariants.{BadMember, Down, Memory}
 
 -- the first refusal of a checkpoint of the member that holds, but for lack of memory
 abbrev pub checkpoint_refusal : {S N : Type 0} → GroupRecord S N → ℕ → Option CheckpointRefusal
@@ -13,9 +13,3 @@ checkpoint_refusal r p = if not (nat_lt p r.config.members) then Some BadMember 
 abbrev pub IsCheckpointRefusal : Option CheckpointRefusal → CheckpointRefusal → Type 0
 IsCheckpointRefusal first Memory = first ≡ None
 IsCheckpointRefusal first refusal = first ≡ Some refusal
-
--- the word of a refusal, as it is printed
-abbrev pub checkpoint_name : CheckpointRefusal → List ℕ
-checkpoint_name BadMember = codes "BadMember"
-checkpoint_name Down = codes "Down"
-checkpoint_name Memory = codes "Memory"

@@ -1,21 +1,22 @@
 -- Steps that are taken apart from the record, and deliveries: when they are refused, and what they leave and answer.
-use Rattle.std.specs.Prelude.{◌≡◌, ◌≢◌, ℕ, List, codes, ◌+◌, ◌==◌, ◌&&◌, ◌||◌, not, nat_lt, Bool, true, false, length, Option, Some, None, if◌then◌else◌, ◌<◌, ◌≤◌, [], slice_index_or, slice_set}
+use Rattle.std.specs.Prelude.{◌≡◌, ◌≢◌, ℕ, List, ◌+◌, ◌==◌, ◌&&◌, ◌||◌, not, nat_lt, Bool, true, false, length, Option, Some, None, if◌then◌else◌, ◌<◌, ◌≤◌, [], slice_index_or, slice_set}
 use Rattle.std.specs.FinSet as set
 use Rattle.fbl_base.specs.Fold.{Next}
 use Rattle.fbl_member.specs.Members.{Message, MemberRecord, blank, last_from, messages_from, next_determinant, received_by, table_after}
 use Rattle.fbl_table.specs.Tables.{is_held, piggybacked}
 use Rattle.fbl_law.specs.Groups.{GroupRecord, member}
-use Rattle.fbl_group.specs.declared.refusals.TakeRefusal.{TakeRefusal}
-use Rattle.fbl_group.specs.declared.refusals.TakeRefusal.TheVariants as take
-use Rattle.fbl_group.specs.declared.refusals.CommitRefusal.{CommitRefusal}
-use Rattle.fbl_group.specs.declared.refusals.CommitRefusal.TheVariants as commit
+use Rattle.fbl_answers.specs.declared.refusals.TakeRefusal.{TakeRefusal}
+use Rattle.fbl_answers.specs.declared.refusals.TakeRefusal.TheVariants as take
+use Rattle.fbl_answers.specs.declared.refusals.CommitRefusal.{CommitRefusal}
+use Rattle.fbl_answers.specs.declared.refusals.CommitRefusal.TheVariants as commit
 use Rattle.fbl_base.specs.declared.ticket.Ticket.{Ticket}
-use Rattle.fbl_group.specs.Channels.{front, front_message}
+use Rattle.fbl_channels.specs.Channels.{front, front_message}
 use Rattle.fbl_base.specs.declared.outcome.Outcome.{Outcome}
 use Rattle.fbl_law.specs.GroupSteps.{step_of, IsDelivery}
-use Rattle.fbl_group.specs.declared.refusals.DeliverRefusal.{DeliverRefusal}
-use Rattle.fbl_group.specs.declared.refusals.DeliverRefusal.TheVariants.{BadMember, Down, Empty, Full, Memory}
-use Rattle.fbl_group.specs.declared.answers.Receipted.{Receipted}
+use Rattle.fbl_answers.specs.declared.refusals.DeliverRefusal.{DeliverRefusal}
+use Rattle.fbl_answers.specs.declared.refusals.DeliverRefusal.TheVariants.{Full, Memory}
+use Rattle.fbl_answers.specs.declared.answers.Receipted.{Receipted}
+use Rattle.fbl_answers.specs.Refusals.{of_take}
 
 -- no message is on the channel
 abbrev pub empty_refusal : {N : Type 0} → Option (Message N) → Option TakeRefusal
@@ -75,18 +76,6 @@ RefusesCommit next r t commit.Down = set.len r.down ≢ 0
 RefusesCommit next r t commit.Stale = (set.len r.down ≡ 0) × ¬ (IsFresh r t)
 RefusesCommit next r t commit.Full = (set.len r.down ≡ 0) × IsFresh r t × (is_full r (sends_at next t) ≡ true)
 RefusesCommit next r t commit.Memory = MayCommit next r t
-
--- a refusal of a ticket as one of a delivery
-abbrev pub of_take : TakeRefusal → DeliverRefusal
-of_take take.BadMember = BadMember
-of_take take.Down = Down
-of_take take.Empty = Empty
-
--- a refusal of the commit of a step whose ticket was just taken, as one of a delivery: there is no room, or no memory, since
--- nobody is down and nothing is stale then
-abbrev pub of_commit : CommitRefusal → DeliverRefusal
-of_commit commit.Memory = Memory
-of_commit refusal = Full
 
 -- there is no room for the events of the message's step
 abbrev pub room_refusal : {S N : Type 0} → Next S N → GroupRecord S N → Option (Message N) → Option DeliverRefusal
@@ -154,11 +143,3 @@ pub record TakesIn {S N : Type 0} (next : Next S N) (f p : ℕ) (outcome : Outco
   pub members : new ≡ slice_set old p (received_by p (record_at next old p) w outcome)
   pub numbered : rsn ≡ (record_at next old p).received + 1
   pub sent : made ≡ messages_from p (length (record_at next old p).log) (piggybacked f (table_after p (record_at next old p) w)) outcome.sends.items
-
--- the word of a refusal, as it is printed
-abbrev pub deliver_name : DeliverRefusal → List ℕ
-deliver_name BadMember = codes "BadMember"
-deliver_name Down = codes "Down"
-deliver_name Empty = codes "Empty"
-deliver_name Full = codes "Full"
-deliver_name Memory = codes "Memory"

@@ -1,4 +1,3 @@
-pub mod Channels
 pub mod Deliveries
 pub mod Strikes
 pub mod Readers

@@ -1,5 +1,5 @@
 -- Strikes, recoveries, and crashes, which are both: when they are refused, and what they leave and answer.
-use Rattle.std.specs.Prelude.{◌≡◌, ℕ, codes, ◌<◌, ◌==◌, ◌&&◌, not, nat_lt, Bool, true, false, length, Option, Some, None, if◌then◌else◌, List, slice_index_or, ◌+◌, ◌||◌, []}
+use Rattle.std.specs.Prelude.{◌≡◌, ℕ, ◌<◌, ◌==◌, ◌&&◌, not, nat_lt, Bool, true, false, length, Option, Some, None, if◌then◌else◌, List, slice_index_or, ◌+◌, ◌||◌, []}
 use Rattle.std.specs.List.{filter, list_all}
 use Rattle.std.specs.FinSet as set
 use Rattle.fbl_base.specs.MemberSets.{Members}
@@ -10,16 +10,17 @@ use Rattle.fbl_base.specs.Fold.{Next}
 use Rattle.fbl_member.specs.Members.{MemberRecord, Message, blank}
 use Rattle.fbl_law.specs.Groups.{GroupRecord, marks, receipts, is_recorded, is_recorded_among, channel, channel_in, sum_below, member_checkpoint, knowledge}
 use Rattle.fbl_law.specs.GroupSteps.{IsStrike, IsRecovery, is_replayed, IsReplaying, IsWaiting, replayed_in, recovery_table, sent_again, working}
-use Rattle.fbl_group.specs.declared.refusals.StrikeRefusal.{StrikeRefusal}
-use Rattle.fbl_group.specs.declared.refusals.StrikeRefusal.TheVariants as strike
-use Rattle.fbl_group.specs.declared.answers.Struck.{Struck}
-use Rattle.fbl_group.specs.declared.answers.Recovered.{Recovered}
-use Rattle.fbl_group.specs.declared.refusals.RecoverRefusal.{RecoverRefusal}
-use Rattle.fbl_group.specs.declared.refusals.RecoverRefusal.TheVariants.{NotDown, Memory}
+use Rattle.fbl_answers.specs.declared.refusals.StrikeRefusal.{StrikeRefusal}
+use Rattle.fbl_answers.specs.declared.refusals.StrikeRefusal.TheVariants as strike
+use Rattle.fbl_answers.specs.Refusals.{of_strike}
+use Rattle.fbl_answers.specs.declared.answers.Struck.{Struck}
+use Rattle.fbl_answers.specs.declared.answers.Recovered.{Recovered}
+use Rattle.fbl_answers.specs.declared.refusals.RecoverRefusal.{RecoverRefusal}
+use Rattle.fbl_answers.specs.declared.refusals.RecoverRefusal.TheVariants.{NotDown, Memory}
 use Rattle.fbl_table.specs.Receipts.{IsByNumber}
 use Rattle.fbl_law.specs.Knowledge.{IsDown}
-use Rattle.fbl_group.specs.declared.refusals.CrashRefusal.{CrashRefusal}
-use Rattle.fbl_group.specs.declared.refusals.CrashRefusal.TheVariants as crash
+use Rattle.fbl_answers.specs.declared.refusals.CrashRefusal.{CrashRefusal}
+use Rattle.fbl_answers.specs.declared.refusals.CrashRefusal.TheVariants as crash
 
 -- whether each member of the set is below n
 abbrev pub is_within : Members → ℕ → Bool
@@ -115,12 +116,6 @@ AreSentAgain r rebuilt again = (q p : ℕ) → q < r.config.members → p < r.co
 abbrev pub Crashes : {S N : Type 0} → Next S N → GroupRecord S N → GroupRecord S N → Members → Struck → Recovered → Type 0
 Crashes {S} {N} next old new set struck recovered = (down : GroupRecord S N) × Strikes next old down set struck × Recovers next down new recovered
 
--- a refusal of the strike as one of the crash
-abbrev pub of_strike : StrikeRefusal → CrashRefusal
-of_strike strike.BadMember = crash.BadMember
-of_strike strike.Nobody = crash.Nobody
-of_strike strike.TooMany = crash.TooMany
-
 -- the crash is refused as the strike is, with nothing changed
 abbrev pub IsStrikeRefused : {S N : Type 0} → GroupRecord S N → GroupRecord S N → Members → CrashRefusal → Type 0
 IsStrikeRefused old new set refusal = (reason : StrikeRefusal) × (strike_refusal old set ≡ Some reason) × (of_strike reason ≡ refusal) × (new ≡ old)
@@ -133,14 +128,3 @@ IsStrikeAlone next old new set = (strike_refusal old set ≡ None) × ((struck :
 abbrev pub CrashLeaves : {S N : Type 0} → Next S N → GroupRecord S N → GroupRecord S N → Members → CrashRefusal → Type 0
 CrashLeaves next old new set crash.Memory = IsStrikeAlone next old new set
 CrashLeaves next old new set refusal = IsStrikeRefused old new set refusal
-
--- ---- the words of refusals, as they are printed
-
-abbrev pub strike_name : StrikeRefusal → List ℕ
-strike_name strike.BadMember = codes "BadMember"
-strike_name strike.Nobody = codes "Nobody"
-strike_name strike.TooMany = codes "TooMany"
-
-abbrev pub recover_name : RecoverRefusal → List ℕ
-recover_name NotDown = codes "NotDown"
-recover_name Memory = codes "Memory"

@@ -11,7 +11,7 @@ ghost use Rattle.fbl_law.specs.GroupSteps.{IsCheckpoint};
 ghost use Rattle.fbl_group.specs.Checkpoints.{checkpoint_refusal, IsCheckpointRefusal};
 
 use crate::group::Group;
-use crate::refusals::CheckpointRefusal;
+use fbl_answers::CheckpointRefusal;
 use fbl_base::{Behaviour, Member};
 use std::alloc::{AllocError, Allocator};
 

@@ -2,13 +2,12 @@
 
 ghost use Rattle.std.specs.Prelude.{◌≡◌, ◌↔◌, ◌+◌, ◌<◌, ◌≤◌, IsTrue, IfOk, IfErr, IfSome, IfNone, OnOk, OnErr, None, Some};
 ghost use Rattle.fbl_member.specs.Members.{Message};
-ghost use Rattle.fbl_group.specs.Channels.{front as front_of};
+ghost use Rattle.fbl_channels.specs.Channels.{front as front_of};
 ghost use Rattle.fbl_group.specs.Deliveries.{Delivers, IsPlanned, has_no_room, take_refusal, IsTicket, IsCurrent, MayCommit, RefusesCommit};
 
-use crate::answers::Receipted;
 use crate::group::Group;
-use crate::refusals::{CommitRefusal, TakeRefusal};
 use crate::ticket::Done;
+use fbl_answers::{CommitRefusal, Receipted, TakeRefusal};
 use fbl_base::{Behaviour, Content, Exact, Member, Ticket};
 use fbl_member::{MemberRec, Wire};
 use std::alloc::{AllocError, Allocator};

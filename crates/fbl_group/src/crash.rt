@@ -5,9 +5,8 @@ ghost use Rattle.fbl_law.specs.Groups.{knowledge};
 ghost use Rattle.fbl_law.specs.Promises.{KeepsHolders};
 ghost use Rattle.fbl_group.specs.Strikes.{strike_refusal, Crashes, CrashLeaves};
 
-use crate::answers::{Recovered, Struck};
 use crate::group::Group;
-use crate::refusals::CrashRefusal;
+use fbl_answers::{CrashRefusal, Recovered, Struck};
 use fbl_base::{Behaviour, MemberSet};
 use std::alloc::Allocator;
 

@@ -1,13 +1,13 @@
 //! Deliveries.
 
 ghost use Rattle.std.specs.Prelude.{◌≡◌, ◌<◌, IfOk, IfErr, OnErr, None, vec_len};
-ghost use Rattle.fbl_group.specs.Channels.{front_message};
-ghost use Rattle.fbl_group.specs.Deliveries.{deliver_refusal, IsDeliverRefusal, IsPlanned, Delivers, Delivered, MayTakeIn, TakesIn, of_commit as of_commit_refusal, record_at};
+ghost use Rattle.fbl_channels.specs.Channels.{front_message};
+ghost use Rattle.fbl_group.specs.Deliveries.{deliver_refusal, IsDeliverRefusal, IsPlanned, Delivers, Delivered, MayTakeIn, TakesIn, record_at};
+ghost use Rattle.fbl_answers.specs.Refusals.{of_commit as of_commit_refusal};
 
-use crate::answers::Receipted;
 use crate::group::Group;
-use crate::refusals::{CommitRefusal, DeliverRefusal};
 use crate::ticket::{Done, run_step};
+use fbl_answers::{CommitRefusal, DeliverRefusal, Receipted};
 use fbl_base::{Behaviour, Event, Member, Outcome};
 use fbl_member::{MemberRec, Wire};
 use std::alloc::{AllocError, Allocator};

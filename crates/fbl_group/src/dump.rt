@@ -11,7 +11,7 @@ ghost use Rattle.fbl_law.specs.Promises.{pairs_of, pairs_from, dump_of};
 ghost use Rattle.fbl_group.specs.Readers.{IsDumpRefusal};
 
 use crate::group::Group;
-use crate::refusals::DumpGroupRefusal;
+use fbl_answers::DumpGroupRefusal;
 use fbl_base::audit::Dump;
 use fbl_base::{Behaviour, Content, Determinant, Event, Mark, Member, MemberSet, RawDump};
 use fbl_member::MemberRec;

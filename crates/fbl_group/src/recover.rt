@@ -1,22 +1,18 @@
 //! Recovery of the members that are down.
 
-ghost use Rattle.std.specs.Prelude.{◌≡◌, ℕ, ◌<◌, ◌≤◌, length, map, IfOk, IfErr, OnErr, OnOk};
+ghost use Rattle.std.specs.Prelude.{◌≡◌, ℕ, ◌<◌, length, map, IfOk, IfErr, OnErr, OnOk};
 ghost use Rattle.std.specs.FinSet as set;
 ghost use Rattle.fbl_base.specs.Events.{mark_of};
-ghost use Rattle.fbl_law.specs.Groups.{HasChannels, channel_in, knowledge, receipts};
+ghost use Rattle.fbl_law.specs.Groups.{knowledge, receipts};
 ghost use Rattle.fbl_law.specs.Promises.{GainsHolders, RecordsFirst};
-ghost use Rattle.fbl_group.specs.Channels.{rows, AreReplaced};
 ghost use Rattle.fbl_group.specs.Strikes.{AreSentAgain, Recovers, IsReady, IsRecoverRefusal, lost_receipts};
 ghost use Rattle.fbl_group.specs.Theorem.{Restores};
 
-use crate::answers::Recovered;
-use crate::channels::{Channels, has_either};
 use crate::group::Group;
 use crate::rebuilt::Rebuilt;
-use crate::refusals::RecoverRefusal;
-use fbl_base::{Behaviour, Event, Member, MemberSet};
+use fbl_answers::{RecoverRefusal, Recovered};
+use fbl_base::{Behaviour, Event, MemberSet};
 use std::alloc::{AllocError, Allocator};
-use std::mem;
 
 impl<B: Behaviour, A: Allocator + Copy> Group<B, A> {
     /// Recovers the members that are down: each begins at its checkpoint and is put at the fold of the receipts that a
@@ -89,27 +85,4 @@ fn count_receipts<N: Copy>(trace: &[Event<N>]) -> u64
 {
     let marks = trace.iter().map(|event| event.mark());
     marks.filter_map(|mark| mark.determinant()).count() as u64
-}
-
-impl<N: Copy, A: Allocator> Channels<N, A> {
-    /// Puts the channels that were made again in the places of those with an end that is down, of `n` members.
-    fn replace(&mut self, again: &mut Channels<N, A>, down: MemberSet, n: u8)
-        requires shape { HasChannels n (rows self.old) }
-        requires again { HasChannels n (rows again.old) }
-        requires few { n ≤ 16 }
-        ensures { AreReplaced n down (channel_in (rows again.old)) (rows self.old) (rows self.new) }
-    {
-        for sender in 0..n {
-            let from = Member::at(sender);
-            for receiver in 0..n {
-                let to = Member::at(receiver);
-                if has_either(down, from, to) {
-                    mem::swap(
-                        &mut self.rows[usize::from(sender)][usize::from(receiver)],
-                        &mut again.rows[usize::from(sender)][usize::from(receiver)],
-                    );
-                }
-            }
-        }
-    }
 }

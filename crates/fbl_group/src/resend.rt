@@ -5,12 +5,12 @@ ghost use Rattle.std.specs.VecDeque.{deque_items};
 ghost use Rattle.fbl_table.specs.Tables.{piggybacked};
 ghost use Rattle.fbl_law.specs.Groups.{HasChannels};
 ghost use Rattle.fbl_law.specs.GroupSteps.{working, resent, sent_again};
-ghost use Rattle.fbl_group.specs.Channels.{rows};
+ghost use Rattle.fbl_channels.specs.Channels.{rows};
 ghost use Rattle.fbl_group.specs.Strikes.{AreSentAgain};
 
-use crate::channels::{Channel, Channels, has_either};
 use crate::group::Group;
 use fbl_base::{Behaviour, Member};
+use fbl_channels::{Channel, Channels, has_either};
 use fbl_member::{Carried, MemberRec, Wire};
 use fbl_table::Table;
 use std::alloc::{AllocError, Allocator};
@@ -31,7 +31,7 @@ impl<B: Behaviour, A: Allocator + Copy> Group<B, A> {
             let from = Member::at(number);
             rows.push(self.resend_from(rebuilt, from)?)?;
         }
-        Ok(Channels { rows })
+        Ok(Channels::of_rows(rows))
     }
 
     /// The member's channels made again.

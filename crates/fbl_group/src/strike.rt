@@ -6,15 +6,14 @@ ghost use Rattle.fbl_table.specs.Tables.{is_held};
 ghost use Rattle.fbl_member.specs.Members.{blank};
 ghost use Rattle.fbl_law.specs.Promises.{SurvivorsHold, RecordsFirst, RecordsCauses};
 ghost use Rattle.fbl_law.specs.Groups.{HasChannels, is_recorded_among as is_recorded_among_of, knowledge};
-ghost use Rattle.fbl_group.specs.Channels.{rows, AreReplaced};
+ghost use Rattle.fbl_channels.specs.Channels.{rows, AreReplaced};
 ghost use Rattle.fbl_group.specs.Strikes.{strike_refusal, Strikes, AreRecordsReplaced, is_within, is_lost_receipt_of, lost_receipts};
 ghost use Rattle.fbl_group.specs.Theorem.{HasNoOrphan};
 
-use crate::answers::Struck;
-use crate::channels::{Channels, has_either};
 use crate::group::Group;
-use crate::refusals::StrikeRefusal;
+use fbl_answers::{StrikeRefusal, Struck};
 use fbl_base::{Behaviour, Content, Determinant, Event, Member, MemberSet};
+use fbl_channels::{Channels, has_either};
 use fbl_member::MemberRec;
 use std::alloc::{AllocError, Allocator};
 
@@ -37,7 +36,7 @@ impl<B: Behaviour, A: Allocator + Copy> Group<B, A> {
         self.allow_strike(set)?;
         let n = self.config.members();
         blank_members::<B, A>(&mut self.members, set, n, self.config.f());
-        self.channels.drop_at(set, n);
+        drop_at(&mut self.channels, set, n);
         self.down = self.down.union(set);
         self.promises();
         // Each receipt of a member that is up is held, so that those of members that are down are counted alone.
@@ -205,20 +204,18 @@ fn make_blank<S: Copy, N: Content, A: Allocator + Copy>(
     *member = MemberRec::blank(alloc, f, first);
 }
 
-impl<N: Copy, A: Allocator> Channels<N, A> {
-    /// Drops the messages in flight with an end among the members named, of `n`.
-    fn drop_at(&mut self, set: MemberSet, n: u8)
-        requires shape { HasChannels n (rows self.old) }
-        requires few { n ≤ 16 }
-        ensures { AreReplaced n set (λ q p. []) (rows self.old) (rows self.new) }
-    {
-        for sender in 0..n {
-            let from = Member::at(sender);
-            for receiver in 0..n {
-                let to = Member::at(receiver);
-                if has_either(set, from, to) {
-                    self.rows[usize::from(sender)][usize::from(receiver)].clear();
-                }
+/// Drops the messages in flight with an end among the members named, of `n`.
+fn drop_at<N: Copy, A: Allocator>(channels: &mut Channels<N, A>, set: MemberSet, n: u8)
+    requires shape { HasChannels n (rows channels.old) }
+    requires few { n ≤ 16 }
+    ensures { AreReplaced n set (λ q p. []) (rows channels.old) (rows channels.new) }
+{
+    for sender in 0..n {
+        let from = Member::at(sender);
+        for receiver in 0..n {
+            let to = Member::at(receiver);
+            if has_either(set, from, to) {
+                channels.clear(from, to);
             }
         }
     }

@@ -1,4 +1,4 @@
-use Rattle.fbl_group.proofs.Common.{arith, append_assoc, at_drop_more, pairs_from, refl, sym, ◌∙◌, append-nil, drop_of_length-le}
+use Rattle.fbl_group.proofs.Common.{arith, append_assoc, at_drop_more, pairs_from, sym, ◌∙◌, append-nil, drop_of_length-le}
 use Rattle.fbl_group.proofs.dump.held_pairs.Goals as goal
 
 pub loop-place-preserved : goal.loop-place-preserved

@@ -1,4 +1,4 @@
-use Rattle.fbl_group.proofs.Common.{append_assoc, arith, at_drop_more, get_or_from_slice_get, pairs_of, refl, sym, ◌∙◌, append-nil, drop_of_length-le}
+use Rattle.fbl_group.proofs.Common.{append_assoc, arith, at_drop_more, get_or_from_slice_get, pairs_of, sym, ◌∙◌, append-nil, drop_of_length-le}
 use Rattle.fbl_group.proofs.dump.push_pairs.Goals as goal
 
 pub loop-place-preserved : goal.loop-place-preserved

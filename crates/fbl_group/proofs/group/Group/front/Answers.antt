@@ -1,4 +1,4 @@
-use Rattle.fbl_group.proofs.Queues.{in-channels}
+use Rattle.fbl_group.proofs.Common.{in-channels}
 use Rattle.fbl_group.proofs.group.Group.front.Goals as goal
 
 pub front-requires : goal.front-requires

@@ -1,4 +1,4 @@
-use Rattle.fbl_group.proofs.Queues.{in-channels}
+use Rattle.fbl_group.proofs.Common.{in-channels}
 use Rattle.fbl_group.proofs.Reading.{◌∙◌, arith, channel_fits}
 use Rattle.fbl_group.proofs.group.Group.in_flight.Goals as goal
 

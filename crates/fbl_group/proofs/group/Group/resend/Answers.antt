@@ -16,10 +16,10 @@ pub returns : goal.returns
 returns g c =
     let made = c.loop-number.invariant in
     let all = all-done c.loop-number-test.false c.loop-number.auto.number-end c.size-number-end.ensures.value in
-    record {
+    rw c.of_rows.ensures (record {
       shape = record { senders = made.size ∙ all; receivers = λ q below. (made.each q (rw all below)).0 };
       each = λ q p below_q below_p. (made.each q (rw all below_q)).1 p below_p;
-    }
+    })
 
 pub resend_from-requires : goal.resend_from-requires
 resend_from-requires g c = record { size = c.requires; from = omega (arith, c.at-from.ensures, c.loop-number-test.true, c.size-number-end.ensures.value) }

@@ -1,4 +1,3 @@
-use Rattle.fbl_group.proofs.Common.{arith}
 use Rattle.fbl_group.proofs.group.Group.size.Goals as goal
 
 pub returns-clause-value : goal.returns-clause-value
