@@ -7,12 +7,12 @@ use Rattle.fbl_base.specs.MemberSets.{Members}
 use Rattle.fbl_base.specs.Breaches.{IsFirstBad, IsPlanFault}
 use Rattle.fbl_base.specs.declared.fault.PlanFault.{PlanFault}
 use Rattle.fbl_base.specs.declared.strike.Strike.{Strike}
-use Rattle.fbl_group.specs.declared.refusals.CheckpointRefusal.{CheckpointRefusal}
-use Rattle.fbl_group.specs.declared.refusals.CheckpointRefusal.TheVariants as checkpoint
-use Rattle.fbl_group.specs.declared.refusals.DeliverRefusal.{DeliverRefusal}
-use Rattle.fbl_group.specs.declared.refusals.DeliverRefusal.TheVariants as deliver
-use Rattle.fbl_group.specs.declared.refusals.StrikeRefusal.{StrikeRefusal}
-use Rattle.fbl_group.specs.declared.refusals.StrikeRefusal.TheVariants as strike
+use Rattle.fbl_answers.specs.declared.refusals.CheckpointRefusal.{CheckpointRefusal}
+use Rattle.fbl_answers.specs.declared.refusals.CheckpointRefusal.TheVariants as checkpoint
+use Rattle.fbl_answers.specs.declared.refusals.DeliverRefusal.{DeliverRefusal}
+use Rattle.fbl_answers.specs.declared.refusals.DeliverRefusal.TheVariants as deliver
+use Rattle.fbl_answers.specs.declared.refusals.StrikeRefusal.{StrikeRefusal}
+use Rattle.fbl_answers.specs.declared.refusals.StrikeRefusal.TheVariants as strike
 use Rattle.fbl_law.specs.Groups.{GroupRecord}
 use Rattle.fbl_threads.specs.declared.draining.DrainRefusal.{DrainRefusal}
 use Rattle.fbl_threads.specs.declared.draining.DrainRefusal.TheVariants as drain

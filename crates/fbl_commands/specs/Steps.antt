@@ -7,16 +7,16 @@ use Rattle.fbl_base.specs.declared.trace.Determinant.{Determinant}
 use Rattle.fbl_base.specs.declared.strike.Strike.{Strike}
 use Rattle.fbl_base.specs.Fold.{Next}
 use Rattle.fbl_base.specs.MemberSets.{AllBelow, Members}
-use Rattle.fbl_group.specs.declared.answers.Receipted.{Receipted}
-use Rattle.fbl_group.specs.declared.refusals.CheckpointRefusal.{CheckpointRefusal}
-use Rattle.fbl_group.specs.declared.refusals.DeliverRefusal.{DeliverRefusal}
-use Rattle.fbl_group.specs.declared.refusals.DumpGroupRefusal.TheVariants.{BadStrike}
-use Rattle.fbl_group.specs.declared.refusals.RecoverRefusal.TheVariants as recover
-use Rattle.fbl_group.specs.declared.refusals.StrikeRefusal.{StrikeRefusal}
-use Rattle.fbl_group.specs.Checkpoints.{checkpoint_name, checkpoint_refusal}
-use Rattle.fbl_group.specs.Deliveries.{deliver_name, deliver_refusal, Delivers}
-use Rattle.fbl_group.specs.Readers.{dump_group_name}
-use Rattle.fbl_group.specs.Strikes.{Recovers, lost_receipts, recover_name, strike_name, strike_refusal, Strikes}
+use Rattle.fbl_answers.specs.declared.answers.Receipted.{Receipted}
+use Rattle.fbl_answers.specs.declared.refusals.CheckpointRefusal.{CheckpointRefusal}
+use Rattle.fbl_answers.specs.declared.refusals.DeliverRefusal.{DeliverRefusal}
+use Rattle.fbl_answers.specs.declared.refusals.DumpGroupRefusal.TheVariants.{BadStrike}
+use Rattle.fbl_answers.specs.declared.refusals.RecoverRefusal.TheVariants as recover
+use Rattle.fbl_answers.specs.declared.refusals.StrikeRefusal.{StrikeRefusal}
+use Rattle.fbl_answers.specs.Refusals.{checkpoint_name, deliver_name, dump_group_name, recover_name, strike_name}
+use Rattle.fbl_group.specs.Checkpoints.{checkpoint_refusal}
+use Rattle.fbl_group.specs.Deliveries.{deliver_refusal, Delivers}
+use Rattle.fbl_group.specs.Strikes.{Recovers, lost_receipts, strike_refusal, Strikes}
 use Rattle.fbl_law.specs.Promises.{dump_of}
 use Rattle.fbl_law.specs.Groups.{GroupRecord, is_recorded, member_checkpoint}
 use Rattle.fbl_law.specs.GroupSteps.{IsCheckpoint}

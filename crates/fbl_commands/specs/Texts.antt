@@ -3,8 +3,8 @@ use Rattle.std.specs.Prelude.{◌≡◌, ℕ, zero, suc, ◌↔◌, true, List, 
 use Rattle.std.specs.FinSet as set
 use Rattle.fbl_base.specs.declared.trace.Note.{Note}
 use Rattle.fbl_base.specs.Audit.{IsDumpOrphan, lost_determinants}
-use Rattle.fbl_group.specs.declared.answers.Receipted.{Receipted}
-use Rattle.fbl_group.specs.declared.answers.Recovered.{Recovered}
+use Rattle.fbl_answers.specs.declared.answers.Receipted.{Receipted}
+use Rattle.fbl_answers.specs.declared.answers.Recovered.{Recovered}
 use Rattle.fbl_law.specs.Groups.{GroupRecord, member, messages_in_flight}
 use Rattle.fbl_law.specs.Promises.{dump_of}
 use Rattle.fbl_texts.specs.DumpLines.{dump_line}

@@ -32,9 +32,9 @@ pub use Rattle.fbl_base.specs.declared.trace.Determinant.{Determinant}
 pub use Rattle.fbl_group.proofs.Striking.{within-below}
 pub use Rattle.fbl_group.specs.Records.{CrashLeads, StrikeLeads, TurnLeads, TurnsLead}
 pub use Rattle.fbl_group.specs.Strikes.{strike_refusal}
-pub use Rattle.fbl_group.specs.declared.record.CrashRecord.{CrashRecord}
-pub use Rattle.fbl_group.specs.declared.record.RecoveryRecord.{RecoveryRecord}
-pub use Rattle.fbl_group.specs.declared.record.TurnRecord.{TurnRecord}
+pub use Rattle.fbl_answers.specs.declared.record.CrashRecord.{CrashRecord}
+pub use Rattle.fbl_answers.specs.declared.record.RecoveryRecord.{RecoveryRecord}
+pub use Rattle.fbl_answers.specs.declared.record.TurnRecord.{TurnRecord}
 pub use Rattle.fbl_base.specs.declared.trace.Event.{Event}
 pub use Rattle.fbl_base.specs.declared.trace.Mark.{Mark}
 pub use Rattle.fbl_base.specs.declared.trace.Note.{Note}

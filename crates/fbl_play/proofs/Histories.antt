@@ -3,9 +3,9 @@ use Rattle.fbl_base.specs.declared.trace.Note.{Note}
 use Rattle.fbl_play.proofs.Common.{◌≡◌, ℕ, List, [], ◌∷◌, ◌++◌, inl, inr, None, Ok, Err, Option, Result, Some, sym, subst, ap, ◌∙◌, ∥∥₁_map, Answer, Column, Command, GroupRecord, IsSound, Members, Next, Settings, Strike}
 use Rattle.fbl_play.proofs.Common.{DrainRefusal, IsAdded, IsBegun, IsGroupStart, IsHistoryOf, IsLedOn, IsLedTo, IsOfGroup, Recorded, RecordedDrains, SendsWell, Step, Transcript, begins_at_start, follows_checkpoint}
 use Rattle.fbl_play.proofs.Common.{follows_delivery, follows_recovery, follows_strike, history_led, turns_lead}
-use Rattle.fbl_group.specs.declared.refusals.CheckpointRefusal.{CheckpointRefusal}
-use Rattle.fbl_group.specs.declared.refusals.DeliverRefusal.{DeliverRefusal}
-use Rattle.fbl_group.specs.declared.refusals.StrikeRefusal.{StrikeRefusal}
+use Rattle.fbl_answers.specs.declared.refusals.CheckpointRefusal.{CheckpointRefusal}
+use Rattle.fbl_answers.specs.declared.refusals.DeliverRefusal.{DeliverRefusal}
+use Rattle.fbl_answers.specs.declared.refusals.StrikeRefusal.{StrikeRefusal}
 use Rattle.fbl_group.specs.Checkpoints.{checkpoint_refusal}
 use Rattle.fbl_group.specs.Deliveries.{deliver_refusal}
 use Rattle.fbl_group.specs.Strikes.{strike_refusal}

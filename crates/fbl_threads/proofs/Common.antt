@@ -13,9 +13,9 @@ pub use Rattle.fbl_base.proofs.Gets.{At-push, get_or-same}
 pub use Rattle.fbl_base.specs.Fold.{Next}
 pub use Rattle.fbl_base.specs.MemberSets.{Members}
 pub use Rattle.fbl_base.specs.declared.strike.Strike.{Strike}
-pub use Rattle.fbl_group.specs.declared.answers.Recovered.{Recovered}
-pub use Rattle.fbl_group.specs.declared.record.CrashRecord.{CrashRecord}
-pub use Rattle.fbl_group.specs.declared.record.TurnRecord.{TurnRecord}
+pub use Rattle.fbl_answers.specs.declared.answers.Recovered.{Recovered}
+pub use Rattle.fbl_answers.specs.declared.record.CrashRecord.{CrashRecord}
+pub use Rattle.fbl_answers.specs.declared.record.TurnRecord.{TurnRecord}
 pub use Rattle.fbl_base.specs.declared.ticket.Ticket.{Ticket}
 pub use Rattle.fbl_law.specs.Groups.{GroupRecord}
 pub use mathlib.Core.Logic.{⊎_elim}

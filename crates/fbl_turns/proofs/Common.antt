@@ -29,12 +29,12 @@ pub use Rattle.fbl_group.proofs.Striking.{is_allowed}
 pub use Rattle.fbl_group.specs.Records.{Commits, IsPlannedCrash, IsRecoveryRecord, StrikeLeads, TurnLeads, TurnsLead}
 pub use Rattle.fbl_group.specs.Strikes.{Recovers, strike_refusal}
 pub use Rattle.fbl_group.specs.Deliveries.{RefusesCommit}
-pub use Rattle.fbl_group.specs.declared.answers.Recovered.{Recovered}
-pub use Rattle.fbl_group.specs.declared.record.CrashRecord.{CrashRecord}
-pub use Rattle.fbl_group.specs.declared.record.RecoveryRecord.{RecoveryRecord}
-pub use Rattle.fbl_group.specs.declared.record.TurnRecord.{TurnRecord}
-pub use Rattle.fbl_group.specs.declared.refusals.CommitRefusal.{CommitRefusal}
-pub use Rattle.fbl_group.specs.declared.refusals.CommitRefusal.TheVariants.{Down, Full, Memory, Stale}
+pub use Rattle.fbl_answers.specs.declared.answers.Recovered.{Recovered}
+pub use Rattle.fbl_answers.specs.declared.record.CrashRecord.{CrashRecord}
+pub use Rattle.fbl_answers.specs.declared.record.RecoveryRecord.{RecoveryRecord}
+pub use Rattle.fbl_answers.specs.declared.record.TurnRecord.{TurnRecord}
+pub use Rattle.fbl_answers.specs.declared.refusals.CommitRefusal.{CommitRefusal}
+pub use Rattle.fbl_answers.specs.declared.refusals.CommitRefusal.TheVariants.{Down, Full, Memory, Stale}
 pub use Rattle.fbl_base.specs.declared.ticket.Ticket.{Ticket}
 pub use Rattle.fbl_law.specs.GroupSteps.{IsDelivery, IsStrike, delivery_events, IsEventCut, Stays}
 pub use Rattle.fbl_law.specs.Groups.{GroupRecord, knowledge, member}
