@@ -1,9 +1,9 @@
 -- Members that replay a trace come to its states.
-use Rattle.fbl_history.proofs.Common.{◌≡◌, ℕ, ◌<◌, ◌≤◌, true, cond, List, length, take, get_or, Some, refl, sym, ap, ◌∙◌, arith, nat_tests, mark_of, Next, MemberRecord, blank, logged_note}
+use Rattle.fbl_history.proofs.Common.{◌≡◌, ℕ, ◌<◌, ◌≤◌, true, false, false_from_ne_true, zero, suc, [], cond, List, length, take, Some, refl, sym, ap, ◌∙◌, arith, nat_tests, mark_of, Next, MemberRecord, blank, logged_note}
 use Rattle.fbl_history.proofs.Common.{GroupRecord, marks, IsSound, mark-at, HaveReplayed, ◌+◌, length-append, slice_get, slice_set, slice_index_or, take-take, length-set, get_or-set_same}
-use Rattle.fbl_history.proofs.Common.{get_or-set_other, get_or_default, length-map, count_by-le-length, sum_by-take-le, get_or_from_slice_get, Determinant, Note, Mark, At, is_receipt_of, is_send_of}
+use Rattle.fbl_history.proofs.Common.{get_or-set_other, get_or_default, length-map, count_by-le-length, sum_by-take-le, Determinant, Note, Mark, At, is_receipt_of, is_send_of}
 use Rattle.fbl_history.proofs.Common.{receipts_of, MayFollow, Progress, note_of, numbered, after_notes-state, receipts-step, sent-before, take-next, replayed_by, length-numbered, received_notes}
-use Rattle.fbl_history.proofs.Common.{IsReplayed, range_with_len, Members, send-at, filter-passes, some-at, logged-by, logged-noted, log-short, Has-receipts_at, replayed-step, state_after_receipt}
+use Rattle.fbl_history.proofs.Common.{AllBelow, IsReplayed, filter, range_with_len, Members, send-at, filter-passes, logged-by, logged-noted, log-short, Has-receipts_at, replayed-step, state_after_receipt}
 use Rattle.fbl_base.specs.declared.trace.Event.TheVariants as event
 use Rattle.std.specs.FinSet as set
 use Rattle.fbl_base.specs.declared.trace.Mark.TheVariants.{Send, Receipt}
@@ -120,8 +120,9 @@ pub listed_at : (s : Members) (i m : ℕ) → slice_get (member_list s) i ≡ So
 unfolding member_list
 listed_at s i m here = filter-passes (set.contains s) (range_with_len 0 16) i m here
 
-pub listed_in : (s : Members) (listed : List ℕ) (i m : ℕ) → listed ≡ member_list s → i < length listed → m ≡ get_or listed i m → set.contains s m ≡ true
-listed_in s listed i m is below read =
-    let some = some-at listed i below in
-    let same : m ≡ some.0 = read ∙ get_or_from_slice_get listed i some.0 m some.1 in
-    rw same (listed_at s i some.0 (ap (λ (xs : List ℕ). slice_get xs i) (sym is) ∙ some.1))
+-- and none from a number on below which all are
+pub none-listed : (s : Members) (n from left : ℕ) → AllBelow s n → n ≤ from → filter (set.contains s) (range_with_len from left) ≡ []
+none-listed s n from zero within past = refl
+none-listed s n from (suc left) within past =
+    let outside : set.contains s from ≡ false = false_from_ne_true _ (λ is. absurd (omega (arith, within from is, past))) in
+    rw outside (none-listed s n (from + 1) left within (omega (arith, past)))

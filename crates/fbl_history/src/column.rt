@@ -6,7 +6,7 @@ ghost use Rattle.fbl_history.specs.Columns.{is_sent_by as sent_by, is_standing a
 use fbl_base::{Member, MemberSet};
 
 /// How many receipts a member replayed in a recovery, counted after its checkpoint.
-#[derive(Clone, Copy, PartialEq, Eq, Debug)]
+#[derive(Clone, Copy, PartialEq, Eq)]
 pub struct Replay {
     /// The member that was down.
     pub member: Member,
@@ -16,7 +16,7 @@ pub struct Replay {
 
 /// A column of a history: what came, in the order in which it came. An event that is `undone` was taken out of the trace by a
 /// recovery.
-#[derive(Drop, PartialEq, Debug)]
+#[derive(Drop, PartialEq)]
 pub enum Column {
     /// A message is sent.
     Send {

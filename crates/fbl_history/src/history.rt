@@ -17,7 +17,7 @@ use std::marker::Model;
 
 /// What came in a run of a group, in the order in which it came. Contracts see the list of its columns. `Err` comes only
 /// where there is no memory for more columns; a call that was given the history has dropped it then.
-#[derive(Drop, Debug)]
+#[derive(Drop)]
 pub struct History {
     columns: Vec<Column>,
 }
@@ -162,10 +162,9 @@ fn follow_trace<B: Behaviour<State = u64, Note = Note>>(
 ) -> Result<(), AllocError>
     ensures { OnOk result (columns.new.items ≡ gone_on columns.old.items (columns_of_trace B.next group.now)) }
 {
-    let trace = trace_columns(alloc, group)?;
+    let mut trace = trace_columns(alloc, group)?;
     let kept = undo_others(columns, trace.as_slice());
-    columns.extend(trace.into_iter().skip(kept))?;
-    Ok(())
+    columns.append(&mut trace.split_off(kept)?)
 }
 
 /// Undoes the standing events that are not the next ones of the trace, and answers how many of the trace's are.

@@ -125,14 +125,14 @@ pub(crate) fn replays<B: Behaviour<State = u64, Note = Note>>(
     requires { AllBelow members group.now.config.members }
     ensures { IfOk result (λ replays. replays.items ≡ replays_of group.now (slice_index received.now) members) }
 {
-    let listed = members.members(alloc)?;
-    let mut replays = Vec::with_capacity(alloc, listed.len())?;
-    for member in &listed {
-        let before = group.checkpoint_received(*member);
-        replays.push(Replay {
-            member: *member,
-            receipts: count_of(received, *member).saturating_sub(before),
-        })?;
+    let mut replays = Vec::new(alloc);
+    for number in 0..group.config().members() {
+        let member = Member::at(number);
+        if members.has(member) {
+            let before = group.checkpoint_received(member);
+            let receipts = count_of(received, member).saturating_sub(before);
+            replays.push(Replay { member, receipts })?;
+        }
     }
     Ok(replays)
 }
