@@ -1,9 +1,9 @@
 //! What commands answer, and the lines that they print.
 
-ghost use Rattle.std.specs.Prelude.{◌≡◌, ◌<◌, ◌++◌, ◌∷◌, [], IfOk, codes, decimal, string_bytes};
+ghost use Rattle.std.specs.Prelude.{◌≡◌, ◌<◌, ◌++◌, ◌∷◌, [], IfOk, OnOk, codes, decimal, string_bytes};
 ghost use Rattle.fbl_law.specs.Promises.{dump_of};
 ghost use Rattle.fbl_commands.specs.Steps.{is_refusal as is_refusal_of};
-ghost use Rattle.fbl_commands.specs.Texts.{AreTotals, IsReport, IsText, delivery_line, end_word as end_word_of, member_line as line_of, of_members, recovery_line, refusal_line, states_line, total_lines};
+ghost use Rattle.fbl_commands.specs.Texts.{AreTotals, IsReport, IsText, delivery_line, end_word as end_word_of, member_line, recovery_line, refusal_line, states_line, total_lines};
 ghost use Rattle.fbl_texts.specs.Lines.{line};
 ghost use Rattle.fbl_texts.specs.Sets.{set_words};
 
@@ -197,24 +197,25 @@ fn states_text<B: Behaviour<State = u64, Note = Note>>(
     Ok(text)
 }
 
-/// The member's line of a report.
-fn member_line<B: Behaviour<State = u64, Note = Note>>(
-    alloc: Global,
+/// Writes the member's line of a report.
+fn push_member<B: Behaviour<State = u64, Note = Note>>(
+    text: &mut String,
     group: &Group<B>,
     member: Member,
-) -> Result<String, AllocError>
+) -> Result<(), AllocError>
     requires { member < group.now.config.members }
-    ensures { IfOk result (λ text. string_bytes text ≡ line_of group.now member) }
+    ensures { OnOk result (string_bytes text.new ≡ string_bytes text.old ++ member_line group.now member) }
 {
     let number = member.number();
     if group.down().has(member) {
-        return format!(in alloc; "member {number} down\n");
+        return write!(text, "member {number} down\n");
     }
     let state = group.state(member);
     let received = group.received(member);
     let sent = group.sent(member);
     let held = group.held(member);
-    format!(in alloc;
+    write!(
+        text,
         "member {number} up state {state} received {received} sent {sent} held {held}\n"
     )
 }
@@ -265,9 +266,9 @@ fn totals_in<B: Behaviour<State = u64, Note = Note>>(
     })
 }
 
-/// The end of a report.
-fn totals_text(alloc: Global, totals: &Totals) -> Result<String, AllocError>
-    ensures { IfOk result (λ text. string_bytes text ≡ total_lines totals.now) }
+/// Writes the end of a report.
+fn push_totals(text: &mut String, alloc: Global, totals: &Totals) -> Result<(), AllocError>
+    ensures { OnOk result (string_bytes text.new ≡ string_bytes text.old ++ total_lines totals.now) }
 {
     let Totals {
         flight,
@@ -275,33 +276,14 @@ fn totals_text(alloc: Global, totals: &Totals) -> Result<String, AllocError>
         lost,
         orphans,
     } = *totals;
-    let mut text = format!(in alloc; "flight {flight}\n")?;
-    write!(text, "trace {trace}\n")?;
-    write!(text, "lost {lost}\n")?;
     let orphans = set_text(alloc, orphans)?;
-    write!(text, "orphans {orphans}\n")?;
-    Ok(text)
+    write!(
+        text,
+        "flight {flight}\ntrace {trace}\nlost {lost}\norphans {orphans}\n"
+    )
 }
 
-/// The members' lines, in order, and then the totals.
-fn members_and_totals<B: Behaviour<State = u64, Note = Note>>(
-    alloc: Global,
-    group: &Group<B>,
-    totals: &Totals,
-) -> Result<String, AllocError>
-    ensures { IfOk result (λ text. string_bytes text ≡ of_members (line_of group.now) group.now.config.members ++ total_lines totals.now) }
-{
-    let mut text = String::new(alloc);
-    for number in 0..group.config().members() {
-        let line = member_line(alloc, group, Member::at(number))?;
-        text.push_str(line.as_str())?;
-    }
-    let end = totals_text(alloc, totals)?;
-    text.push_str(end.as_str())?;
-    Ok(text)
-}
-
-/// The lines of a report.
+/// The lines of a report: those of the members, in order, and then the totals.
 fn report_text<B: Behaviour<State = u64, Note = Note>>(
     alloc: Global,
     group: &Group<B>,
@@ -309,5 +291,10 @@ fn report_text<B: Behaviour<State = u64, Note = Note>>(
     ensures { IfOk result (λ text. IsReport group.now (string_bytes text)) }
 {
     let totals = totals_of(alloc, group)?;
-    members_and_totals(alloc, group, &totals)
+    let mut text = String::new(alloc);
+    for number in 0..group.config().members() {
+        push_member(&mut text, group, Member::at(number))?;
+    }
+    push_totals(&mut text, alloc, &totals)?;
+    Ok(text)
 }

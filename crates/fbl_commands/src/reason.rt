@@ -11,7 +11,7 @@ use std::fmt;
 use thiserror::Error;
 
 /// The members that a command names, not all of which a group has.
-#[derive(Clone, Copy, PartialEq, Eq, Debug)]
+#[derive(Clone, Copy, Debug)]
 pub struct NamedMembers {
     pub named: MemberSet,
     /// How many members the group has.
@@ -35,7 +35,7 @@ fn too_many<W: fmt::Write>(down: &MemberSet, f: &u8, to: &mut fmt::Formatter<W>)
 }
 
 /// Why a command is refused, with the numbers of the group as it was then.
-#[derive(Clone, Copy, PartialEq, Eq, Debug, Error)]
+#[derive(Clone, Copy, Debug, Error)]
 pub enum Reason {
     /// The command names a member that the group has not.
     #[error("{0}")]
