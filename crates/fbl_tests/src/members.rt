@@ -1,6 +1,6 @@
 //! Members by their numbers, and what is made of them.
 
-ghost use Rattle.std.specs.Prelude.{◌≡◌, IfOk};
+ghost use Rattle.std.specs.Prelude.{◌≡◌, ◌<◌, IfOk};
 
 use fbl_base::{Determinant, Member, MemberSet, Note, Start, Strike};
 use std::test::Fail;
@@ -22,16 +22,24 @@ pub(crate) fn set(numbers: &[u8]) -> Result<MemberSet, Fail> {
 }
 
 /// A message that is sent at the start: from whom, to whom, its value and its hops.
-pub(crate) fn start(from: u8, to: u8, value: u32, hops: u8) -> Result<Start, Fail> {
-    let note = Note { value, hops };
-    let (from, to) = (member(from)?, member(to)?);
-    Ok(Start { from, to, note })
+pub(crate) fn start(from: u8, to: u8, value: u32, hops: u8) -> Start
+    requires { (from < 16) × (to < 16) }
+{
+    Start {
+        from: Member::at(from),
+        to: Member::at(to),
+        note: Note { value, hops },
+    }
 }
 
-/// A strike of these members at this count.
-pub(crate) fn strike(at: u64, numbers: &[u8]) -> Result<Strike, Fail> {
-    let set = set(numbers)?;
-    Ok(Strike { at, set })
+/// A strike of this member at this count.
+pub(crate) fn strike(at: u64, number: u8) -> Strike
+    requires { number < 16 }
+{
+    Strike {
+        at,
+        set: MemberSet::empty().with(Member::at(number)),
+    }
 }
 
 /// The receipt of the sender's first message, which is the receiver's first.

@@ -2,13 +2,13 @@
 
 ghost use Rattle.std.specs.Prelude.{◌≡◌, true};
 
-use crate::members::member;
+use fbl_base::Member;
 use fbl_threads::{Claim, ClaimRefusal, Claims};
 use std::test::Fail;
 
 #[test]
 fn a_member_is_claimed_by_one_pass_at_a_time(rt: HostRuntime) -> Result<(), Fail> {
-    let (one, two) = (member(1)?, member(2)?);
+    let (one, two) = (Member::at(1), Member::at(2));
     let (claims, pass) = Claims::new(rt.alloc(), 3)?;
     let (a, b) = claims.split(pass);
     let mut a_has_one = match claims.try_claim(a, one) {

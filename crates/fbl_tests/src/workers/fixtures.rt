@@ -1,12 +1,11 @@
 //! Groups, and drains of them.
 
-use crate::members::start;
-use fbl_base::{Config, ConfigRefusal, Member, Relay, Start, Strike};
+use crate::members::{start, strike};
+use fbl_base::{Config, ConfigRefusal, Member, MemberSet, Relay, Start, Strike};
 use fbl_group::Group;
 use fbl_threads::{DrainRefusal, Drained, NoGate, drain};
 use std::alloc::Global;
 use std::sync::Wait;
-use std::test::Fail;
 use std::thread::Threads;
 
 /// More turns than a worker of these tests ever needs.
@@ -25,13 +24,19 @@ pub(crate) fn group(
 }
 
 /// The starts of a group of four, in which two may be lost, with twelve receipts in all.
-pub(crate) fn starts_of_twelve() -> Result<[Start; 3], Fail> {
-    Ok([start(0, 1, 5, 6)?, start(2, 3, 7, 3)?, start(3, 0, 11, 0)?])
+pub(crate) fn starts_of_twelve() -> [Start; 3] {
+    [start(0, 1, 5, 6), start(2, 3, 7, 3), start(3, 0, 11, 0)]
 }
 
 /// That group.
-pub(crate) fn twelve_receipts(alloc: Global) -> Result<Group<Relay>, Fail> {
-    Ok(group(alloc, 4, 2, 8192, &starts_of_twelve()?)?)
+pub(crate) fn twelve_receipts(alloc: Global) -> Result<Group<Relay>, ConfigRefusal> {
+    group(alloc, 4, 2, 8192, &starts_of_twelve())
+}
+
+/// A plan of three strikes for that group, one of them of two members.
+pub(crate) fn three_strikes() -> [Strike; 3] {
+    let set = MemberSet::empty().with(Member::at(0)).with(Member::at(3));
+    [strike(2, 1), Strike { at: 5, set }, strike(9, 2)]
 }
 
 /// The states of that group's members once all messages are delivered, in whichever order.

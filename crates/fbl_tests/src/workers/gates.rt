@@ -106,7 +106,7 @@ impl Gate for Narrow {
 // Neither worker leaves the gate before the other has come to it.
 #[test]
 fn two_workers_pass_the_gate_at_once(rt: HostRuntime) -> Result<(), Fail> {
-    let starts = [start(0, 1, 5, 0)?, start(1, 0, 6, 0)?];
+    let starts = [start(0, 1, 5, 0), start(1, 0, 6, 0)];
     let group = group(rt.alloc(), 2, 1, 8192, &starts)?;
     let gate = Meeting::new(0, 1, true);
     let (group, answer) = drain(&rt, rt.alloc(), group, &[], 2, TURNS, &gate);
@@ -120,7 +120,7 @@ fn two_workers_pass_the_gate_at_once(rt: HostRuntime) -> Result<(), Fail> {
 // While one worker waits with member 0, the other comes to member 2.
 #[test]
 fn any_worker_steps_any_member(rt: HostRuntime) -> Result<(), Fail> {
-    let starts = [start(1, 0, 5, 0)?, start(1, 2, 6, 0)?];
+    let starts = [start(1, 0, 5, 0), start(1, 2, 6, 0)];
     let group = group(rt.alloc(), 3, 1, 8192, &starts)?;
     let gate = Meeting::new(0, 2, false);
     let (group, answer) = drain(&rt, rt.alloc(), group, &[], 2, TURNS, &gate);
@@ -132,7 +132,7 @@ fn any_worker_steps_any_member(rt: HostRuntime) -> Result<(), Fail> {
 // Only member 1 has a message, and the worker that has not claimed it takes none.
 #[test]
 fn a_worker_claims_before_it_takes(rt: HostRuntime) -> Result<(), Fail> {
-    let group = group(rt.alloc(), 2, 1, 8192, &[start(0, 1, 5, 0)?])?;
+    let group = group(rt.alloc(), 2, 1, 8192, &[start(0, 1, 5, 0)])?;
     let gate = Narrow {
         come: AtomicU64::new(0),
         met: AtomicBool::new(false),

@@ -1,8 +1,9 @@
 //! Lack of memory in a drain.
 
-use super::fixtures::{STATES_OF_TWELVE, TURNS, drain_by, group, has_states, starts_of_twelve};
+use super::fixtures::{
+    STATES_OF_TWELVE, TURNS, drain_by, has_states, three_strikes, twelve_receipts,
+};
 use super::recording::are_counted;
-use crate::members::strike;
 use fbl_base::Relay;
 use fbl_group::Group;
 use fbl_threads::{DrainRefusal, Drained, NoGate, drain_recorded};
@@ -27,9 +28,8 @@ fn is_fair(answer: &Result<Drained, DrainRefusal>, may_be_down: bool) -> bool {
 /// turn.
 #[test]
 fn a_drain_goes_on_after_want_of_memory(rt: HostRuntime) -> Result<(), Fail> {
-    let strikes = [strike(2, &[1])?, strike(5, &[0, 3])?, strike(9, &[2])?];
-    let starts = starts_of_twelve()?;
-    let Ok(mut group) = group(rt.alloc(), 4, 2, 8192, &starts) else {
+    let strikes = three_strikes();
+    let Ok(mut group) = twelve_receipts(rt.alloc()) else {
         return Ok(());
     };
     for number in 0..3 {
@@ -48,8 +48,7 @@ fn a_drain_goes_on_after_want_of_memory(rt: HostRuntime) -> Result<(), Fail> {
 /// The gate refuses each in turn.
 #[test]
 fn a_worker_without_a_thread_changes_nothing(rt: HostRuntime) -> Result<(), Fail> {
-    let starts = starts_of_twelve()?;
-    let Ok(group) = group(rt.alloc(), 4, 2, 8192, &starts) else {
+    let Ok(group) = twelve_receipts(rt.alloc()) else {
         return Ok(());
     };
     let (_, answer) = drain_by(&rt, rt.alloc(), group, &[], 1);
@@ -64,9 +63,8 @@ fn a_worker_without_a_thread_changes_nothing(rt: HostRuntime) -> Result<(), Fail
 /// answer says that memory ran out. The gate refuses each in turn.
 #[test]
 fn turns_are_recorded_where_memory_runs_out(rt: HostRuntime) -> Result<(), Fail> {
-    let plan = [strike(5, &[0, 3])?];
-    let starts = starts_of_twelve()?;
-    let Ok(group) = group(rt.alloc(), 4, 2, 8192, &starts) else {
+    let plan = three_strikes();
+    let Ok(group) = twelve_receipts(rt.alloc()) else {
         return Ok(());
     };
     let (group, answer) = drain_recorded(&rt, rt.alloc(), group, &plan, 2, TURNS, &NoGate);

@@ -55,7 +55,7 @@ impl<C: Clock> Gate for LongStep<'_, C> {
 // 1's second message.
 #[test]
 fn a_worker_that_finds_nothing_keeps_its_turns(rt: HostRuntime) -> Result<(), Fail> {
-    let starts = [start(0, 1, 5, 1)?, start(0, 1, 6, 0)?];
+    let starts = [start(0, 1, 5, 1), start(0, 1, 6, 0)];
     let group = group(rt.alloc(), 3, 1, 8192, &starts)?;
     let gate = LongStep {
         clock: &rt,

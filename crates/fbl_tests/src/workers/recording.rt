@@ -1,7 +1,6 @@
 //! Drains whose turns are recorded. That the turns lead to the group that comes back is a clause of the call.
 
-use super::fixtures::{STATES_OF_TWELVE, TURNS, has_states, total, twelve_receipts};
-use crate::members::strike;
+use super::fixtures::{STATES_OF_TWELVE, TURNS, has_states, three_strikes, total, twelve_receipts};
 use fbl_base::{Relay, Strike};
 use fbl_group::Group;
 use fbl_threads::{NoGate, Recorded, drain_recorded};
@@ -46,7 +45,7 @@ fn record<R: Threads + Wait + Sync + Abort>(
 
 #[test]
 fn a_turn_is_recorded_for_each_receipt(rt: HostRuntime) -> Result<(), Fail> {
-    let plan = [strike(2, &[1])?, strike(5, &[0, 3])?, strike(9, &[2])?];
+    let plan = three_strikes();
     for workers in 1..=8 {
         record(&rt, rt.alloc(), &[], workers)?;
         record(&rt, rt.alloc(), &plan, workers)?;

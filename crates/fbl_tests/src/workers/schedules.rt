@@ -1,7 +1,8 @@
 //! Drains whose end is the same for every schedule.
 
 use super::fixtures::{
-    STATES_OF_TWELVE, drain_by, group, has_counts, has_states, total, twelve_receipts,
+    STATES_OF_TWELVE, drain_by, group, has_counts, has_states, three_strikes, total,
+    twelve_receipts,
 };
 use crate::members::{start, strike};
 use fbl_base::{Relay, Strike};
@@ -59,15 +60,14 @@ fn make_up_for<R: Threads + Wait + Sync + Abort>(
 
 #[test]
 fn a_plan_of_three_strikes_is_made_up_for(rt: HostRuntime) -> Result<(), Fail> {
-    let plan = [strike(2, &[1])?, strike(5, &[0, 3])?, strike(9, &[2])?];
-    make_up_for(&rt, rt.alloc(), &plan)
+    make_up_for(&rt, rt.alloc(), &three_strikes())
 }
 
 #[test]
 fn a_strike_at_each_count_is_made_up_for(rt: HostRuntime) -> Result<(), Fail> {
     for at in 1..=12 {
         for number in 0..4 {
-            make_up_for(&rt, rt.alloc(), &[strike(at, &[number])?])?;
+            make_up_for(&rt, rt.alloc(), &[strike(at, number)])?;
         }
     }
     Ok(())
@@ -82,7 +82,7 @@ fn is_applied<R: Threads + Wait + Sync>(
     made: u64,
     undone: u64,
 ) -> Result<bool, Fail> {
-    let group = group(alloc, 3, 1, 8192, &[start(0, 1, 5, 0)?, start(0, 1, 6, 0)?])?;
+    let group = group(alloc, 3, 1, 8192, &[start(0, 1, 5, 0), start(0, 1, 6, 0)])?;
     let (group, answer) = drain_by(rt, alloc, group, plan, workers);
     Ok(is_quiet_end(&group, &answer?, &[0, 11, 0], made, undone))
 }
@@ -90,7 +90,7 @@ fn is_applied<R: Threads + Wait + Sync>(
 // Each strike of the only member that receives undoes all that it received.
 #[test]
 fn a_plan_is_applied_at_its_count(rt: HostRuntime) -> Result<(), Fail> {
-    let plan = [strike(2, &[1])?, strike(3, &[1])?];
+    let plan = [strike(2, 1), strike(3, 1)];
     for workers in [1, 2, 8] {
         for (entries, made, undone) in [(0, 2, 0), (1, 4, 2), (2, 5, 3)] {
             assert!(rt;
@@ -104,7 +104,7 @@ fn a_plan_is_applied_at_its_count(rt: HostRuntime) -> Result<(), Fail> {
 
 /// Whether a drain of a group with no room for its one message ends so.
 fn ends_full<R: Threads + Wait + Sync>(rt: &R, alloc: Global, workers: u8) -> Result<bool, Fail> {
-    let group = group(alloc, 2, 1, 2, &[start(0, 1, 5, 1)?])?;
+    let group = group(alloc, 2, 1, 2, &[start(0, 1, 5, 1)])?;
     let (_, answer) = drain_by(rt, alloc, group, &[], workers);
     let drained = answer?;
     Ok(drained.full && !drained.quiet && !drained.memory)
@@ -134,9 +134,9 @@ fn is_cut_short(drained: &Drained) -> bool {
 /// With one turn each, worker 0 looks for messages to member 0, to whom none is in flight, and worker 1 for those to member 1.
 #[test]
 fn what_a_worker_does_is_counted_at_its_place(rt: HostRuntime) -> Result<(), Fail> {
-    let starts = [start(0, 1, 5, 0)?, start(0, 1, 6, 0)?];
+    let starts = [start(0, 1, 5, 0), start(0, 1, 6, 0)];
     let group = group(rt.alloc(), 2, 1, 8192, &starts)?;
-    let plan = [strike(1, &[1])?];
+    let plan = [strike(1, 1)];
     let (group, answer) = drain(&rt, rt.alloc(), group, &plan, 2, 1, &NoGate);
     let drained = answer?;
     assert!(rt; has_counts(&drained, &[0, 1], &[0, 1]) && is_cut_short(&drained));

@@ -18,7 +18,7 @@ fn keeps_its_checkpoint(group: &Group<Relay>) -> bool {
 #[test]
 fn a_crash_recovers_from_a_checkpoint_that_a_drain_keeps(rt: HostRuntime) -> Result<(), Fail> {
     let (zero, one) = (Member::at(0), Member::at(1));
-    let shared = SharedGroup::new(group(rt.alloc(), 3, 1, 8192, &[start(0, 1, 5, 2)?])?);
+    let shared = SharedGroup::new(group(rt.alloc(), 3, 1, 8192, &[start(0, 1, 5, 2)])?);
     shared.lock(&rt).deliver(one, zero)?;
     shared.lock(&rt).checkpoint(one)?;
     let (struck, recovered) = shared.lock(&rt).crash(MemberSet::empty().with(one))?;
