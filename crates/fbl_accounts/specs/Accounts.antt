@@ -2,12 +2,12 @@
 use Rattle.std.specs.Prelude.{◌≢◌, ℕ, ◌+◌, ◌-◌, ◌*◌, ◌/◌, ◌%◌, ◌^◌, ◌<◌, ◌≤◌, ◌==◌, nat_lt, max, min, if◌then◌else◌}
 use Rattle.std.proofs.Common.{arith}
 use Rattle.std.proofs.lemmas.Bool.Decides.{nat_tests}
-use Rattle.fbl_base.specs.Configs.{Settings, MembersAllowed}
-use Rattle.fbl_base.specs.Steps.{Next, SendsWell, onward, numeric}
-use Rattle.fbl_base.specs.Numeric.{IsNumeric, by_sends}
+use Rattle.fbl_trace.specs.Configs.{Settings, MembersAllowed}
+use Rattle.fbl_trace.specs.Steps.{Next, SendsWell, onward, numeric}
+use Rattle.fbl_trace.specs.Numeric.{IsNumeric, by_sends}
 use Rattle.fbl_law.specs.StepLaws.{AnyState, AnyNote, StepConserves, weight_at_first}
-use Rattle.fbl_base.specs.declared.trace.Note.{Note}
-use Rattle.fbl_base.specs.declared.outcome.Outcome.{Outcome}
+use Rattle.fbl_trace.specs.declared.trace.Note.{Note}
+use Rattle.fbl_trace.specs.declared.outcome.Outcome.{Outcome}
 
 -- the payment is taken in, and half of the balance is paid to the next account if hops are left. A payment for which there
 -- is no room is paid on, by one hop at least

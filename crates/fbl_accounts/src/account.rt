@@ -1,4 +1,4 @@
-use fbl_base::{Behaviour, Member, Note, Outcome};
+use fbl_trace::{Behaviour, Member, Note, Outcome};
 use fbl_law::step_laws::Conserving;
 
 /// A member whose state is a balance, at first 100 for the first member, 200 for the second, and so on. It takes a payment in and, if the message has hops left, pays half of the balance to

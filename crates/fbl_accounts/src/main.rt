@@ -10,7 +10,7 @@ mod account;
 
 use account::Account;
 use anyhow::{Result, ensure};
-use fbl_base::{Config, Member, MemberSet, Note, Start, Strike};
+use fbl_trace::{Config, Member, MemberSet, Note, Start, Strike};
 use fbl_group::Group;
 use fbl_threads::{DrainRefusal, Drained, NoGate, drain};
 use std::alloc::Global;

@@ -2,7 +2,7 @@
 
 use crate::answers::{Recovered, Struck};
 use arrayvec::ArrayVec;
-use fbl_base::{MemberSet, Note, Ticket};
+use fbl_trace::{MemberSet, Note, Ticket};
 
 /// A turn of a worker that made a receipt. Of a turn that was refused there is no record, as it left the group unchanged.
 ///

@@ -1,11 +1,11 @@
 -- Whether a recorded run is safe, whichever members are lost.
 use Rattle.std.specs.Prelude.{ℕ, ◌≡◌, ◌≤◌, ◌↔◌, ◌⊎◌, true, false, List, [], ◌∷◌, max, ◌<◌}
 use Rattle.std.specs.FinSet as set
-use Rattle.fbl_base.specs.declared.trace.Determinant.{Determinant}
+use Rattle.fbl_trace.specs.declared.trace.Determinant.{Determinant}
 use Rattle.fbl_base.specs.Audit.{Parts, IsHeldOutside, IsDumpOrphan, IsDump, holders_of}
-use Rattle.fbl_base.specs.Events.{receipt_of}
-use Rattle.fbl_base.specs.MemberSets.{AllBelow, Members}
-use Rattle.fbl_base.specs.Precedence.{Depends, Has}
+use Rattle.fbl_trace.specs.Events.{receipt_of}
+use Rattle.fbl_trace.specs.MemberSets.{AllBelow, Members}
+use Rattle.fbl_trace.specs.Precedence.{Depends, Has}
 use Rattle.fbl_audit.specs.declared.checking.UnsafeReceipt.{UnsafeReceipt}
 
 -- the members may be lost: they are of the group, those of the strike set are among them, and they are at most f, or as many

@@ -1,9 +1,9 @@
 -- Why a member depends on an event: a path of steps from the one to the other.
 use Rattle.std.specs.Prelude.{ℕ, ◌≡◌, ◌<◌, List, [], ◌∷◌, Option, Some, None, length, slice_index_or}
-use Rattle.fbl_base.specs.declared.trace.Mark.{Mark}
+use Rattle.fbl_trace.specs.declared.trace.Mark.{Mark}
 use Rattle.fbl_base.specs.Audit.{Parts, IsFirstCause}
-use Rattle.fbl_base.specs.Events.{At, member_of}
-use Rattle.fbl_base.specs.Precedence.{DependsOnPlace, IsReached, PlaceLeads, PlacePrecedes}
+use Rattle.fbl_trace.specs.Events.{At, member_of}
+use Rattle.fbl_trace.specs.Precedence.{DependsOnPlace, IsReached, PlaceLeads, PlacePrecedes}
 
 -- a place of a trace, where paths begin
 pub record Origin : Type 0 where

@@ -3,12 +3,12 @@
 ghost use Rattle.std.specs.Prelude.{◌≡◌, ◌↔◌, ℕ, true, [], IfOk, MatchOption};
 ghost use Rattle.std.specs.FinSet as set;
 ghost use Rattle.fbl_base.specs.Audit.{IsDump, holders_of};
-ghost use Rattle.fbl_base.specs.Events.{receipt_of, receipts};
-ghost use Rattle.fbl_base.specs.Precedence.{DependsOnPlace, Depends};
+ghost use Rattle.fbl_trace.specs.Events.{receipt_of, receipts};
+ghost use Rattle.fbl_trace.specs.Precedence.{DependsOnPlace, Depends};
 ghost use Rattle.fbl_audit.specs.Checking.{IsSafe, IsSaidOf, IsUnsafe, SaysUnsafe};
 
 use fbl_base::audit::{Audit, Dump};
-use fbl_base::{Determinant, Member, MemberSet};
+use fbl_trace::{Determinant, Member, MemberSet};
 use std::alloc::{AllocError, Global};
 
 /// A receipt that some members may lose with an orphan left.

@@ -2,10 +2,10 @@
 
 ghost use Rattle.std.specs.Prelude.{◌≡◌, ◌<◌, ℕ, Option, IfOk, IfSome, IfNone, length, slice_index_or};
 ghost use Rattle.fbl_base.specs.Audit.{IsDumpOrphan, IsOrphanStart, orphan_start_in};
-ghost use Rattle.fbl_base.specs.Precedence.{DependsOnPlace, PlacePrecedes};
+ghost use Rattle.fbl_trace.specs.Precedence.{DependsOnPlace, PlacePrecedes};
 ghost use Rattle.fbl_audit.specs.Paths.{AreEnds, IsBefore, IsEndBy, IsOrphanPath, IsPathTo};
 
-use fbl_base::Member;
+use fbl_trace::Member;
 use fbl_base::audit::Audit;
 use std::alloc::{AllocError, Global};
 use std::marker::Model;

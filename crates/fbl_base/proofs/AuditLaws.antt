@@ -6,21 +6,18 @@ use Rattle.fbl_base.proofs.Common.{determinant_of, Has, WellFormed, is_received,
 use Rattle.fbl_base.proofs.Common.{◌==◌, ◌↔◌, inl, inr, map, false≢true, cases_eq, eqb-true, nat_cmp_total, filter, Contains, Members, holders_of, ◌≤◌, ◌⊎◌, ◌++◌, slice_get}
 use Rattle.fbl_base.proofs.Common.{slice_get_within, cases_order, None, Option, MatchOption, contains-insert_same, contains-insert_other, IsDumpOrphan, IsLostAt, IsReached}
 use Rattle.std.specs.FinSet as set
-use Rattle.fbl_base.proofs.Gets.{At-front, At-below, At-filter_map, filter_map-At, At-seam, At-push}
-use Rattle.fbl_base.proofs.RulesLaws.{eqb-self}
-use Rattle.fbl_base.proofs.Sets.{len-remove_one, some_member}
+use Rattle.fbl_trace.proofs.Gets.{At-front, At-below, At-filter_map, filter_map-At, At-seam, At-push}
+use Rattle.fbl_trace.proofs.RulesLaws.{Decides-same_determinant, eqb-self, is_receipt}
+use Rattle.fbl_trace.proofs.Sets.{len-remove_one, some_member}
 use Rattle.std.specs.Option.{is_some}
 use Rattle.fbl_base.proofs.ClockLaws.{member_within, not_later}
-use Rattle.fbl_base.proofs.PrecedenceLaws.{Precedes-joined, depends-from_places, places-from_depends, Has-first}
+use Rattle.fbl_trace.proofs.PrecedenceLaws.{Precedes-joined, depends-from_places, places-from_depends, Has-first}
 
 abbrev holds_it : set.FinSet nat_cmp → Determinant → ℕ × Determinant → Bool
 holds_it strike d h = not (set.contains strike h.0) && same_determinant h.1 d
 
 pub or_false : (b : Bool) → b ≡ (b || false)
 or_false b = sym (or-false b)
-
-pub Decides-same_determinant : (a b : Determinant) → Decides (same_determinant a b) (a ≡ b)
-Decides-same_determinant a b = grind (arith, nat_tests)
 
 pub Decides-is_held_outside : (dump : Parts) (d : Determinant) → Decides (is_held_outside dump d) (IsHeldOutside dump d)
 Decides-is_held_outside dump d = (
@@ -33,9 +30,6 @@ pub ruleset held_outside = (Decides-is_held_outside)
 pub more : (events : List Mark) (i : ℕ) (e : Mark) (d : Determinant) → i < length events → e ≡ get_or events i e
     → is_received (take (i + 1) events) d ≡ (is_received (take i events) d || list_any (λ x. same_determinant x d) (cons_option (determinant_of e) []))
 more events i e d below is = rw (take_more events i e below, ← is, filter_map-append determinant_of (take i events) (e ∷ []), list_any-append (λ x. same_determinant x d))
-
-pub is_receipt : (e : Mark) (d : Determinant) → determinant_of e ≡ Some d → e ≡ receipt_of d
-is_receipt e d h = grind (arith, nat_tests)
 
 -- the test means that the events have the receipt
 pub Decides-is_received : (events : List Mark) (d : Determinant) → Decides (is_received events d) (Has events (receipt_of d))

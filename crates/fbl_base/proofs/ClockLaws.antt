@@ -5,9 +5,9 @@ use Rattle.fbl_base.proofs.Common.{cases_eq, nat_tests, Decides, MessageName, sa
 use Rattle.fbl_base.proofs.Common.{DependsOnPlace, DependsBy, Clock, CountsPlaces, IsClock, IsSendOf, IsSentBy, Seen, Sees, WellFormed}
 use Rattle.std.proofs.Common.{set as set_at}
 use Rattle.std.specs.HashMap as hash_map
-use Rattle.fbl_base.proofs.RulesLaws.{room, sent-before}
-use Rattle.fbl_base.proofs.Gets.{At-below, At-push, get_or-same}
-use Rattle.fbl_base.proofs.PrecedenceLaws.{one_place, one_send}
+use Rattle.fbl_trace.proofs.RulesLaws.{room, sent-before}
+use Rattle.fbl_trace.proofs.Gets.{At-below, At-push, get_or-same}
+use Rattle.fbl_trace.proofs.PrecedenceLaws.{one_place, one_send}
 
 -- one place has one event
 pub same_event : (t : List Mark) (i j : ℕ) (a b : Mark) → i ≡ j → At t i a → At t j b → a ≡ b

@@ -1,8 +1,3 @@
 pub mod Common
 pub mod ClockLaws
-pub mod Gets
-pub mod RulesLaws
-pub mod PrecedenceLaws
-pub mod LawfulLaws
-pub mod Sets
 pub mod AuditLaws

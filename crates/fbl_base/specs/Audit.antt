@@ -3,14 +3,14 @@ use Rattle.std.specs.Prelude.{◌≡◌, Option, Some, None, slice_get, slice_in
 use Rattle.std.specs.List.{Contains, list_any, filter}
 use Rattle.std.specs.Ordering.{nat_cmp}
 use Rattle.std.specs.FinSet as set
-use Rattle.fbl_base.specs.declared.trace.Determinant.{Determinant}
-use Rattle.fbl_base.specs.declared.trace.Mark.{Mark}
-use Rattle.fbl_base.specs.declared.trace.Mark.TheVariants.{Send, Receipt}
-use Rattle.fbl_base.specs.Events.{At, member_of, receipt_of, receipts, same_determinant}
-use Rattle.fbl_base.specs.Precedence.{DependsOnPlace, IsReached, PlacePrecedes, Has, Depends}
-use Rattle.fbl_base.specs.Rules.{ObeysAt, WellFormed}
-use Rattle.fbl_base.specs.Configs.{MembersAllowed, FAllowed, IsFirstBreach}
-use Rattle.fbl_base.specs.MemberSets.{AllBelow, Members}
+use Rattle.fbl_trace.specs.declared.trace.Determinant.{Determinant}
+use Rattle.fbl_trace.specs.declared.trace.Mark.{Mark}
+use Rattle.fbl_trace.specs.declared.trace.Mark.TheVariants.{Send, Receipt}
+use Rattle.fbl_trace.specs.Events.{At, member_of, receipt_of, receipts, same_determinant}
+use Rattle.fbl_trace.specs.Precedence.{DependsOnPlace, IsReached, PlacePrecedes, Has, Depends}
+use Rattle.fbl_trace.specs.Rules.{ObeysAt, WellFormed}
+use Rattle.fbl_trace.specs.Configs.{MembersAllowed, FAllowed, IsFirstBreach}
+use Rattle.fbl_trace.specs.MemberSets.{AllBelow, Members}
 use Rattle.fbl_base.specs.declared.refusal.DumpRefusal.{DumpRefusal}
 use Rattle.fbl_base.specs.declared.refusal.DumpRefusal.TheVariants.{BadMembers, BadF, BadEvent, BadHeld, BadStrike, Memory}
 use Rattle.fbl_base.specs.declared.raw_dump.RawDump.{RawDump}

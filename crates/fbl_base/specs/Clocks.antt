@@ -3,11 +3,11 @@ use Rattle.std.specs.Prelude.{ℕ, ◌≡◌, ◌<◌, ◌↔◌, List, length, 
 use Rattle.std.specs.HashMap as hash_map
 use Rattle.fbl_base.specs.declared.clocks.Clock.{Clock}
 use Rattle.fbl_base.specs.declared.clocks.Seen.{Seen}
-use Rattle.fbl_base.specs.declared.trace.Mark.{Mark}
-use Rattle.fbl_base.specs.declared.trace.Mark.TheVariants.{Send}
-use Rattle.fbl_base.specs.declared.trace.MessageName.{MessageName}
-use Rattle.fbl_base.specs.Events.{At, member_of, same_message, send_of}
-use Rattle.fbl_base.specs.Precedence.{PlacePrecedes}
+use Rattle.fbl_trace.specs.declared.trace.Mark.{Mark}
+use Rattle.fbl_trace.specs.declared.trace.Mark.TheVariants.{Send}
+use Rattle.fbl_trace.specs.declared.trace.MessageName.{MessageName}
+use Rattle.fbl_trace.specs.Events.{At, member_of, same_message, send_of}
+use Rattle.fbl_trace.specs.Precedence.{PlacePrecedes}
 
 -- the clock counts exactly the events at the places of which P holds
 abbrev pub Counts : List Mark → (ℕ → Type 0) → Clock → Type 0

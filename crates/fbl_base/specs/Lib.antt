@@ -1,13 +1,3 @@
-pub mod Laws
-pub mod Configs
-pub mod Numeric
-pub mod Exactness
-pub mod Fold
 pub mod Clocks
-pub mod Steps
-pub mod Events
-pub mod Precedence
 pub mod Audit
-pub mod Rules
-pub mod MemberSets
-pub mod Breaches
+pub mod DumpBreaches

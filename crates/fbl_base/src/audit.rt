@@ -8,21 +8,18 @@
 ghost use Rattle.std.specs.Prelude.{◌≡◌, ◌≤◌, ◌↔◌, ℕ, true, not, IfOk, IfErr, IfSome, MatchOption};
 ghost use Rattle.std.specs.FinSet as set;
 ghost use Rattle.fbl_base.specs.Audit.{AreCauses, FitsPair, HeldAt, IsCause, IsDump, IsDumpOrphan, IsFirstCause, IsLost, RefusesDump, is_held_outside, lost_determinants, parts_of, is_received, AreHolders, holders_of};
-ghost use Rattle.fbl_base.specs.Breaches.{BreaksPair, IsDumpBreach, IsEventFault, IsPairFault};
-ghost use Rattle.fbl_base.specs.Configs.{IsFirstBreach};
-ghost use Rattle.fbl_base.specs.Events.{same_determinant};
+ghost use Rattle.fbl_base.specs.DumpBreaches.{BreaksPair, IsDumpBreach, IsPairFault};
+ghost use Rattle.fbl_trace.specs.Breaches.{IsEventFault};
+ghost use Rattle.fbl_trace.specs.Configs.{IsFirstBreach};
+ghost use Rattle.fbl_trace.specs.Events.{same_determinant};
 ghost use Rattle.std.specs.HashSet as hash_set;
-ghost use Rattle.fbl_base.specs.Rules.{ObeysAt, WellFormed};
+ghost use Rattle.fbl_trace.specs.Rules.{ObeysAt, WellFormed};
 
 use crate::clocks::Clocks;
-use crate::fault::{Breach, EventFault, Outsider, PairFault, PairRule};
 use crate::holders::Holders;
-use crate::member::{LEAST_MEMBERS, MOST_MEMBERS, Member};
-use crate::member_set::MemberSet;
 use crate::raw_dump::RawDump;
 use crate::refusal::DumpRefusal;
-use crate::rules::Counts;
-use crate::trace::{Determinant, Mark};
+use fbl_trace::{Breach, Counts, Determinant, EventFault, LEAST_MEMBERS, MOST_MEMBERS, Mark, Member, MemberSet, Outsider, PairFault, PairRule};
 use std::alloc::{AllocError, Allocator, Global};
 use std::collections::HashSet;
 use std::hash::{BuildHasherDefault, FoldHasher};
@@ -45,8 +42,8 @@ impl<A: Allocator> Model for Dump<A> {
     ghost use Rattle.std.specs.Coded.{codes, coded_ℕ};
     ghost use Rattle.std.specs.Ordering.{nat_cmp};
     ghost use Rattle.std.specs.FinSet as set;
-    ghost use Rattle.fbl_base.specs.contracts.trace.Mark as mark;
-    ghost use Rattle.fbl_base.specs.contracts.trace.Determinant as determinant;
+    ghost use Rattle.fbl_trace.specs.contracts.trace.Mark as mark;
+    ghost use Rattle.fbl_trace.specs.contracts.trace.Determinant as determinant;
 
     ghost coded = { Prim.hlevel (codes, mark.the_row.coded, determinant.the_row.coded, set.code {R = nat_cmp} coded_ℕ) };
 
@@ -120,8 +117,8 @@ impl<'a, A: Allocator> Model for Audit<'a, A> {
     ghost use Rattle.std.specs.Coded.{codes, coded_ℕ};
     ghost use Rattle.std.specs.Ordering.{nat_cmp};
     ghost use Rattle.std.specs.FinSet as set;
-    ghost use Rattle.fbl_base.specs.contracts.trace.Mark as mark;
-    ghost use Rattle.fbl_base.specs.contracts.trace.Determinant as determinant;
+    ghost use Rattle.fbl_trace.specs.contracts.trace.Mark as mark;
+    ghost use Rattle.fbl_trace.specs.contracts.trace.Determinant as determinant;
 
     ghost coded = { Prim.hlevel (codes, mark.the_row.coded, determinant.the_row.coded, set.code {R = nat_cmp} coded_ℕ) };
 

@@ -3,11 +3,10 @@
 ghost use Rattle.std.specs.Prelude.{◌≡◌, ◌<◌, ◌+◌, ◌↔◌, ℕ, IfOk, IsTrue, max, length, slice_index};
 ghost use Rattle.fbl_base.specs.Audit.{IsDump};
 ghost use Rattle.fbl_base.specs.Clocks.{Counts, IsClock, IsSendOf, Sees};
-ghost use Rattle.fbl_base.specs.Precedence.{DependsOnPlace, IsReached, PlacePrecedes};
+ghost use Rattle.fbl_trace.specs.Precedence.{DependsOnPlace, IsReached, PlacePrecedes};
 
 use crate::audit::Dump;
-use crate::member::Member;
-use crate::trace::{Mark, MessageName};
+use fbl_trace::{Mark, Member, MessageName};
 use std::alloc::{AllocError, Allocator, Global};
 use std::collections::HashMap;
 use std::hash::{BuildHasherDefault, FoldHasher};
@@ -126,8 +125,8 @@ impl<'a, A: Allocator> Model for Clocks<'a, A> {
     ghost use Rattle.std.specs.Coded.{codes, coded_ℕ};
     ghost use Rattle.std.specs.Ordering.{nat_cmp};
     ghost use Rattle.std.specs.FinSet as set;
-    ghost use Rattle.fbl_base.specs.contracts.trace.Mark as mark;
-    ghost use Rattle.fbl_base.specs.contracts.trace.Determinant as determinant;
+    ghost use Rattle.fbl_trace.specs.contracts.trace.Mark as mark;
+    ghost use Rattle.fbl_trace.specs.contracts.trace.Determinant as determinant;
 
     ghost coded = { Prim.hlevel (codes, mark.the_row.coded, determinant.the_row.coded, set.code {R = nat_cmp} coded_ℕ) };
 

@@ -3,12 +3,11 @@
 ghost use Rattle.std.specs.Prelude.{◌≡◌, IfOk, unwrap_or};
 ghost use Rattle.std.specs.FinSet as set;
 ghost use Rattle.std.specs.HashMap as hash_map;
-ghost use Rattle.fbl_base.specs.Events.{same_determinant};
+ghost use Rattle.fbl_trace.specs.Events.{same_determinant};
 ghost use Rattle.fbl_base.specs.Audit.{AreHolders};
 
 use crate::audit::Dump;
-use crate::member_set::MemberSet;
-use crate::trace::Determinant;
+use fbl_trace::{Determinant, MemberSet};
 use std::alloc::{AllocError, Allocator, Global};
 use std::collections::HashMap;
 use std::hash::{BuildHasherDefault, FoldHasher};

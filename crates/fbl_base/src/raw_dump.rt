@@ -1,8 +1,6 @@
 //! Dumps that are not checked yet.
 
-use crate::member::Member;
-use crate::member_set::MemberSet;
-use crate::trace::{Determinant, Mark};
+use fbl_trace::{Determinant, Mark, Member, MemberSet};
 use std::alloc::{Allocator, Global};
 
 /// A recorded trace, who held which determinants, and who is taken to be lost, from any source and not yet checked.

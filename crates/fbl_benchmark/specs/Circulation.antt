@@ -1,10 +1,10 @@
 -- What the benchmark's behaviours do that never end.
 use Rattle.std.specs.Prelude.{ℕ, ◌+◌, ◌*◌, ◌%◌, ◌<◌, ◌≤◌}
 use Rattle.std.proofs.Common.{zero, suc}
-use Rattle.fbl_base.specs.Steps.{Next, SendsWell, numbered_from_0, relay_step, relay_sends_allowed, modulus}
-use Rattle.fbl_base.specs.Numeric.{IsNumeric, by_sends}
-use Rattle.fbl_base.specs.declared.trace.Note.{Note}
-use Rattle.fbl_base.specs.declared.outcome.Outcome.{Outcome}
+use Rattle.fbl_trace.specs.Steps.{Next, SendsWell, numbered_from_0, relay_step, relay_sends_allowed, modulus}
+use Rattle.fbl_trace.specs.Numeric.{IsNumeric, by_sends}
+use Rattle.fbl_trace.specs.declared.trace.Note.{Note}
+use Rattle.fbl_trace.specs.declared.outcome.Outcome.{Outcome}
 
 -- the step of a relay to which the message comes with two hops, so that it goes on with one
 abbrev pub circulate_step : ℕ → ℕ → ℕ → Note → Outcome ℕ Note

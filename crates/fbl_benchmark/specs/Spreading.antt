@@ -4,10 +4,10 @@ use Rattle.std.specs.List.{All}
 use Rattle.std.proofs.Common.{Bool, true, false, cond, refl, arith, lit≤}
 use Rattle.std.proofs.lemmas.Bool.Decides.{nat_tests}
 use Rattle.std.proofs.lemmas.List.Elements.{All-cons, All-nil}
-use Rattle.fbl_base.specs.Steps.{Next, SendsWell, numbered_from_0, relay_step, another_member}
-use Rattle.fbl_base.specs.Numeric.{IsNumeric, by_sends}
-use Rattle.fbl_base.specs.declared.trace.Note.{Note}
-use Rattle.fbl_base.specs.declared.outcome.Outcome.{Outcome}
+use Rattle.fbl_trace.specs.Steps.{Next, SendsWell, numbered_from_0, relay_step, another_member}
+use Rattle.fbl_trace.specs.Numeric.{IsNumeric, by_sends}
+use Rattle.fbl_trace.specs.declared.trace.Note.{Note}
+use Rattle.fbl_trace.specs.declared.outcome.Outcome.{Outcome}
 
 -- the same content for each of the next four members
 abbrev pub to_next_four : ℕ → ℕ → Note → List (ℕ × Note)

@@ -1,6 +1,6 @@
 //! A behaviour that never ends.
 
-use fbl_base::{Behaviour, Member, Note, Outcome, Relay};
+use fbl_trace::{Behaviour, Member, Note, Outcome, Relay};
 
 /// A relay to which each message comes with two hops, whatever it has, so that it is passed on with one and goes round
 /// the group for ever.

@@ -4,7 +4,7 @@ use crate::circulate::Circulate;
 use crate::ring::{NOTE, deliver_many, group_of, next_member};
 use crate::times::{TRIES, microseconds_since, print_rate};
 use anyhow::Result;
-use fbl_base::{Member, MemberSet};
+use fbl_trace::{Member, MemberSet};
 use fbl_group::Group;
 use std::time::Instant;
 

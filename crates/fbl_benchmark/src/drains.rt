@@ -6,7 +6,7 @@ use crate::long_circulate::LongCirculate;
 use crate::ring::{LIMIT, NOTE, group_of};
 use crate::times::{TRIES, microseconds_since, print_rate};
 use anyhow::Result;
-use fbl_base::{Behaviour, Note};
+use fbl_trace::{Behaviour, Note};
 use fbl_group::Group;
 use fbl_threads::{DrainRefusal, NoGate, drain, drain_recorded};
 use std::alloc::Global;

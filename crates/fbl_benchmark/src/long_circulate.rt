@@ -1,11 +1,11 @@
 //! A behaviour that never ends, and whose step takes long.
 
 ghost use Rattle.std.specs.Prelude.{◌≡◌, ◌<◌};
-ghost use Rattle.fbl_base.specs.Steps.{modulus};
+ghost use Rattle.fbl_trace.specs.Steps.{modulus};
 ghost use Rattle.fbl_benchmark.specs.Circulation.{mixed, rounds};
 
 use crate::circulate::Circulate;
-use fbl_base::{Behaviour, Member, Note, Outcome};
+use fbl_trace::{Behaviour, Member, Note, Outcome};
 
 /// How often a step mixes its state, which takes some 50 microseconds.
 const ROUNDS: u32 = 12_000;

@@ -5,7 +5,7 @@ use crate::long_circulate::LongCirculate;
 use crate::ring::{NOTE, deliver_many, group_of, next_member};
 use crate::times::{TRIES, microseconds_since, print_rate};
 use anyhow::Result;
-use fbl_base::{Behaviour, Member, MemberSet, Note};
+use fbl_trace::{Behaviour, Member, MemberSet, Note};
 use fbl_group::{Group, Recovered};
 use std::time::Instant;
 

@@ -1,7 +1,7 @@
 //! Groups with messages that go round, and deliveries of one that does.
 
 use anyhow::Result;
-use fbl_base::{Behaviour, Config, Member, Note, Start};
+use fbl_trace::{Behaviour, Config, Member, Note, Start};
 use fbl_group::{DeliverRefusal, Group};
 use std::alloc::{AllocError, Global};
 

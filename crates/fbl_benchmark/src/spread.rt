@@ -3,7 +3,7 @@
 ghost use Rattle.std.specs.Prelude.{◌≡◌, ◌+◌, ◌%◌, ◌<◌, ◌≤◌};
 
 use arrayvec::ArrayVec;
-use fbl_base::{Behaviour, Member, Note, Outcome, Relay};
+use fbl_trace::{Behaviour, Member, Note, Outcome, Relay};
 
 /// The least group in which anything is sent.
 const LEAST: u8 = 5;

@@ -4,7 +4,7 @@ use crate::ring::{LIMIT, group_of};
 use crate::spread::Spread;
 use crate::times::{TRIES, microseconds_since, print_rate};
 use anyhow::Result;
-use fbl_base::{Member, Note};
+use fbl_trace::{Member, Note};
 use fbl_group::{DeliverRefusal, Group};
 use std::time::Instant;
 

@@ -7,8 +7,8 @@ pub use Rattle.std.specs.FinSet.{contains}
 pub use Rattle.std.specs.Vec.{with_item}
 pub use Rattle.std.specs.Vec.Iter.{into_iter_items}
 pub use Rattle.std.specs.declared.collections.VecDeque.{VecDeque}
-pub use Rattle.fbl_base.specs.MemberSets.{Members}
-pub use Rattle.fbl_base.specs.declared.trace.Event.{Event}
+pub use Rattle.fbl_trace.specs.MemberSets.{Members}
+pub use Rattle.fbl_trace.specs.declared.trace.Event.{Event}
 pub use Rattle.fbl_law.specs.Groups.{HasChannels, channel_in, sum_below}
 pub use Rattle.fbl_member.specs.Members.{Message}
 pub use Rattle.fbl_channels.specs.Channels.{each, room_in, rooms, rows, send_of_message, value_of, with_at, with_sent}

@@ -2,10 +2,10 @@
 use Rattle.std.specs.Prelude.{◌≡◌, ℕ, ◌-◌, ◌<◌, ◌||◌, List, [], ◌∷◌, ◌++◌, Option, Vec, map, drop, slice_get, slice_index_or, slice_set, sum_by, if◌then◌else◌}
 use Rattle.std.specs.FinSet as set
 use Rattle.std.specs.VecDeque.{deque_items, deque_len, deque_capacity}
-use Rattle.fbl_base.specs.MemberSets.{Members}
-use Rattle.fbl_base.specs.declared.trace.Note.{Note}
-use Rattle.fbl_base.specs.declared.trace.Event.{Event}
-use Rattle.fbl_base.specs.declared.trace.Event.TheVariants.{Send}
+use Rattle.fbl_trace.specs.MemberSets.{Members}
+use Rattle.fbl_trace.specs.declared.trace.Note.{Note}
+use Rattle.fbl_trace.specs.declared.trace.Event.{Event}
+use Rattle.fbl_trace.specs.declared.trace.Event.TheVariants.{Send}
 use Rattle.fbl_member.specs.Members.{Message}
 use Rattle.fbl_channels.specs.declared.channels.Channels.{Channels}
 use Rattle.fbl_law.specs.Groups.{GroupRecord, HasChannels, channel_in, channel, sum_below}

@@ -6,14 +6,14 @@ pub use Rattle.std.proofs.lemmas.List.{drop_more, get_or_default, take_all, take
 pub use Rattle.std.proofs.lemmas.List.Elements.{filter-append, filter_passes}
 pub use Rattle.std.proofs.lemmas.Result.{IfOk-weaker}
 pub use Rattle.std.specs.List.{filter}
-pub use Rattle.fbl_base.specs.Fold.{Next}
-pub use Rattle.fbl_base.specs.MemberSets.{Members}
-pub use Rattle.fbl_base.specs.Events.{mark_of, receipt_of, receipts, same_determinant}
-pub use Rattle.fbl_base.proofs.AuditLaws.{Decides-same_determinant}
-pub use Rattle.fbl_base.specs.Precedence.{Has, itself}
-pub use Rattle.fbl_base.specs.declared.strike.Strike.{Strike}
-pub use Rattle.fbl_base.specs.declared.trace.Determinant.{Determinant}
-pub use Rattle.fbl_base.specs.declared.trace.Event.{Event}
+pub use Rattle.fbl_trace.specs.Fold.{Next}
+pub use Rattle.fbl_trace.specs.MemberSets.{Members}
+pub use Rattle.fbl_trace.specs.Events.{mark_of, receipt_of, receipts, same_determinant}
+pub use Rattle.fbl_trace.proofs.RulesLaws.{Decides-same_determinant}
+pub use Rattle.fbl_trace.specs.Precedence.{Has, itself}
+pub use Rattle.fbl_trace.specs.declared.strike.Strike.{Strike}
+pub use Rattle.fbl_trace.specs.declared.trace.Determinant.{Determinant}
+pub use Rattle.fbl_trace.specs.declared.trace.Event.{Event}
 pub use Rattle.fbl_group.specs.Strikes.{lost_receipts}
 pub use Rattle.fbl_law.proofs.Keeping.{recorded_test, was_up}
 pub use Rattle.fbl_law.proofs.Safe.{no_orphan, up_if_none}

@@ -1,11 +1,11 @@
 -- Which receipts are lost, and which of them a strike loses.
-use Rattle.fbl_base.specs.declared.trace.Note.{Note}
+use Rattle.fbl_trace.specs.declared.trace.Note.{Note}
 use Rattle.fbl_commands.proofs.Common.{◌≡◌, ℕ, ◌∙◌, ◌<◌, ◌≤◌, ◌+◌, Bool, true, false, not, cond, suc, List, [], ◌∷◌, ◌++◌, append-nil, map, filter, take, drop, length, get_or, get_or_default}
 use Rattle.fbl_commands.proofs.Common.{take_more, drop_more, length-drop, filter-append, filter_passes, refl, sym, ap, subst, inl, inr, arith, Determinant, Event, mark_of, receipt_of}
 use Rattle.fbl_commands.proofs.Common.{receipts, same_determinant, Decides-same_determinant, Has, Members, Next, MemberRecord, GroupRecord, marks, knowledge, is_recorded, IsRecorded, IsUp, Names}
 use Rattle.fbl_commands.proofs.Common.{IsSound, IsStrike, lost_receipts, recorded_test, was_up, up_if_none, no_orphan, itself, true_from_ne_false, false≢true}
 use Rattle.std.specs.FinSet as sets
-use Rattle.fbl_base.specs.declared.trace.Event.TheVariants as event
+use Rattle.fbl_trace.specs.declared.trace.Event.TheVariants as event
 
 -- of what the one test takes, the other takes what it takes of all, where it takes nothing else
 filter-within : {A : Type 0} (p q : A → Bool) → ((x : A) → p x ≡ true → q x ≡ true) → (xs : List A) → filter p (filter q xs) ≡ filter p xs

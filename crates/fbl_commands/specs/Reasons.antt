@@ -1,12 +1,12 @@
 -- Why commands are refused, with the numbers of the group that refused them.
 use Rattle.std.specs.Prelude.{◌≡◌, ℕ, List, length}
 use Rattle.std.specs.FinSet as set
-use Rattle.fbl_base.specs.declared.trace.Note.{Note}
-use Rattle.fbl_base.specs.Configs.{Settings}
-use Rattle.fbl_base.specs.MemberSets.{Members}
-use Rattle.fbl_base.specs.Breaches.{IsFirstBad, IsPlanFault}
-use Rattle.fbl_base.specs.declared.fault.PlanFault.{PlanFault}
-use Rattle.fbl_base.specs.declared.strike.Strike.{Strike}
+use Rattle.fbl_trace.specs.declared.trace.Note.{Note}
+use Rattle.fbl_trace.specs.Configs.{Settings}
+use Rattle.fbl_trace.specs.MemberSets.{Members}
+use Rattle.fbl_trace.specs.Breaches.{IsFirstBad, IsPlanFault}
+use Rattle.fbl_trace.specs.declared.fault.PlanFault.{PlanFault}
+use Rattle.fbl_trace.specs.declared.strike.Strike.{Strike}
 use Rattle.fbl_answers.specs.declared.refusals.CheckpointRefusal.{CheckpointRefusal}
 use Rattle.fbl_answers.specs.declared.refusals.CheckpointRefusal.TheVariants as checkpoint
 use Rattle.fbl_answers.specs.declared.refusals.DeliverRefusal.{DeliverRefusal}

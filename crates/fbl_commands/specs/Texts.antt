@@ -1,7 +1,7 @@
 -- What commands print.
 use Rattle.std.specs.Prelude.{◌≡◌, ℕ, zero, suc, ◌↔◌, true, List, [], ◌∷◌, ◌++◌, length, codes, decimal, if◌then◌else◌}
 use Rattle.std.specs.FinSet as set
-use Rattle.fbl_base.specs.declared.trace.Note.{Note}
+use Rattle.fbl_trace.specs.declared.trace.Note.{Note}
 use Rattle.fbl_base.specs.Audit.{IsDumpOrphan, lost_determinants}
 use Rattle.fbl_answers.specs.declared.answers.Receipted.{Receipted}
 use Rattle.fbl_answers.specs.declared.answers.Recovered.{Recovered}

@@ -1,7 +1,7 @@
 //! What a command did beside what its lines say, in words for a person.
 
 use crate::answer::Answer;
-use fbl_base::{Determinant, Strike};
+use fbl_trace::{Determinant, Strike};
 use fbl_group::{CrashRecord, Recovered};
 use fbl_texts::Command;
 use fbl_threads::{Drained, Recorded};

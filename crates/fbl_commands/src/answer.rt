@@ -9,7 +9,7 @@ ghost use Rattle.fbl_texts.specs.Sets.{set_words};
 
 use crate::reason::Reason;
 use fbl_base::audit::{Audit, Dump};
-use fbl_base::{Behaviour, Determinant, Member, MemberSet, Note, PlanFault};
+use fbl_trace::{Behaviour, Determinant, Member, MemberSet, Note, PlanFault};
 use fbl_group::{DumpGroupRefusal, Group, Receipted, Recovered, Struck};
 use fbl_texts::{dump_text, set_text};
 use fbl_threads::{Drained, Recorded};

@@ -2,7 +2,7 @@
 
 ghost use Rattle.std.specs.Prelude.{◌≡◌, Bool, IfErr, IfOk, not};
 ghost use Rattle.std.specs.List.{filter};
-ghost use Rattle.fbl_base.specs.declared.trace.Determinant.{Determinant};
+ghost use Rattle.fbl_trace.specs.declared.trace.Determinant.{Determinant};
 ghost use Rattle.fbl_group.specs.Strikes.{lost_receipts};
 ghost use Rattle.fbl_law.specs.Groups.{IsSound};
 ghost use Rattle.fbl_commands.specs.Reasons.{IsPlanRefused};
@@ -12,7 +12,7 @@ use crate::answer::Answer;
 use crate::reason::{
     Reason, checkpoint_reason, deliver_reason, no_such_member, run_reason, strike_reason,
 };
-use fbl_base::{Behaviour, Determinant, Member, MemberSet, Note, Strike};
+use fbl_trace::{Behaviour, Determinant, Member, MemberSet, Note, Strike};
 use fbl_group::{CheckpointRefusal, DeliverRefusal, DumpGroupRefusal, Group, RecoverRefusal};
 use fbl_texts::{Command, Plan};
 use fbl_threads::{DrainRefusal, NoGate, Recorded, drain_recorded};

@@ -6,12 +6,12 @@ use Rattle.std.proofs.lemmas.Bool.{cases_lt}
 use Rattle.std.proofs.lemmas.Bool.Decides.{nat_tests}
 use Rattle.std.proofs.lemmas.List.Elements.{Contains-get_or}
 use Rattle.std.proofs.lemmas.Option.{slice_get-get_or}
-use Rattle.fbl_base.specs.Configs.{Settings, IsConfig}
-use Rattle.fbl_base.specs.Steps.{Next, SendsWell, onward, another_member, has_few_hops}
+use Rattle.fbl_trace.specs.Configs.{Settings, IsConfig}
+use Rattle.fbl_trace.specs.Steps.{Next, SendsWell, onward, another_member, has_few_hops}
 use Rattle.fbl_law.specs.StepLaws.{HoldsFirst, StepKeeps, StepLosesNone, weight_of_starts}
-use Rattle.fbl_base.specs.declared.trace.Note.{Note}
-use Rattle.fbl_base.specs.declared.trace.Start.{Start}
-use Rattle.fbl_base.specs.declared.outcome.Outcome.{Outcome}
+use Rattle.fbl_trace.specs.declared.trace.Note.{Note}
+use Rattle.fbl_trace.specs.declared.trace.Start.{Start}
+use Rattle.fbl_trace.specs.declared.outcome.Outcome.{Outcome}
 use Rattle.fbl_election.specs.declared.candidate.Standing.{Standing}
 
 -- how many hops a note has left where this is the greatest identifier so far: a greater identifier goes on, the same one goes on as it came, and a smaller one

@@ -1,4 +1,4 @@
-use fbl_base::{Behaviour, Exact, Member, Note, Outcome};
+use fbl_trace::{Behaviour, Exact, Member, Note, Outcome};
 use fbl_law::step_laws::{Keeping, LosingNone, Weighing};
 
 /// What a candidate knows.

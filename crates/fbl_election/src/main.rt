@@ -12,7 +12,7 @@ mod candidate;
 
 use anyhow::{Result, ensure};
 use candidate::Candidate;
-use fbl_base::{Config, Member, MemberSet, Note, Start, Strike};
+use fbl_trace::{Config, Member, MemberSet, Note, Start, Strike};
 use fbl_group::Group;
 use fbl_threads::{DrainRefusal, Drained, NoGate, drain};
 use std::alloc::Global;

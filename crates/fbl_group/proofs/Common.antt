@@ -14,24 +14,24 @@ pub use Rattle.std.specs.Cmp.{nat_cmp_total, unsigned_tied}
 pub use Rattle.std.specs.FinSet.{contains, empty_of_len, len-empty}
 pub use Rattle.std.specs.List.{filter, filter_map, list_any}
 pub use Rattle.std.specs.Ordering.{eq_by_cmp, nat_cmp}
-pub use Rattle.fbl_base.proofs.LawfulLaws.{after_notes-state}
-pub use Rattle.fbl_base.proofs.RulesLaws.{eqb-self}
-pub use Rattle.fbl_base.proofs.Gets.{length-filter_map, length-left}
+pub use Rattle.fbl_trace.proofs.LawfulLaws.{after_notes-state}
+pub use Rattle.fbl_trace.proofs.RulesLaws.{eqb-self}
+pub use Rattle.fbl_trace.proofs.Gets.{length-filter_map, length-left}
 pub use Rattle.fbl_base.specs.Audit.{IsDumpOrphan, Parts}
-pub use Rattle.fbl_base.specs.Configs.{IsConfig, Settings, StartAllowed}
-pub use Rattle.fbl_base.specs.Events.{determinant_of, mark_of, receipt_of}
-pub use Rattle.fbl_base.specs.Fold.{Next, step_events}
-pub use Rattle.fbl_base.specs.MemberSets.{AllBelow, Members}
-pub use Rattle.fbl_base.specs.Precedence.{Has, itself}
-pub use Rattle.fbl_base.specs.Rules.{in_flight, sent_on, taken_on}
-pub use Rattle.fbl_base.specs.Steps.{SendsAllowed, SendsWell}
-pub use Rattle.fbl_base.specs.declared.outcome.Outcome.{Outcome}
-pub use Rattle.fbl_base.specs.declared.trace.Determinant.{Determinant}
-pub use Rattle.fbl_base.specs.declared.trace.Event.{Event}
-pub use Rattle.fbl_base.specs.declared.trace.Event.TheVariants.{Receipt}
-pub use Rattle.fbl_base.specs.declared.trace.Mark.{Mark}
-pub use Rattle.fbl_base.specs.declared.trace.Mark.TheVariants.{Send}
-pub use Rattle.fbl_base.specs.declared.trace.Start.{Start}
+pub use Rattle.fbl_trace.specs.Configs.{IsConfig, Settings, StartAllowed}
+pub use Rattle.fbl_trace.specs.Events.{determinant_of, mark_of, receipt_of}
+pub use Rattle.fbl_trace.specs.Fold.{Next, step_events}
+pub use Rattle.fbl_trace.specs.MemberSets.{AllBelow, Members}
+pub use Rattle.fbl_trace.specs.Precedence.{Has, itself}
+pub use Rattle.fbl_trace.specs.Rules.{in_flight, sent_on, taken_on}
+pub use Rattle.fbl_trace.specs.Steps.{SendsAllowed, SendsWell}
+pub use Rattle.fbl_trace.specs.declared.outcome.Outcome.{Outcome}
+pub use Rattle.fbl_trace.specs.declared.trace.Determinant.{Determinant}
+pub use Rattle.fbl_trace.specs.declared.trace.Event.{Event}
+pub use Rattle.fbl_trace.specs.declared.trace.Event.TheVariants.{Receipt}
+pub use Rattle.fbl_trace.specs.declared.trace.Mark.{Mark}
+pub use Rattle.fbl_trace.specs.declared.trace.Mark.TheVariants.{Send}
+pub use Rattle.fbl_trace.specs.declared.trace.Start.{Start}
 pub use Rattle.fbl_law.proofs.Lists.{sent_again-short, sum_below-agree, sum_below-none}
 pub use Rattle.fbl_law.proofs.Channels.{flight_at, flight_ends}
 pub use Rattle.fbl_law.proofs.Keeping.{checkpoint_is_recorded, group_checkpoint_keeps, group_strike_keeps, recorded_test}
@@ -60,4 +60,4 @@ pub use Rattle.fbl_channels.proofs.Queues.{Replacing, in-channels, reads, replac
 pub use Rattle.fbl_channels.specs.Channels.{AreReplaced, each, first_message, front, front_message, room_in, rows, send_of_message, taken_and_sent, with_at, with_sent}
 pub use Rattle.fbl_group.specs.Deliveries.{Delivered, Delivers, IsDeliverRefusal, IsPlanned, MayTakeIn, TakesIn, deliver_refusal, IsCurrent, IsFresh, IsTicket, MayCommit, RefusesCommit, is_full, record_at, sends_at, take_refusal}
 pub use Rattle.fbl_group.specs.Strikes.{AreByNumber, AreReplaying, AreSentAgain, IsReady, Rounds, Tries, Recovers, messages_at, AreRecordsReplaced, is_lost_receipt_of, is_within, lost_receipts, strike_refusal}
-pub use Rattle.fbl_base.specs.declared.ticket.Ticket.{Ticket}
+pub use Rattle.fbl_trace.specs.declared.ticket.Ticket.{Ticket}

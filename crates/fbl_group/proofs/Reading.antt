@@ -2,7 +2,7 @@
 pub use Rattle.fbl_group.proofs.Common.{◌≡◌, ℕ, ◌+◌, ◌-◌, ◌*◌, ◌≤◌, ◌==◌, not, Bool, List, [], ◌∷◌, length, map, refl, sym, ap, ◌∙◌, arith, length-map, sum_by-cons, length-left, determinant_of, mark_of, Next, IsUp, GroupRecord, member, channel, marks, knowledge, receipts, sum_below, IsSound, up_if_none, sum_below-agree, inl, inr, sum_by, filter_map, list_any, length-filter_map, Mark, Send, in_flight, sent_on, taken_on}
 pub use Rattle.fbl_group.proofs.Common.{send_mark, messages_in_flight, down_or_both_up, trace_fits, weight_in, weight_on, into, out, flow, table_fits}
 use Rattle.std.specs.FinSet as set
-use Rattle.fbl_base.specs.declared.trace.Mark.TheVariants.{Receipt}
+use Rattle.fbl_trace.specs.declared.trace.Mark.TheVariants.{Receipt}
 
 -- nobody is in the set exactly where its count is 0
 pub ruleset nobody_counted = (set.empty_of_len, set.len-empty)

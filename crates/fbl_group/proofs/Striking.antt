@@ -3,7 +3,7 @@ pub use Rattle.fbl_group.proofs.Common.{◌≡◌, ◌≢◌, ℕ, suc, ◌<◌,
 pub use Rattle.fbl_group.proofs.Common.{is_lost_receipt_of, Message, no_orphan, nat_cmp, eq_by_cmp, unsigned_tied, nat_cmp_total, false≢true, true_from_ne_false, ◌↔◌, Any-from_list_any, list_any-from_Any, AllPass-from_list_all, list_all-from_AllPass, receipt_of, Has, itself, AllBelow, eqb-self, is_recorded, group_strike_keeps, recorded_test, is_within, strike_refusal, AreRecordsReplaced, get_or, slice_set, IsCheckpoint}
 pub use Rattle.fbl_group.proofs.Common.{sound_holds_each_receipt, recovery_leaves_recorded, cut-undone, group_recovery_gains_holders, subst, group_checkpoint_keeps, ap, trace_fits, len-empty}
 use Rattle.std.specs.FinSet as set
-use Rattle.fbl_base.specs.declared.trace.Event.TheVariants as event
+use Rattle.fbl_trace.specs.declared.trace.Event.TheVariants as event
 use Rattle.std.specs.Prelude.{Bool}
 use Rattle.fbl_group.proofs.Recovering.{read_at}
 use Rattle.fbl_answers.specs.declared.answers.Recovered.{Recovered}

@@ -1,7 +1,7 @@
 -- Steps that are taken apart from the record, and deliveries: when they are refused, and what they leave and answer.
 use Rattle.std.specs.Prelude.{◌≡◌, ◌≢◌, ℕ, List, ◌+◌, ◌==◌, ◌&&◌, ◌||◌, not, nat_lt, Bool, true, false, length, Option, Some, None, if◌then◌else◌, ◌<◌, ◌≤◌, [], slice_index_or, slice_set}
 use Rattle.std.specs.FinSet as set
-use Rattle.fbl_base.specs.Fold.{Next}
+use Rattle.fbl_trace.specs.Fold.{Next}
 use Rattle.fbl_member.specs.Members.{Message, MemberRecord, blank, last_from, messages_from, next_determinant, received_by, table_after}
 use Rattle.fbl_table.specs.Tables.{is_held, piggybacked}
 use Rattle.fbl_law.specs.Groups.{GroupRecord, member}
@@ -9,9 +9,9 @@ use Rattle.fbl_answers.specs.declared.refusals.TakeRefusal.{TakeRefusal}
 use Rattle.fbl_answers.specs.declared.refusals.TakeRefusal.TheVariants as take
 use Rattle.fbl_answers.specs.declared.refusals.CommitRefusal.{CommitRefusal}
 use Rattle.fbl_answers.specs.declared.refusals.CommitRefusal.TheVariants as commit
-use Rattle.fbl_base.specs.declared.ticket.Ticket.{Ticket}
+use Rattle.fbl_trace.specs.declared.ticket.Ticket.{Ticket}
 use Rattle.fbl_channels.specs.Channels.{front, front_message}
-use Rattle.fbl_base.specs.declared.outcome.Outcome.{Outcome}
+use Rattle.fbl_trace.specs.declared.outcome.Outcome.{Outcome}
 use Rattle.fbl_law.specs.GroupSteps.{step_of, IsDelivery}
 use Rattle.fbl_answers.specs.declared.refusals.DeliverRefusal.{DeliverRefusal}
 use Rattle.fbl_answers.specs.declared.refusals.DeliverRefusal.TheVariants.{Full, Memory}

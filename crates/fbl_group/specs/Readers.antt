@@ -1,7 +1,7 @@
 -- What the readers of a group answer.
 use Rattle.std.specs.Prelude.{◌==◌, ◌&&◌, Bool}
 use Rattle.std.specs.FinSet as set
-use Rattle.fbl_base.specs.MemberSets.{AllBelow, Members}
+use Rattle.fbl_trace.specs.MemberSets.{AllBelow, Members}
 use Rattle.fbl_law.specs.Groups.{GroupRecord, messages_in_flight}
 use Rattle.fbl_answers.specs.declared.refusals.DumpGroupRefusal.{DumpGroupRefusal}
 use Rattle.fbl_answers.specs.declared.refusals.DumpGroupRefusal.TheVariants.{BadStrike, Memory}

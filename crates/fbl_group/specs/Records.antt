@@ -1,8 +1,8 @@
 -- Turns that are recorded, each of which made a receipt: what they do to a group.
 use Rattle.std.specs.Prelude.{◌≡◌, ℕ, ◌<◌, List, [], ◌∷◌, length, slice_index, Option, Some, None}
-use Rattle.fbl_base.specs.Fold.{Next}
-use Rattle.fbl_base.specs.MemberSets.{Members}
-use Rattle.fbl_base.specs.declared.ticket.Ticket.{Ticket}
+use Rattle.fbl_trace.specs.Fold.{Next}
+use Rattle.fbl_trace.specs.MemberSets.{Members}
+use Rattle.fbl_trace.specs.declared.ticket.Ticket.{Ticket}
 use Rattle.fbl_law.specs.Groups.{GroupRecord, knowledge, member}
 use Rattle.fbl_law.specs.Promises.{KeepsHolders}
 use Rattle.fbl_answers.specs.declared.answers.Receipted.{Receipted}

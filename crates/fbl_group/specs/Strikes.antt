@@ -2,11 +2,11 @@
 use Rattle.std.specs.Prelude.{◌≡◌, ℕ, ◌<◌, ◌==◌, ◌&&◌, not, nat_lt, Bool, true, false, length, Option, Some, None, if◌then◌else◌, List, slice_index_or, ◌+◌, ◌||◌, []}
 use Rattle.std.specs.List.{filter, list_all}
 use Rattle.std.specs.FinSet as set
-use Rattle.fbl_base.specs.MemberSets.{Members}
-use Rattle.fbl_base.specs.declared.trace.Determinant.{Determinant}
-use Rattle.fbl_base.specs.declared.trace.Event.{Event}
-use Rattle.fbl_base.specs.Events.{determinant_of, mark_of}
-use Rattle.fbl_base.specs.Fold.{Next}
+use Rattle.fbl_trace.specs.MemberSets.{Members}
+use Rattle.fbl_trace.specs.declared.trace.Determinant.{Determinant}
+use Rattle.fbl_trace.specs.declared.trace.Event.{Event}
+use Rattle.fbl_trace.specs.Events.{determinant_of, mark_of}
+use Rattle.fbl_trace.specs.Fold.{Next}
 use Rattle.fbl_member.specs.Members.{MemberRecord, Message, blank}
 use Rattle.fbl_law.specs.Groups.{GroupRecord, marks, receipts, is_recorded, is_recorded_among, channel, channel_in, sum_below, member_checkpoint, knowledge}
 use Rattle.fbl_law.specs.GroupSteps.{IsStrike, IsRecovery, is_replayed, IsReplaying, IsWaiting, replayed_in, recovery_table, sent_again, working}

@@ -2,8 +2,8 @@
 -- member becomes an orphan is the condition of Alvisi and Marzullo, Message Logging (IEEE TSE 24(2), 1998).
 use Rattle.std.specs.Prelude.{◌≡◌, ℕ, ◌<◌, None}
 use Rattle.std.specs.FinSet as set
-use Rattle.fbl_base.specs.MemberSets.{Members}
-use Rattle.fbl_base.specs.Fold.{Next}
+use Rattle.fbl_trace.specs.MemberSets.{Members}
+use Rattle.fbl_trace.specs.Fold.{Next}
 use Rattle.fbl_law.specs.Knowledge.{IsDown, IsOrphan, IsUp}
 use Rattle.fbl_law.specs.Groups.{GroupRecord, knowledge, member, IsFold}
 use Rattle.fbl_law.specs.Promises.{HoldsEachReceipt, LeavesRecorded}

@@ -2,9 +2,9 @@
 
 ghost use Rattle.std.specs.Prelude.{◌≡◌, ℕ, ◌<◌, ◌≤◌, IfErr, OnErr, OnOk, None};
 ghost use Rattle.std.specs.FinSet as set;
-ghost use Rattle.fbl_base.specs.declared.trace.Determinant.{Determinant};
-ghost use Rattle.fbl_base.specs.Events.{receipt_of};
-ghost use Rattle.fbl_base.specs.Precedence.{Has};
+ghost use Rattle.fbl_trace.specs.declared.trace.Determinant.{Determinant};
+ghost use Rattle.fbl_trace.specs.Events.{receipt_of};
+ghost use Rattle.fbl_trace.specs.Precedence.{Has};
 ghost use Rattle.fbl_law.specs.Knowledge.{IsRecorded};
 ghost use Rattle.fbl_law.specs.Groups.{member_checkpoint, knowledge, marks, IsCheckpointFold};
 ghost use Rattle.fbl_law.specs.GroupSteps.{IsCheckpoint};
@@ -12,7 +12,7 @@ ghost use Rattle.fbl_group.specs.Checkpoints.{checkpoint_refusal, IsCheckpointRe
 
 use crate::group::Group;
 use fbl_answers::CheckpointRefusal;
-use fbl_base::{Behaviour, Member};
+use fbl_trace::{Behaviour, Member};
 use std::alloc::{AllocError, Allocator};
 
 impl<B: Behaviour, A: Allocator + Copy> Group<B, A> {

@@ -8,7 +8,7 @@ ghost use Rattle.fbl_group.specs.Deliveries.{Delivers, IsPlanned, has_no_room, t
 use crate::group::Group;
 use crate::ticket::Done;
 use fbl_answers::{CommitRefusal, Receipted, TakeRefusal};
-use fbl_base::{Behaviour, Content, Exact, Member, Ticket};
+use fbl_trace::{Behaviour, Content, Exact, Member, Ticket};
 use fbl_member::{MemberRec, Wire};
 use std::alloc::{AllocError, Allocator};
 

@@ -6,7 +6,7 @@ ghost use Rattle.fbl_group.specs.Records.{CountsEach};
 
 use crate::group::Group;
 use arrayvec::ArrayVec;
-use fbl_base::{Behaviour, Member};
+use fbl_trace::{Behaviour, Member};
 use std::alloc::Allocator;
 
 impl<B: Behaviour, A: Allocator + Copy> Group<B, A> {

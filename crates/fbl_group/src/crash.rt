@@ -7,7 +7,7 @@ ghost use Rattle.fbl_group.specs.Strikes.{strike_refusal, Crashes, CrashLeaves};
 
 use crate::group::Group;
 use fbl_answers::{CrashRefusal, Recovered, Struck};
-use fbl_base::{Behaviour, MemberSet};
+use fbl_trace::{Behaviour, MemberSet};
 use std::alloc::Allocator;
 
 impl<B: Behaviour, A: Allocator + Copy> Group<B, A> {

@@ -8,7 +8,7 @@ ghost use Rattle.fbl_answers.specs.Refusals.{of_commit as of_commit_refusal};
 use crate::group::Group;
 use crate::ticket::{Done, run_step};
 use fbl_answers::{CommitRefusal, DeliverRefusal, Receipted};
-use fbl_base::{Behaviour, Event, Member, Outcome};
+use fbl_trace::{Behaviour, Event, Member, Outcome};
 use fbl_member::{MemberRec, Wire};
 use std::alloc::{AllocError, Allocator};
 

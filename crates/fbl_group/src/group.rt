@@ -2,7 +2,7 @@
 
 ghost use Rattle.std.specs.Prelude.{◌≡◌, ℕ, ◌<◌, length, IfOk, IsTrue, ◌↔◌};
 
-use fbl_base::{Behaviour, Config, Event, MemberSet};
+use fbl_trace::{Behaviour, Config, Event, MemberSet};
 use fbl_channels::Channels;
 use fbl_member::MemberRec;
 use std::alloc::{Allocator, Global};

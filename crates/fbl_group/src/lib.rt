@@ -23,6 +23,6 @@ pub use fbl_answers::{
     Receipted, RecoverRefusal, Recovered, RecoveryRecord, StrikeRefusal, Struck, TakeRefusal,
     TurnRecord,
 };
-pub use fbl_base::Ticket;
+pub use fbl_trace::Ticket;
 pub use group::Group;
 pub use ticket::{Done, run_step};

@@ -1,8 +1,8 @@
 //! What a group answers of itself.
 
 ghost use Rattle.std.specs.Prelude.{◌≡◌, ℕ, ◌<◌, ◌≤◌, ◌+◌, length};
-ghost use Rattle.fbl_base.specs.MemberSets.{AllBelow};
-ghost use Rattle.fbl_base.specs.Fold.{state_after};
+ghost use Rattle.fbl_trace.specs.MemberSets.{AllBelow};
+ghost use Rattle.fbl_trace.specs.Fold.{state_after};
 ghost use Rattle.fbl_law.specs.Knowledge.{IsUp, IsDown};
 ghost use Rattle.fbl_law.specs.Groups.{channel as channel_of, member_checkpoint, messages_in_flight as messages_in_flight_of, knowledge, marks, member as record_of, receipts, IsSound, received_notes};
 ghost use Rattle.std.specs.FinSet as set;
@@ -12,7 +12,7 @@ ghost use Rattle.fbl_group.specs.Readers.{is_quiet as is_quiet_now};
 ghost use Rattle.fbl_group.specs.Theorem.{HasNoOrphan, IsRecoverable};
 
 use crate::group::Group;
-use fbl_base::{Behaviour, Config, Event, Member, MemberSet, Note};
+use fbl_trace::{Behaviour, Config, Event, Member, MemberSet, Note};
 use fbl_member::MemberRec;
 use fbl_table::Table;
 use std::alloc::Allocator;

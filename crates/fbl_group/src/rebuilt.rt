@@ -2,12 +2,12 @@
 
 ghost use Rattle.std.specs.Prelude.{◌≡◌, ◌≤◌, length, slice_index_or, vec_len};
 ghost use Rattle.std.specs.List.{filter};
-ghost use Rattle.fbl_base.specs.Events.{mark_of};
+ghost use Rattle.fbl_trace.specs.Events.{mark_of};
 ghost use Rattle.fbl_member.specs.Members.{blank};
 ghost use Rattle.fbl_law.specs.GroupSteps.{stays_by};
 ghost use Rattle.fbl_group.specs.Strikes.{AreRecordsReplaced};
 
-use fbl_base::{Behaviour, Event, Mark, Member, MemberSet};
+use fbl_trace::{Behaviour, Event, Mark, Member, MemberSet};
 use fbl_member::MemberRec;
 use fbl_table::{Receipts, Table};
 use std::alloc::Allocator;

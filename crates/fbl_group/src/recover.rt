@@ -2,7 +2,7 @@
 
 ghost use Rattle.std.specs.Prelude.{◌≡◌, ℕ, ◌<◌, length, map, IfOk, IfErr, OnErr, OnOk};
 ghost use Rattle.std.specs.FinSet as set;
-ghost use Rattle.fbl_base.specs.Events.{mark_of};
+ghost use Rattle.fbl_trace.specs.Events.{mark_of};
 ghost use Rattle.fbl_law.specs.Groups.{knowledge, receipts};
 ghost use Rattle.fbl_law.specs.Promises.{GainsHolders, RecordsFirst};
 ghost use Rattle.fbl_group.specs.Strikes.{AreSentAgain, Recovers, IsReady, IsRecoverRefusal, lost_receipts};
@@ -11,7 +11,7 @@ ghost use Rattle.fbl_group.specs.Theorem.{Restores};
 use crate::group::Group;
 use crate::rebuilt::Rebuilt;
 use fbl_answers::{RecoverRefusal, Recovered};
-use fbl_base::{Behaviour, Event, MemberSet};
+use fbl_trace::{Behaviour, Event, MemberSet};
 use std::alloc::{AllocError, Allocator};
 
 impl<B: Behaviour, A: Allocator + Copy> Group<B, A> {

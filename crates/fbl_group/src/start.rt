@@ -2,14 +2,14 @@
 
 ghost use Rattle.std.specs.Prelude.{◌≡◌, ℕ, ◌<◌, ◌≤◌, [], length, map, IfOk};
 ghost use Rattle.std.specs.List.{filter_map};
-ghost use Rattle.fbl_base.specs.Events.{mark_of};
-ghost use Rattle.fbl_base.specs.Rules.{is_send_of, sends_of};
+ghost use Rattle.fbl_trace.specs.Events.{mark_of};
+ghost use Rattle.fbl_trace.specs.Rules.{is_send_of, sends_of};
 ghost use Rattle.fbl_law.specs.GroupSteps.{between, IsGroupStart, start_events, message_of_send};
 ghost use Rattle.fbl_law.specs.Groups.{HasChannels, channel_in};
 ghost use Rattle.fbl_channels.specs.Channels.{rows};
 
 use crate::group::Group;
-use fbl_base::{Behaviour, Config, Content, Event, Mark, Member, MemberSet, Start};
+use fbl_trace::{Behaviour, Config, Content, Event, Mark, Member, MemberSet, Start};
 use fbl_channels::{Channels, empty_channels};
 use fbl_member::{Carried, Wire, fresh_members};
 use std::alloc::{AllocError, Allocator};

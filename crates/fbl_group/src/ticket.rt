@@ -2,7 +2,7 @@
 
 ghost use Rattle.std.specs.Prelude.{◌≡◌};
 
-use fbl_base::{Behaviour, Outcome, Ticket};
+use fbl_trace::{Behaviour, Outcome, Ticket};
 use std::marker::PhantomData;
 
 /// A ticket and the behaviour's step of it.

@@ -16,28 +16,28 @@ pub use Rattle.std.specs.Option.{option_map}
 pub use Rattle.std.specs.List.{filter, filter_map, range_with_len}
 pub use Rattle.std.specs.Prelude.{count_by, slice_index, slice_index_or, slice_set}
 pub use Rattle.std.specs.declared.alloc.AllocError.{AllocError}
-pub use Rattle.fbl_base.proofs.LawfulLaws.{after_notes-state, note_of-front, receipts-noted}
-pub use Rattle.fbl_base.proofs.Gets.{At-below, At-front, At-push, map-At, take-more}
-pub use Rattle.fbl_base.proofs.PrecedenceLaws.{one_place}
-pub use Rattle.fbl_base.proofs.RulesLaws.{eqb-self, receipt-number, receipts-step, sent-before, sent-number}
-pub use Rattle.fbl_base.specs.Configs.{Settings}
-pub use Rattle.fbl_base.specs.Events.{At, mark_of, receipt_of, receipts}
-pub use Rattle.fbl_base.specs.Precedence.{Has}
-pub use Rattle.fbl_base.specs.Steps.{SendsWell}
-pub use Rattle.fbl_base.specs.Fold.{Next, Progress, note_of, numbered, state_after, step_events}
-pub use Rattle.fbl_base.specs.MemberSets.{AllBelow, Members, member_list}
-pub use Rattle.fbl_base.specs.Rules.{MayFollow, WellFormed, is_receipt_of, is_send_of, receipts_of, sends_of}
-pub use Rattle.fbl_base.specs.declared.outcome.Outcome.{Outcome}
-pub use Rattle.fbl_base.specs.declared.trace.Determinant.{Determinant}
+pub use Rattle.fbl_trace.proofs.LawfulLaws.{after_notes-state, note_of-front, receipts-noted}
+pub use Rattle.fbl_trace.proofs.Gets.{At-below, At-front, At-push, map-At, take-more}
+pub use Rattle.fbl_trace.proofs.PrecedenceLaws.{one_place}
+pub use Rattle.fbl_trace.proofs.RulesLaws.{eqb-self, receipt-number, receipts-step, sent-before, sent-number}
+pub use Rattle.fbl_trace.specs.Configs.{Settings}
+pub use Rattle.fbl_trace.specs.Events.{At, mark_of, receipt_of, receipts}
+pub use Rattle.fbl_trace.specs.Precedence.{Has}
+pub use Rattle.fbl_trace.specs.Steps.{SendsWell}
+pub use Rattle.fbl_trace.specs.Fold.{Next, Progress, note_of, numbered, state_after, step_events}
+pub use Rattle.fbl_trace.specs.MemberSets.{AllBelow, Members, member_list}
+pub use Rattle.fbl_trace.specs.Rules.{MayFollow, WellFormed, is_receipt_of, is_send_of, receipts_of, sends_of}
+pub use Rattle.fbl_trace.specs.declared.outcome.Outcome.{Outcome}
+pub use Rattle.fbl_trace.specs.declared.trace.Determinant.{Determinant}
 pub use Rattle.fbl_group.proofs.Striking.{within-below}
 pub use Rattle.fbl_group.specs.Records.{CrashLeads, StrikeLeads, TurnLeads, TurnsLead}
 pub use Rattle.fbl_group.specs.Strikes.{strike_refusal}
 pub use Rattle.fbl_answers.specs.declared.record.CrashRecord.{CrashRecord}
 pub use Rattle.fbl_answers.specs.declared.record.RecoveryRecord.{RecoveryRecord}
 pub use Rattle.fbl_answers.specs.declared.record.TurnRecord.{TurnRecord}
-pub use Rattle.fbl_base.specs.declared.trace.Event.{Event}
-pub use Rattle.fbl_base.specs.declared.trace.Mark.{Mark}
-pub use Rattle.fbl_base.specs.declared.trace.Note.{Note}
+pub use Rattle.fbl_trace.specs.declared.trace.Event.{Event}
+pub use Rattle.fbl_trace.specs.declared.trace.Mark.{Mark}
+pub use Rattle.fbl_trace.specs.declared.trace.Note.{Note}
 pub use Rattle.fbl_law.proofs.Lists.{filter-agree, filter-passes, some-at}
 pub use Rattle.fbl_law.proofs.ReplayedRecords.{fold-received, fold-replayed, log-short, logged-by, logged-noted, mark-at, receipt-at, send-at, replayed-step}
 pub use Rattle.fbl_law.proofs.GroupDelivery.{group_delivery_keeps}

@@ -1,7 +1,7 @@
 -- The columns count the receipts that a group ever made, and those that were undone.
-use Rattle.fbl_base.specs.declared.trace.Note.{Note}
-use Rattle.fbl_base.specs.declared.trace.Event.TheVariants as event
-use Rattle.fbl_base.specs.declared.trace.Mark.TheVariants as mark
+use Rattle.fbl_trace.specs.declared.trace.Note.{Note}
+use Rattle.fbl_trace.specs.declared.trace.Event.TheVariants as event
+use Rattle.fbl_trace.specs.declared.trace.Mark.TheVariants as mark
 use Rattle.fbl_history.proofs.Common.{◌≡◌, ◌+◌, ℕ, filter_map, is_send_of, is_sent_by, send_column, sends_of, Bool, false, cond, List, [], ◌∷◌, ◌++◌, length, map, count_by, refl, ap, ◌∙◌, arith, sum_by-append, sum_by-cons}
 use Rattle.fbl_history.proofs.Common.{Event, mark_of, receipts, Next, GroupRecord, IsSound, Column, Send, Receipt, event_column, trace_columns}
 use Rattle.fbl_history.proofs.Common.{CountsAsBefore, IsHistoryOf, is_receipt, is_standing, is_undone_receipt, receipts_made, receipts_undone, standing, undo}

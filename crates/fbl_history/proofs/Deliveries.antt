@@ -1,6 +1,6 @@
 -- A history of a group that goes on after a delivery has the columns of the delivery behind it.
-use Rattle.fbl_base.specs.declared.trace.Event.TheVariants as event
-use Rattle.fbl_base.specs.declared.trace.Note.{Note}
+use Rattle.fbl_trace.specs.declared.trace.Event.TheVariants as event
+use Rattle.fbl_trace.specs.declared.trace.Note.{Note}
 use Rattle.fbl_history.proofs.Common.{◌≡◌, ℕ, ◌+◌, false, List, [], ◌∷◌, ◌++◌, length, map, ◌<◌, refl, sym, ap, ◌∙◌, arith, filter_map}
 use Rattle.fbl_history.proofs.Common.{At-front, Column, Event, GroupRecord, IsDelivery, IsHistoryOf, IsSound, Message, Next, Receipt, Send, SendsWell, delivery_events, event_column, go_on, go_on_to}
 use Rattle.fbl_history.proofs.Common.{group_delivery_keeps, is_receipt, blank, get_or-set_same, MemberRecord, Settings, receiver, length-received_notes, length-receipts_at, map-append, mark_of, marks, member, note_of-front, received_counted}

@@ -4,10 +4,10 @@ use Rattle.fbl_history.proofs.Common.{GroupRecord, marks, IsSound, mark-at, Have
 use Rattle.fbl_history.proofs.Common.{get_or-set_other, get_or_default, length-map, count_by-le-length, sum_by-take-le, Determinant, Note, Mark, At, is_receipt_of, is_send_of}
 use Rattle.fbl_history.proofs.Common.{receipts_of, MayFollow, Progress, note_of, numbered, after_notes-state, receipts-step, sent-before, take-next, replayed_by, length-numbered, received_notes}
 use Rattle.fbl_history.proofs.Common.{AllBelow, IsReplayed, filter, range_with_len, Members, send-at, filter-passes, logged-by, logged-noted, log-short, Has-receipts_at, replayed-step, state_after_receipt}
-use Rattle.fbl_base.specs.declared.trace.Event.TheVariants as event
+use Rattle.fbl_trace.specs.declared.trace.Event.TheVariants as event
 use Rattle.std.specs.FinSet as set
-use Rattle.fbl_base.specs.declared.trace.Mark.TheVariants.{Send, Receipt}
-use Rattle.fbl_base.specs.MemberSets.{member_list}
+use Rattle.fbl_trace.specs.declared.trace.Mark.TheVariants.{Send, Receipt}
+use Rattle.fbl_trace.specs.MemberSets.{member_list}
 
 -- how many receipts a member has with one event more
 count-more : (t : List Mark) (i m : ℕ) (e : Mark) → At t i e → receipts_of (take (i + 1) t) m ≡ receipts_of (take i t) m + cond (is_receipt_of m e) 1 0

@@ -1,6 +1,6 @@
 -- The columns of a part of a trace are those of the same events in the whole one.
-use Rattle.fbl_base.specs.declared.trace.Event.TheVariants as event
-use Rattle.fbl_base.specs.declared.trace.Note.{Note}
+use Rattle.fbl_trace.specs.declared.trace.Event.TheVariants as event
+use Rattle.fbl_trace.specs.declared.trace.Note.{Note}
 use Rattle.fbl_history.proofs.Common.{◌≡◌, ℕ, zero, suc, ◌≤◌, List, [], ◌∷◌, length, map, take, Some, slice_get, refl, subst, arith, Determinant, Event, Mark, mark_of, receipt_of}
 use Rattle.fbl_history.proofs.Common.{Has, Has-receipts_at, Next, WellFormed, event_column, length-receipts_at, mark-at, note-at, note_of, receipt-at, receipt-number, receipts-noted, receipts_at, receipts_at-Has}
 use Rattle.fbl_history.proofs.Common.{received_notes, some-at, take-more}

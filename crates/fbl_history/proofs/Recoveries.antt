@@ -1,7 +1,7 @@
 -- A history of a group that goes on after a recovery has the later events of the members that were down undone.
-use Rattle.fbl_base.specs.declared.trace.Event.TheVariants as event
-use Rattle.fbl_base.specs.declared.trace.Note.{Note}
-use Rattle.fbl_base.specs.declared.trace.Mark.TheVariants as mark
+use Rattle.fbl_trace.specs.declared.trace.Event.TheVariants as event
+use Rattle.fbl_trace.specs.declared.trace.Note.{Note}
+use Rattle.fbl_trace.specs.declared.trace.Mark.TheVariants as mark
 use Rattle.fbl_history.proofs.Common.{◌≡◌, ℕ, ◌<◌, Bool, Settings, false, not, inl, inr, List, [], ◌∷◌, length, map, Some, slice_get, refl, sym, ap, ◌∙◌, arith, nat_tests, Column, Event, GroupRecord}
 use Rattle.fbl_history.proofs.Common.{IsAfterRecovery, IsHistoryOf, IsRecovery, IsRecoveryColumn, IsSound, Members, Next, Recovery, cut-one, cut-was, cut-obeys, cut-causes, down_or_up, event_column}
 use Rattle.fbl_history.proofs.Common.{filter, filter-agree, fold-received, fold-replayed, go_on, go_on_to, group_recovery_keeps, is_beyond, is_receipt, is_standing, log_counted, mark-at, mark_of}

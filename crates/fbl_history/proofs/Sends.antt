@@ -1,7 +1,7 @@
 -- In a history each receipt comes after a send of its message.
-use Rattle.fbl_base.specs.declared.trace.Note.{Note}
-use Rattle.fbl_base.specs.declared.trace.Event.TheVariants as event
-use Rattle.fbl_base.specs.declared.trace.Mark.TheVariants as mark
+use Rattle.fbl_trace.specs.declared.trace.Note.{Note}
+use Rattle.fbl_trace.specs.declared.trace.Event.TheVariants as event
+use Rattle.fbl_trace.specs.declared.trace.Mark.TheVariants as mark
 use Rattle.fbl_history.proofs.Common.{◌≡◌, ◌⊎◌, ◌<◌, ◌==◌, ◌&&◌, ℕ, zero, suc, Bool, true, false, inl, inr, List, [], ◌∷◌, ◌++◌, length, get_or, Some, slice_get, refl, ap, sym, ◌∙◌, arith, nat_tests, At-below, At-front, At-push}
 use Rattle.fbl_history.proofs.Common.{Event, mark_of, Next, GroupRecord, marks, IsSound, eqb-self, filter_map, send_column, mark-at, send-at, sent-before, map-At, slice_get-map, slice_get-get_or, option_map}
 use Rattle.fbl_history.proofs.Common.{Column, Send, Receipt, ReceiptsFollowSends, column_then, event_column, get_or_from_slice_get, go_on, go_on_to, is_next, is_receipt, trace_columns, trace_then, undo}

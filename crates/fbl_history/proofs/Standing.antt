@@ -1,8 +1,8 @@
 -- The columns of a trace stand, and no two are the same.
-use Rattle.fbl_base.specs.declared.trace.Note.{Note}
+use Rattle.fbl_trace.specs.declared.trace.Note.{Note}
 use Rattle.fbl_history.proofs.Common.{◌≡◌, ℕ, List, [], ◌∷◌, map, Some, refl, sym, ap, ◌∙◌, Event, mark_of, Next, GroupRecord, marks, IsSound, mark-at, Column, standing, go_on_to}
 use Rattle.fbl_history.proofs.Common.{HasEachOnce, event_column, trace_columns, map-At, one_place}
-use Rattle.fbl_base.specs.declared.trace.Event.TheVariants.{Send, Receipt}
+use Rattle.fbl_trace.specs.declared.trace.Event.TheVariants.{Send, Receipt}
 pub use Rattle.fbl_history.proofs.Undoing.{standing_trace}
 use Rattle.fbl_history.proofs.Undoing.{same-is}
 

@@ -1,7 +1,7 @@
 -- The history of a new group, and what a strike and a checkpoint add to one.
-use Rattle.fbl_base.specs.declared.trace.Event.TheVariants as event
-use Rattle.fbl_base.specs.declared.trace.Note.{Note}
-use Rattle.fbl_base.specs.declared.trace.Start.{Start}
+use Rattle.fbl_trace.specs.declared.trace.Event.TheVariants as event
+use Rattle.fbl_trace.specs.declared.trace.Note.{Note}
+use Rattle.fbl_trace.specs.declared.trace.Start.{Start}
 use Rattle.fbl_history.proofs.Common.{◌≡◌, ℕ, ◌+◌, false, List, [], ◌∷◌, ◌++◌, map, refl, sym, ap, ◌∙◌, arith, append-nil, filter-append, filter_map, filter_map-append, map-append}
 use Rattle.fbl_history.proofs.Common.{Checkpoint, Column, Event, GroupRecord, IsCheckpoint, IsGroupStart, IsHistoryOf, IsStrike, Members, Next, Settings, Strike, event_column, is_receipt, is_standing}
 use Rattle.fbl_history.proofs.Common.{mark_of, send_column, sends_of, standing, start_columns, start_events}

@@ -1,5 +1,5 @@
 -- A history goes on over turns as over the commands that do the same.
-use Rattle.fbl_base.specs.declared.trace.Note.{Note}
+use Rattle.fbl_trace.specs.declared.trace.Note.{Note}
 use Rattle.std.specs.FinSet as set
 use Rattle.fbl_history.proofs.Common.{◌≡◌, ℕ, zero, suc, slice_get, ◌+◌, ◌-◌, ◌<◌, false, List, [], ◌∷◌, ◌++◌, length, Option, None, Some, refl, sym, ap, ◌∙◌, arith, nat_tests, filter_map, length-append}
 use Rattle.fbl_history.proofs.Common.{AllBelow, Column, CrashLeads, CrashRecord, GroupRecord, IsAfterCrash, IsAfterRecoveryRecord, IsAfterTurn, IsAfterTurns, IsDelivery, IsHistoryOf, IsLedTo, IsRecoveryColumn, IsSound, IsStrike, MemberRecord, ReceiptsFollowSends}

@@ -1,11 +1,11 @@
 -- The laws of histories, for the functions that state them.
 use Rattle.std.specs.Prelude.{◌≡◌, ℕ, Bool, List, [], ◌∷◌, ◌++◌, map, Option, Some, None}
 use Rattle.std.specs.List.{filter}
-use Rattle.fbl_base.specs.declared.trace.Note.{Note}
-use Rattle.fbl_base.specs.Configs.{Settings}
-use Rattle.fbl_base.specs.Fold.{Next}
-use Rattle.fbl_base.specs.MemberSets.{Members}
-use Rattle.fbl_base.specs.Steps.{SendsWell}
+use Rattle.fbl_trace.specs.declared.trace.Note.{Note}
+use Rattle.fbl_trace.specs.Configs.{Settings}
+use Rattle.fbl_trace.specs.Fold.{Next}
+use Rattle.fbl_trace.specs.MemberSets.{Members}
+use Rattle.fbl_trace.specs.Steps.{SendsWell}
 use Rattle.fbl_answers.specs.declared.record.CrashRecord.{CrashRecord}
 use Rattle.fbl_answers.specs.declared.record.RecoveryRecord.{RecoveryRecord}
 use Rattle.fbl_answers.specs.declared.record.TurnRecord.{TurnRecord}

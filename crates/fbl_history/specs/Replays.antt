@@ -1,8 +1,8 @@
 -- Members that replay the receipts of a trace, in its order.
 use Rattle.std.specs.Prelude.{◌≡◌, ℕ, ◌<◌, List, length, take, slice_index_or}
-use Rattle.fbl_base.specs.declared.trace.Note.{Note}
-use Rattle.fbl_base.specs.Fold.{Next}
-use Rattle.fbl_base.specs.Rules.{receipts_of}
+use Rattle.fbl_trace.specs.declared.trace.Note.{Note}
+use Rattle.fbl_trace.specs.Fold.{Next}
+use Rattle.fbl_trace.specs.Rules.{receipts_of}
 use Rattle.fbl_member.specs.Members.{MemberRecord, blank}
 use Rattle.fbl_law.specs.Groups.{GroupRecord, marks, IsReplayed}
 

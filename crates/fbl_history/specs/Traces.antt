@@ -1,12 +1,12 @@
 -- The columns of a trace's events, and those of strikes, recoveries and checkpoints.
 use Rattle.std.specs.Prelude.{◌≡◌, ℕ, ◌-◌, false, List, [], ◌∷◌, ◌++◌, map, take, Option, Some, None}
 use Rattle.std.specs.List.{filter_map}
-use Rattle.fbl_base.specs.declared.trace.Note.{Note}
-use Rattle.fbl_base.specs.declared.trace.Event.{Event}
-use Rattle.fbl_base.specs.declared.trace.Start.{Start}
-use Rattle.fbl_base.specs.declared.trace.Event.TheVariants as event
-use Rattle.fbl_base.specs.Fold.{Next, state_after}
-use Rattle.fbl_base.specs.MemberSets.{member_list, Members}
+use Rattle.fbl_trace.specs.declared.trace.Note.{Note}
+use Rattle.fbl_trace.specs.declared.trace.Event.{Event}
+use Rattle.fbl_trace.specs.declared.trace.Start.{Start}
+use Rattle.fbl_trace.specs.declared.trace.Event.TheVariants as event
+use Rattle.fbl_trace.specs.Fold.{Next, state_after}
+use Rattle.fbl_trace.specs.MemberSets.{member_list, Members}
 use Rattle.fbl_law.specs.GroupSteps.{start_events}
 use Rattle.fbl_law.specs.Groups.{GroupRecord, member, member_checkpoint, received_notes}
 use Rattle.fbl_history.specs.declared.column.Column.{Column}

@@ -1,11 +1,11 @@
 -- The history of a run of workers, by the records of its turns.
 use Rattle.std.specs.Prelude.{◌≡◌, ℕ, ◌-◌, Bool, false, List, [], ◌∷◌, ◌++◌, length, map, nat_lt, slice_index, Option, Some, None, if◌then◌else◌}
 use Rattle.std.specs.List.{filter_map}
-use Rattle.fbl_base.specs.declared.trace.Note.{Note}
-use Rattle.fbl_base.specs.declared.outcome.Outcome.{Outcome}
-use Rattle.fbl_base.specs.declared.ticket.Ticket.{Ticket}
-use Rattle.fbl_base.specs.Fold.{Next, step_events}
-use Rattle.fbl_base.specs.MemberSets.{Members}
+use Rattle.fbl_trace.specs.declared.trace.Note.{Note}
+use Rattle.fbl_trace.specs.declared.outcome.Outcome.{Outcome}
+use Rattle.fbl_trace.specs.declared.ticket.Ticket.{Ticket}
+use Rattle.fbl_trace.specs.Fold.{Next, step_events}
+use Rattle.fbl_trace.specs.MemberSets.{Members}
 use Rattle.fbl_answers.specs.declared.record.CrashRecord.{CrashRecord}
 use Rattle.fbl_answers.specs.declared.record.RecoveryRecord.{RecoveryRecord}
 use Rattle.fbl_answers.specs.declared.record.TurnRecord.{TurnRecord}

@@ -3,7 +3,7 @@
 ghost use Rattle.std.specs.Prelude.{◌≡◌};
 ghost use Rattle.fbl_history.specs.Columns.{is_sent_by as sent_by, is_standing as stands, same_standing, undo as undone_column};
 
-use fbl_base::{Member, MemberSet};
+use fbl_trace::{Member, MemberSet};
 
 /// How many receipts a member replayed in a recovery, counted after its checkpoint.
 #[derive(Clone, Copy, PartialEq, Eq)]

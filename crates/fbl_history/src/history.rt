@@ -1,7 +1,7 @@
 //! A history, and how it goes on.
 
 ghost use Rattle.std.specs.Prelude.{◌≡◌, ◌≤◌, ◌<◌, ◌++◌, ◌∷◌, [], count_by, drop, false, length, IfOk, OnOk};
-ghost use Rattle.fbl_base.specs.MemberSets.{AllBelow};
+ghost use Rattle.fbl_trace.specs.MemberSets.{AllBelow};
 ghost use Rattle.fbl_history.specs.Columns.{go_on as gone_on, is_receipt, is_sent_by, ReceiptsFollowSends};
 ghost use Rattle.fbl_history.specs.Traces.{go_on_to, start_columns, trace_columns as columns_of_trace, CountsAsBefore, IsAfterRecovery, IsHistoryOf};
 ghost use Rattle.fbl_history.specs.Turns.{IsAfterTurns, IsLedTo};
@@ -10,7 +10,7 @@ ghost use Rattle.fbl_history.specs.declared.column.Column.TheVariants.{Strike, C
 use crate::column::Column;
 use crate::states::trace_columns;
 use crate::turns::{add_turn, replays};
-use fbl_base::{Behaviour, Config, Member, MemberSet, Note};
+use fbl_trace::{Behaviour, Config, Member, MemberSet, Note};
 use fbl_group::{Group, TurnRecord};
 use std::alloc::{AllocError, Global};
 use std::marker::Model;

@@ -1,12 +1,12 @@
 //! The columns of a trace, with the state after each receipt.
 
 ghost use Rattle.std.specs.Prelude.{◌≡◌, ◌<◌, ◌≤◌, ◌+◌, IfOk, OnOk, length, slice_get, Some};
-ghost use Rattle.fbl_base.specs.declared.trace.Event.TheVariants as event_of;
+ghost use Rattle.fbl_trace.specs.declared.trace.Event.TheVariants as event_of;
 ghost use Rattle.fbl_history.specs.Replays.{HaveReplayed};
 ghost use Rattle.fbl_history.specs.Traces.{trace_columns as columns_of_trace, event_column, state_after_receipt};
 
 use crate::column::Column;
-use fbl_base::{Behaviour, Determinant, Event, Note};
+use fbl_trace::{Behaviour, Determinant, Event, Note};
 use fbl_group::Group;
 use fbl_member::{MemberRec, fresh_members};
 use std::alloc::{AllocError, Global};

@@ -2,12 +2,12 @@
 
 ghost use Rattle.std.specs.Prelude.{◌≡◌, ◌≤◌, ◌<◌, ◌++◌, OnOk, IfOk, length, map, slice_index};
 ghost use Rattle.std.specs.Option.{ForSome};
-ghost use Rattle.fbl_base.specs.MemberSets.{AllBelow};
+ghost use Rattle.fbl_trace.specs.MemberSets.{AllBelow};
 ghost use Rattle.fbl_history.specs.Traces.{replays_of};
 ghost use Rattle.fbl_history.specs.Turns.{is_beyond as is_beyond_in, undone_beyond, step_columns, IsAfterCrash, IsAfterTurn};
 
 use crate::column::{Column, Replay};
-use fbl_base::{Behaviour, Member, MemberSet, Note, Outcome, Ticket};
+use fbl_trace::{Behaviour, Member, MemberSet, Note, Outcome, Ticket};
 use fbl_group::{CrashRecord, Group, RecoveryRecord, TurnRecord, run_step};
 use std::alloc::{AllocError, Global};
 

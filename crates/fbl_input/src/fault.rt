@@ -4,7 +4,8 @@ ghost use Rattle.std.specs.Prelude.{◌≡◌};
 
 use crate::input_fault::InputFault;
 use crate::output::OutputFault;
-use fbl_base::{ConfigRefusal, DumpRefusal};
+use fbl_base::DumpRefusal;
+use fbl_trace::ConfigRefusal;
 use std::fmt;
 use thiserror::Error;
 

@@ -4,7 +4,8 @@ ghost use Rattle.std.specs.Prelude.{◌≡◌};
 ghost use Rattle.fbl_input.specs.declared.misfit.Misfit.TheVariants.{Memory};
 
 use crate::fault::{Key, RunFault};
-use fbl_base::{Breach, ConfigRefusal, DumpRefusal};
+use fbl_base::DumpRefusal;
+use fbl_trace::{Breach, ConfigRefusal};
 use fbl_logs::LogBreach;
 use serde_json::Error as JsonError;
 use std::alloc::{AllocError, AllocFailed};

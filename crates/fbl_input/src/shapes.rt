@@ -16,7 +16,7 @@ ghost use Rattle.fbl_input.specs.declared.fault.RunFault.TheVariants.{NotJson, N
 
 use crate::fault::Key;
 use crate::misfit::{InputKind, Misfit};
-use fbl_base::{Member, MemberSet};
+use fbl_trace::{Member, MemberSet};
 use serde_json::{Map, Value};
 use std::alloc::{AllocError, Global};
 

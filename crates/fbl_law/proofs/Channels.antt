@@ -5,7 +5,7 @@ use Rattle.fbl_law.proofs.Common.{last_taken, append-nil, Send, Receipt, Apart, 
 use Rattle.fbl_law.proofs.Common.{receipts_of, map-At, WellFormed-front, in_flight-sent, Message, Knowledge, IsSoundKnowledge, send_mark, IsInFlight, IsUp, between, taken_off, drop-map, ◌==◌, ◌&&◌}
 use Rattle.fbl_law.proofs.Common.{◌⊎◌, inl, inr, subst, Contains, Event, mark_of, Next, Progress, Logged, Lawful, note_of, At-filter, Entry, last_from, GroupRecord, member, channel, marks, IsFold}
 use Rattle.fbl_law.proofs.Common.{IsMadeAgain, resent_to, logged_beyond, resent, get_or, get_or_past, HasChannels, destination_of, cases_lt}
-use Rattle.fbl_base.specs.declared.trace.Event.TheVariants as event
+use Rattle.fbl_trace.specs.declared.trace.Event.TheVariants as event
 use Rattle.fbl_law.proofs.Lists.{filter-passes, Contains-at, Contains-place, Contains-changed, Contains-none}
 use Rattle.fbl_law.proofs.Receipts.{MayFollow-seam}
 use Rattle.fbl_law.proofs.Safe.{up_at_ends}

@@ -22,28 +22,28 @@ pub use Rattle.std.specs.List.{All, Contains, filter, filter_map, fold, list_any
 pub use Rattle.std.specs.Option.{option_map_or}
 pub use Rattle.std.specs.Ordering.{nat_cmp}
 pub use Rattle.std.specs.Prelude.{slice_index_or, slice_set, sum_by}
-pub use Rattle.fbl_base.proofs.LawfulLaws.{after_notes-state, lawful_deliver, note_of-front, notes_of-sent, receipts-noted, sent-note}
-pub use Rattle.fbl_base.proofs.Gets.{Apart, At-seam, Apart-later, At-below, At-filter, At-filter_map, At-front, At-push, drop_next, filter_map-At, filter_map-agree, map-At}
-pub use Rattle.fbl_base.proofs.Gets.{split-at, take-more, length-filter_map, length-left}
-pub use Rattle.fbl_base.proofs.RulesLaws.{receipt-number, filter_all, in_flight-receipt, in_flight-send, sent-rises, MayFollow-last, WellFormed-front, WellFormed-keeps}
-pub use Rattle.fbl_base.proofs.RulesLaws.{WellFormed-none, WellFormed-push, WellFormed-take, eqb-self, in_flight-sent, is_sent, receipts-step, sends-step, sent-before}
-pub use Rattle.fbl_base.proofs.PrecedenceLaws.{one_place, one_send, Earlier-front, Has-append, Has-filter, Has-first, Has-last, Precedes-entered, Precedes-filter, Precedes-front, Precedes-within}
-pub use Rattle.fbl_base.proofs.AuditLaws.{is_receipt, Decides-same_determinant}
-pub use Rattle.fbl_base.proofs.Sets.{len-within, some_member, some_outside}
+pub use Rattle.fbl_trace.proofs.LawfulLaws.{after_notes-state, lawful_deliver, note_of-front, notes_of-sent, receipts-noted, sent-note}
+pub use Rattle.fbl_trace.proofs.Gets.{Apart, At-seam, Apart-later, At-below, At-filter, At-filter_map, At-front, At-push, drop_next, filter_map-At, filter_map-agree, map-At}
+pub use Rattle.fbl_trace.proofs.Gets.{split-at, take-more, length-filter_map, length-left}
+pub use Rattle.fbl_trace.proofs.RulesLaws.{receipt-number, filter_all, in_flight-receipt, in_flight-send, sent-rises, MayFollow-last, WellFormed-front, WellFormed-keeps}
+pub use Rattle.fbl_trace.proofs.RulesLaws.{WellFormed-none, WellFormed-push, WellFormed-take, eqb-self, in_flight-sent, is_sent, receipts-step, sends-step, sent-before}
+pub use Rattle.fbl_trace.proofs.PrecedenceLaws.{one_place, one_send, Earlier-front, Has-append, Has-filter, Has-first, Has-last, Precedes-entered, Precedes-filter, Precedes-front, Precedes-within}
+pub use Rattle.fbl_trace.proofs.RulesLaws.{is_receipt, Decides-same_determinant}
+pub use Rattle.fbl_trace.proofs.Sets.{len-within, some_member, some_outside}
 pub use Rattle.fbl_base.specs.Audit.{HeldAt}
-pub use Rattle.fbl_base.specs.Configs.{IsConfig, Settings, StartAllowed}
-pub use Rattle.fbl_base.specs.Events.{At, destination_of, determinant_of, mark_of, member_of, receipt_of, same_determinant, send_of}
-pub use Rattle.fbl_base.specs.Fold.{Action, Lawful, Logged, Next, Progress, action_of, actions_of, advanced, after_notes, begun, note_of, notes_of, numbered, responses, sent}
-pub use Rattle.fbl_base.specs.Fold.{start_of, starts_of, step_events, took}
-pub use Rattle.fbl_base.specs.MemberSets.{AllBelow, Members, contains-members_where, contains-union, contains-insert_other, contains-insert_same, members_where}
-pub use Rattle.fbl_base.specs.Precedence.{Depends, Earlier, Has, Leads, Precedes, itself, step}
-pub use Rattle.fbl_base.specs.Rules.{MayFollow, WellFormed, in_flight, is_receipt_of, is_send_of, receipts_of, sends_of, sent_on, taken_on}
-pub use Rattle.fbl_base.specs.Steps.{SendsWell}
-pub use Rattle.fbl_base.specs.declared.trace.Determinant.{Determinant}
-pub use Rattle.fbl_base.specs.declared.trace.Event.{Event}
-pub use Rattle.fbl_base.specs.declared.trace.Mark.{Mark}
-pub use Rattle.fbl_base.specs.declared.trace.Mark.TheVariants.{Receipt, Send}
-pub use Rattle.fbl_base.specs.declared.trace.Start.{Start}
+pub use Rattle.fbl_trace.specs.Configs.{IsConfig, Settings, StartAllowed}
+pub use Rattle.fbl_trace.specs.Events.{At, destination_of, determinant_of, mark_of, member_of, receipt_of, same_determinant, send_of}
+pub use Rattle.fbl_trace.specs.Fold.{Action, Lawful, Logged, Next, Progress, action_of, actions_of, advanced, after_notes, begun, note_of, notes_of, numbered, responses, sent}
+pub use Rattle.fbl_trace.specs.Fold.{start_of, starts_of, step_events, took}
+pub use Rattle.fbl_trace.specs.MemberSets.{AllBelow, Members, contains-members_where, contains-union, contains-insert_other, contains-insert_same, members_where}
+pub use Rattle.fbl_trace.specs.Precedence.{Depends, Earlier, Has, Leads, Precedes, itself, step}
+pub use Rattle.fbl_trace.specs.Rules.{MayFollow, WellFormed, in_flight, is_receipt_of, is_send_of, receipts_of, sends_of, sent_on, taken_on}
+pub use Rattle.fbl_trace.specs.Steps.{SendsWell}
+pub use Rattle.fbl_trace.specs.declared.trace.Determinant.{Determinant}
+pub use Rattle.fbl_trace.specs.declared.trace.Event.{Event}
+pub use Rattle.fbl_trace.specs.declared.trace.Mark.{Mark}
+pub use Rattle.fbl_trace.specs.declared.trace.Mark.TheVariants.{Receipt, Send}
+pub use Rattle.fbl_trace.specs.declared.trace.Start.{Start}
 pub use Rattle.fbl_member.proofs.Logs.{length-numbered, numbered-append}
 pub use Rattle.fbl_member.proofs.Once.{IsOnce-none}
 pub use Rattle.fbl_member.specs.Carried.{IsOnce}

@@ -5,8 +5,8 @@ use Rattle.fbl_law.proofs.Common.{send_of, Has, Leads, Precedes, itself, step, i
 use Rattle.fbl_law.proofs.Common.{WellFormed-none, WellFormed-push, is_sent, in_flight-sent, last_taken, Next, note_of, Action, took, sent, action_of, actions_of, notes_of, responses, start_of}
 use Rattle.fbl_law.proofs.Common.{starts_of, Lawful, At-filter, receipts-noted, eqb-self, append-nil, filter_map-agree, Earlier-front, cases_lt, drop, drop_all, drop_next, filter_map-append}
 use Rattle.fbl_law.proofs.Common.{slice_get_within, subst, take_all, None, At-seam, take-append-drop, At}
-use Rattle.fbl_base.specs.declared.trace.Mark.TheVariants as mark
-use Rattle.fbl_base.specs.declared.trace.Event.TheVariants.{Send, Receipt}
+use Rattle.fbl_trace.specs.declared.trace.Mark.TheVariants as mark
+use Rattle.fbl_trace.specs.declared.trace.Event.TheVariants.{Send, Receipt}
 use Rattle.fbl_law.proofs.Channels.{in_flight-beyond}
 use Rattle.fbl_law.proofs.Lists.{filter-At, some-at}
 use Rattle.fbl_law.proofs.ReplayedRecords.{noted-sent, sent-noted, mark-at}

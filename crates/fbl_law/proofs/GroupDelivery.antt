@@ -8,7 +8,7 @@ use Rattle.fbl_law.proofs.Common.{receiver, made, delivery_events, SendsWell, na
 use Rattle.fbl_law.proofs.Common.{Precedes, Has-last, Entry, Includes, Store, in_table, in_message, in_checkpoint, owner, IsThere, Owes, send_mark, Names, Holds, IsHolder, IsTrueEntry, NamesCauses}
 use Rattle.fbl_law.proofs.Common.{IsSoundKnowledge, learned, Precedes-front, ◌↔◌, held_by, All-contains, All-push, map-At, Send, WellFormed, fresh}
 use Rattle.std.specs.FinSet as sets
-use Rattle.fbl_base.specs.declared.trace.Event.TheVariants as event
+use Rattle.fbl_trace.specs.declared.trace.Event.TheVariants as event
 use Rattle.std.proofs.Common.{append-nil}
 use Rattle.fbl_law.proofs.Lists.{Contains-at, Contains-from_filter, At-behind, Contains-none, Contains-there}
 use Rattle.fbl_law.proofs.Safe.{never_both, up_if_none, nobody_down_empty, Includes-insert_cases, Names-table, learned-keeps, All-from, once_noted}

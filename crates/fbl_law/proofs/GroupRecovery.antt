@@ -7,7 +7,7 @@ use Rattle.fbl_law.proofs.Common.{is_recorded, length-filter_both, same_from_dec
 use Rattle.fbl_law.proofs.Common.{get_or_from_slice_get, is_held, is_lost, is_receipt_of, is_send_of, member_of, nat_lt, passes_at_first, position_or_len, recovery_table, slice_get_within, stays_in}
 use Rattle.fbl_law.proofs.Common.{GainsHolders, GainsTheDown, LeavesRecorded, OfRecovery}
 use Rattle.std.specs.FinSet as set
-use Rattle.fbl_base.specs.declared.trace.Event.TheVariants as event
+use Rattle.fbl_trace.specs.declared.trace.Event.TheVariants as event
 use Rattle.fbl_law.proofs.ReplayedRecords.{log-length, all-taken, replayed-kept, fold-replayed, replayed-fold, mark-at, number-front}
 use Rattle.fbl_law.proofs.Safe.{down_or_up, down_or_both_up, never_both, up_if_none, IsRecorded-reached, Names-held, held-Names, once_recovery_table, gathered_recorded, recorded_gathered}
 use Rattle.fbl_law.proofs.Recovery.{recovery_keeps, cut-recorded, cut_is_recorded, recovery_gains_holders, cut-causes, cut-was, cut-left, cut-obeys, cut-keeps_up, recorded-cut, cut-marks}

@@ -5,7 +5,7 @@ use Rattle.fbl_law.proofs.Common.{receipt_of, in_flight, sent_on, taken_on, send
 use Rattle.fbl_law.proofs.Common.{WellFormed-none, WellFormed-push, fresh, Message, MemberRecord, blank, send_mark, is_on, GroupRecord, channel, knowledge, receipts, IsSound, if◌then◌else◌, Send}
 use Rattle.fbl_law.proofs.Common.{Settings, IsConfig, StartAllowed, notes_of-sent, IsGroupStart, start_events, message_of_send, At-filter_map, nat_tests, IsOnce-none, Entry, Has, Has-first}
 use Rattle.fbl_law.proofs.Common.{IsSoundKnowledge, IsThere, NamesCauses, Store, entries, in_checkpoint, in_message, in_table}
-use Rattle.fbl_base.specs.declared.trace.Event.TheVariants as event
+use Rattle.fbl_trace.specs.declared.trace.Event.TheVariants as event
 use Rattle.std.proofs.Common.{append-nil}
 use Rattle.fbl_law.proofs.Channels.{fifo}
 use Rattle.fbl_law.proofs.Lists.{Contains-from_filter, Contains-place, Contains-none}

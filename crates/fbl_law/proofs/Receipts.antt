@@ -4,7 +4,7 @@ use Rattle.fbl_law.proofs.Common.{◌≤◌, ◌==◌, cond, length, map, Option
 use Rattle.fbl_law.proofs.Common.{slice_get-map, Determinant, Event, At, mark_of, determinant_of, receipt_of, is_receipt_of, receipts_of, taken_on, action_of, notes_of, note_of, filter_map-At}
 use Rattle.fbl_law.proofs.Common.{At-filter, At-filter_map, WellFormed-take, receipts-noted, received_notes, receipts_at, is_receipt, WellFormed-keeps, filter-append, filter_map-append, Send, Receipt}
 use Rattle.fbl_law.proofs.Common.{At-push, append-nil, Bool, count_by, sum_by-append, is_send_of, sends_of, Knowledge, IsBeforeCheckpoint, take-append-add, checkpoint, noted}
-use Rattle.fbl_base.specs.declared.trace.Event.TheVariants as event
+use Rattle.fbl_trace.specs.declared.trace.Event.TheVariants as event
 use Rattle.fbl_law.proofs.Lists.{At-behind, some-at, filter-At, filter-passes}
 
 -- each event of a trace that obeys the rules may follow those before it

@@ -6,8 +6,8 @@ use Rattle.fbl_law.proofs.Common.{is_receipt_of, sends_of, receipts_of, Next, Lo
 use Rattle.fbl_law.proofs.Common.{responses, Lawful, sends-step, receipts-step, logged_note, length-numbered, received_notes, MemberRecord, IsReplayed, append-nil, fold-append, numbered-append}
 use Rattle.fbl_law.proofs.Common.{take-more, progress_of, take-map, take_all, length-set, get_or-set_same, get_or-set_other, slice_get_within, Determinant, receipt_of, receipts-noted, fresh}
 use Rattle.fbl_law.proofs.Common.{replayed_by, GroupRecord, member, marks, IsFold, receipts_at, fold_next}
-use Rattle.fbl_base.specs.declared.trace.Mark.TheVariants as mark
-use Rattle.fbl_base.specs.declared.trace.Event.TheVariants.{Send, Receipt}
+use Rattle.fbl_trace.specs.declared.trace.Mark.TheVariants as mark
+use Rattle.fbl_trace.specs.declared.trace.Event.TheVariants.{Send, Receipt}
 use Rattle.fbl_law.proofs.Receipts.{MayFollow-seam, receipts_at-Has, Has-receipts_at, length-received_notes, note-at, last-from}
 use Rattle.fbl_law.proofs.Lists.{some-at}
 

@@ -7,9 +7,9 @@ use Rattle.fbl_law.proofs.Common.{nat_tests, ◌+◌, ◌≤◌, sum_by-cons, su
 use Rattle.fbl_law.proofs.Common.{IsUp, member, channel, knowledge, sum_below, sum_by, option_map_or, fold-map, sum_by_push, sum_by-drop_more, get_or_from_slice_get, slice_get_within, StepMakesNone}
 use Rattle.fbl_law.proofs.Common.{StepLosesNone, StepConserves, weight_after, weight_flying, weight_of, weight_at_first, weight_of_starts, WeighsNoMore, WeighsNoLess, WeighsTheSame}
 use Rattle.fbl_law.proofs.Common.{messages_in_flight, nil_from_length}
-use Rattle.fbl_base.specs.declared.trace.Mark.TheVariants as mark
+use Rattle.fbl_trace.specs.declared.trace.Mark.TheVariants as mark
 use Rattle.std.specs.FinSet as set
-use Rattle.fbl_base.specs.declared.trace.Event.TheVariants.{Send, Receipt}
+use Rattle.fbl_trace.specs.declared.trace.Event.TheVariants.{Send, Receipt}
 use Rattle.fbl_law.proofs.Lists.{Contains-at, Contains-place, sum_below-none, sum_below-at}
 use Rattle.fbl_law.proofs.Safe.{down_or_up, All-from, down_or_both_up, up_if_none}
 use Rattle.fbl_law.proofs.ReplayedRecords.{noted-sent, sent-noted, mark-at, send-at}

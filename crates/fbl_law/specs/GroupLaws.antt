@@ -3,19 +3,19 @@
 use Rattle.std.specs.Prelude.{ℕ, ◌≤◌, ◌≡◌, ◌<◌, ◌↔◌, true, length, ◌+◌, ◌⊎◌, not, List, map, slice_index_or, slice_set, Some}
 use Rattle.std.specs.List.{filter}
 use Rattle.std.specs.FinSet as set
-use Rattle.fbl_base.specs.Configs.{Settings, IsConfig}
-use Rattle.fbl_base.specs.Fold.{Next}
-use Rattle.fbl_base.specs.MemberSets.{AllBelow, Members}
+use Rattle.fbl_trace.specs.Configs.{Settings, IsConfig}
+use Rattle.fbl_trace.specs.Fold.{Next}
+use Rattle.fbl_trace.specs.MemberSets.{AllBelow, Members}
 use Rattle.fbl_member.specs.Members.{Message, MemberRecord, blank, logged_note, replayed_by}
 use Rattle.fbl_law.specs.Groups.{GroupRecord, member_checkpoint, marks, knowledge, is_recorded, receipts, receipts_at, IsSound, OfSound}
 use Rattle.fbl_law.specs.GroupSteps.{IsGroupStart, IsDelivery, IsStrike, IsCheckpoint, IsRecovery, Stays, recovery_table, recovered_trace, working, IsReplaying, IsWaiting, IsRebuilt}
-use Rattle.fbl_base.specs.declared.trace.Determinant.{Determinant}
-use Rattle.fbl_base.specs.Events.{receipt_of, mark_of}
-use Rattle.fbl_base.specs.Precedence.{Has, Precedes}
-use Rattle.fbl_base.specs.Steps.{SendsWell}
+use Rattle.fbl_trace.specs.declared.trace.Determinant.{Determinant}
+use Rattle.fbl_trace.specs.Events.{receipt_of, mark_of}
+use Rattle.fbl_trace.specs.Precedence.{Has, Precedes}
+use Rattle.fbl_trace.specs.Steps.{SendsWell}
 use Rattle.fbl_law.specs.Knowledge.{IsRecorded, Includes, IsDown, IsOrphan, Holds}
 use Rattle.fbl_law.specs.Promises.{SurvivorsHold}
-use Rattle.fbl_base.specs.declared.trace.Mark.{Mark}
+use Rattle.fbl_trace.specs.declared.trace.Mark.{Mark}
 use Rattle.fbl_table.specs.Tables.{found}
 
 -- a group in which nothing is received yet is sound

@@ -6,24 +6,24 @@ use Rattle.std.specs.Prelude.{◌≡◌, ℕ, zero, suc, ◌⊎◌, ◌↔◌, �
 use Rattle.std.specs.Prelude.{Some, None, slice_get, slice_set, ◌≢◌, ◌-◌, ◌||◌, not, nat_le, nat_lt, false, take}
 use Rattle.std.specs.List.{filter, fold, Contains, filter_map, position_or_len}
 use Rattle.std.specs.FinSet as set
-use Rattle.fbl_base.specs.MemberSets.{Members}
-use Rattle.fbl_base.specs.declared.trace.Determinant.{Determinant}
-use Rattle.fbl_base.specs.declared.trace.Mark.{Mark}
-use Rattle.fbl_base.specs.declared.trace.Event.{Event}
-use Rattle.fbl_base.specs.Events.{member_of, mark_of, receipt_of}
-use Rattle.fbl_base.specs.Precedence.{Has, Earlier}
+use Rattle.fbl_trace.specs.MemberSets.{Members}
+use Rattle.fbl_trace.specs.declared.trace.Determinant.{Determinant}
+use Rattle.fbl_trace.specs.declared.trace.Mark.{Mark}
+use Rattle.fbl_trace.specs.declared.trace.Event.{Event}
+use Rattle.fbl_trace.specs.Events.{member_of, mark_of, receipt_of}
+use Rattle.fbl_trace.specs.Precedence.{Has, Earlier}
 use Rattle.fbl_law.specs.Knowledge.{Knowledge, IsDown, IsRecorded, IsUp, MatchesTrace}
 use Rattle.fbl_table.specs.declared.entry.Entry.{Entry}
 use Rattle.fbl_table.specs.Tables.{gathered, marked, piggybacked, is_held, found}
 use Rattle.fbl_member.specs.Members.{Message, MemberRecord, blank, fresh, received_by, messages_from, last_from, logged_note, logged_beyond}
-use Rattle.fbl_base.specs.declared.outcome.Outcome.{Outcome}
-use Rattle.fbl_base.specs.declared.trace.Event.TheVariants.{Send, Receipt}
-use Rattle.fbl_base.specs.declared.trace.Start.{Start}
-use Rattle.fbl_base.specs.Configs.{Settings}
-use Rattle.fbl_base.specs.Rules.{sends_of, receipts_of}
-use Rattle.fbl_base.specs.Fold.{Next, note_of, step_events}
+use Rattle.fbl_trace.specs.declared.outcome.Outcome.{Outcome}
+use Rattle.fbl_trace.specs.declared.trace.Event.TheVariants.{Send, Receipt}
+use Rattle.fbl_trace.specs.declared.trace.Start.{Start}
+use Rattle.fbl_trace.specs.Configs.{Settings}
+use Rattle.fbl_trace.specs.Rules.{sends_of, receipts_of}
+use Rattle.fbl_trace.specs.Fold.{Next, note_of, step_events}
 use Rattle.fbl_law.specs.Groups.{GroupRecord, HasChannels, member, member_checkpoint, channel, marks, knowledge, receipts, IsFold, sum_below, IsReplayed}
-use Rattle.fbl_base.specs.declared.trace.Mark.TheVariants.{Send, Receipt}
+use Rattle.fbl_trace.specs.declared.trace.Mark.TheVariants.{Send, Receipt}
 
 -- several tables' entries, one table after the other
 abbrev pub gathered_all : List Entry → List (List Entry) → List Entry

@@ -1,19 +1,19 @@
 -- A group's record as data, and what holds of it between any two calls.
 use Rattle.std.specs.Prelude.{◌≡◌, ℕ, zero, suc, ◌+◌, ◌<◌, List, [], length, map, slice_index_or, Bool, ◌||◌, ◌≤◌, ◌==◌, take, Some, if◌then◌else◌}
 use Rattle.std.specs.List.{list_any, filter, filter_map, fold}
-use Rattle.fbl_base.specs.MemberSets.{Members, AllBelow}
-use Rattle.fbl_base.specs.declared.trace.Determinant.{Determinant}
-use Rattle.fbl_base.specs.declared.trace.Event.{Event}
-use Rattle.fbl_base.specs.declared.trace.Mark.{Mark}
-use Rattle.fbl_base.specs.Configs.{Settings, IsConfig}
-use Rattle.fbl_base.specs.Events.{mark_of}
-pub use Rattle.fbl_base.specs.Events.{receipts}
+use Rattle.fbl_trace.specs.MemberSets.{Members, AllBelow}
+use Rattle.fbl_trace.specs.declared.trace.Determinant.{Determinant}
+use Rattle.fbl_trace.specs.declared.trace.Event.{Event}
+use Rattle.fbl_trace.specs.declared.trace.Mark.{Mark}
+use Rattle.fbl_trace.specs.Configs.{Settings, IsConfig}
+use Rattle.fbl_trace.specs.Events.{mark_of}
+pub use Rattle.fbl_trace.specs.Events.{receipts}
 use Rattle.fbl_table.specs.Tables.{is_held}
 use Rattle.fbl_member.specs.Members.{Message, MemberRecord, blank, progress_of, last_from}
 use Rattle.fbl_law.specs.Knowledge.{Knowledge, IsInFlight, IsUp, IsDown, IsSoundKnowledge}
-use Rattle.fbl_base.specs.declared.trace.Start.{Start}
-use Rattle.fbl_base.specs.Fold.{Next, Lawful, actions_of, notes_of, note_of, after_notes}
-use Rattle.fbl_base.specs.Rules.{taken_on}
+use Rattle.fbl_trace.specs.declared.trace.Start.{Start}
+use Rattle.fbl_trace.specs.Fold.{Next, Lawful, actions_of, notes_of, note_of, after_notes}
+use Rattle.fbl_trace.specs.Rules.{taken_on}
 use Rattle.fbl_member.specs.Carried.{IsOnce}
 
 -- a group: its parameters, its members' records and their checkpoints, its channels (for each sender those to each receiver,

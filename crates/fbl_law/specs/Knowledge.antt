@@ -6,13 +6,13 @@
 use Rattle.std.specs.Prelude.{◌≡◌, ℕ, ◌<◌, ◌≤◌, ◌⊎◌, true, false, List, [], length, slice_index_or, map, ⊤}
 use Rattle.std.specs.List.{Contains}
 use Rattle.std.specs.FinSet as set
-use Rattle.fbl_base.specs.MemberSets.{Members}
-use Rattle.fbl_base.specs.declared.trace.Determinant.{Determinant}
-use Rattle.fbl_base.specs.declared.trace.Mark.{Mark}
-use Rattle.fbl_base.specs.declared.trace.Mark.TheVariants.{Send, Receipt}
-use Rattle.fbl_base.specs.Events.{member_of, receipt_of}
-use Rattle.fbl_base.specs.Precedence.{Has, Precedes, Depends}
-use Rattle.fbl_base.specs.Rules.{WellFormed, in_flight}
+use Rattle.fbl_trace.specs.MemberSets.{Members}
+use Rattle.fbl_trace.specs.declared.trace.Determinant.{Determinant}
+use Rattle.fbl_trace.specs.declared.trace.Mark.{Mark}
+use Rattle.fbl_trace.specs.declared.trace.Mark.TheVariants.{Send, Receipt}
+use Rattle.fbl_trace.specs.Events.{member_of, receipt_of}
+use Rattle.fbl_trace.specs.Precedence.{Has, Precedes, Depends}
+use Rattle.fbl_trace.specs.Rules.{WellFormed, in_flight}
 use Rattle.fbl_table.specs.declared.entry.Entry.{Entry}
 use Rattle.fbl_member.specs.Members.{Message, MemberRecord, blank}
 

@@ -5,14 +5,14 @@
 use Rattle.std.specs.Prelude.{◌≡◌, ℕ, ◌<◌, ◌≤◌, ◌⊎◌, ◌↔◌, true, false, ◌+◌, List, [], ◌∷◌, ◌++◌, map}
 use Rattle.std.specs.List.{filter}
 use Rattle.std.specs.FinSet as set
-use Rattle.fbl_base.specs.MemberSets.{Members, AllBelow}
-use Rattle.fbl_base.specs.declared.trace.Determinant.{Determinant}
-use Rattle.fbl_base.specs.Events.{receipt_of}
-use Rattle.fbl_base.specs.Precedence.{Has, Precedes, Depends}
+use Rattle.fbl_trace.specs.MemberSets.{Members, AllBelow}
+use Rattle.fbl_trace.specs.declared.trace.Determinant.{Determinant}
+use Rattle.fbl_trace.specs.Events.{receipt_of}
+use Rattle.fbl_trace.specs.Precedence.{Has, Precedes, Depends}
 use Rattle.fbl_table.specs.Tables.{is_held}
 use Rattle.fbl_law.specs.Knowledge.{Includes, Knowledge, table, Names, Holds, IsHolder, IsRecorded, IsDown}
 use Rattle.fbl_law.specs.Groups.{GroupRecord, member, marks, knowledge, receipts, is_recorded, IsSound}
-use Rattle.fbl_base.specs.Fold.{Next}
+use Rattle.fbl_trace.specs.Fold.{Next}
 use Rattle.fbl_base.specs.Audit.{Parts, IsDump, IsDumpOrphan}
 use Rattle.fbl_table.specs.declared.entry.Entry.{Entry}
 use Rattle.fbl_member.specs.Members.{MemberRecord}

@@ -4,7 +4,7 @@
 ghost use Rattle.fbl_law.specs.Groups.{GroupRecord, IsSound};
 ghost use Rattle.fbl_law.specs.StepLaws.{HoldsOf, WeighsNoMore, WeighsNoLess, WeighsTheSame};
 
-use fbl_base::Behaviour;
+use fbl_trace::Behaviour;
 
 /// A behaviour whose steps keep a weight, from any state and at any note: what the new state and the sends weigh, the old
 /// state and the note did.
@@ -12,7 +12,7 @@ use fbl_base::Behaviour;
 /// `mass` is what a member's state weighs, `weight` what a note weighs. `conserves` shows that a step keeps the sum.
 pub trait Conserving: Behaviour {
     ghost use Rattle.std.specs.Prelude.{ℕ};
-    ghost use Rattle.fbl_base.specs.Configs.{MembersAllowed};
+    ghost use Rattle.fbl_trace.specs.Configs.{MembersAllowed};
     ghost use Rattle.fbl_law.specs.StepLaws.{AnyState, AnyNote, StepConserves};
 
     ghost mass: { ℕ → Self.State → ℕ };
@@ -29,7 +29,7 @@ pub trait Conserving: Behaviour {
 /// `keeps` shows that each step keeps them.
 pub trait Keeping: Behaviour {
     ghost use Rattle.std.specs.Prelude.{ℕ};
-    ghost use Rattle.fbl_base.specs.Configs.{Settings, IsConfig};
+    ghost use Rattle.fbl_trace.specs.Configs.{Settings, IsConfig};
     ghost use Rattle.fbl_law.specs.StepLaws.{HoldsFirst, StepKeeps};
 
     ghost states: { Settings Self.Note → ℕ → Self.State → Type 0 };
@@ -47,7 +47,7 @@ pub trait Keeping: Behaviour {
 /// `mass` is what a member's state weighs, `weight` what a note weighs, both by the group's parameters.
 pub trait Weighing: Keeping {
     ghost use Rattle.std.specs.Prelude.{ℕ};
-    ghost use Rattle.fbl_base.specs.Configs.{Settings};
+    ghost use Rattle.fbl_trace.specs.Configs.{Settings};
 
     ghost mass: { Settings Self.Note → ℕ → Self.State → ℕ };
 
@@ -56,7 +56,7 @@ pub trait Weighing: Keeping {
 
 /// No step makes weight.
 pub trait MakingNone: Weighing {
-    ghost use Rattle.fbl_base.specs.Configs.{Settings, IsConfig};
+    ghost use Rattle.fbl_trace.specs.Configs.{Settings, IsConfig};
     ghost use Rattle.fbl_law.specs.StepLaws.{StepMakesNone};
 
     ghost makes_none: { (c : Settings Self.Note) → IsConfig Self.next.allowed c → StepMakesNone Self.next c.members (Self.states c) (Self.notes c) (Self.mass c) (Self.weight c) };
@@ -64,7 +64,7 @@ pub trait MakingNone: Weighing {
 
 /// No step loses weight.
 pub trait LosingNone: Weighing {
-    ghost use Rattle.fbl_base.specs.Configs.{Settings, IsConfig};
+    ghost use Rattle.fbl_trace.specs.Configs.{Settings, IsConfig};
     ghost use Rattle.fbl_law.specs.StepLaws.{StepLosesNone};
 
     ghost loses_none: { (c : Settings Self.Note) → IsConfig Self.next.allowed c → StepLosesNone Self.next c.members (Self.states c) (Self.notes c) (Self.mass c) (Self.weight c) };

@@ -4,8 +4,8 @@ use Rattle.fbl_logs.proofs.Common.{cases_eq, false≢true, get_or, slice_get_rea
 use Rattle.std.proofs.Common.{set}
 use Rattle.std.proofs.lemmas.Bool.{and_parts}
 use Rattle.std.specs.Option.{option_or}
-use Rattle.fbl_base.proofs.AuditLaws.{Decides-same_determinant}
-use Rattle.fbl_base.specs.Events.{same_determinant}
+use Rattle.fbl_trace.proofs.RulesLaws.{Decides-same_determinant}
+use Rattle.fbl_trace.specs.Events.{same_determinant}
 use Rattle.fbl_logs.specs.declared.numbers.Firsts.{Firsts}
 use Rattle.fbl_logs.specs.declared.numbers.Keeping.{Keeping}
 use Rattle.fbl_logs.specs.declared.numbers.Numbers.{Numbers}

@@ -5,9 +5,9 @@ use Rattle.fbl_logs.proofs.Common.{Entry, Event, Hold, Store, entry_member, Logs
 use Rattle.std.proofs.Common.{set, length-set, replicate}
 use Rattle.std.proofs.Common.{nat_cmp}
 use Rattle.std.specs.FinSet as fin
-use Rattle.fbl_base.specs.MemberSets.{Members, contains-insert_same, contains-insert_other}
+use Rattle.fbl_trace.specs.MemberSets.{Members, contains-insert_same, contains-insert_other}
 use Rattle.std.specs.Option.{option_or}
-use Rattle.fbl_base.proofs.Sets.{len-remove_one, some_member}
+use Rattle.fbl_trace.proofs.Sets.{len-remove_one, some_member}
 use Rattle.fbl_logs.specs.declared.numbers.Keeping.{Keeping}
 use Rattle.fbl_logs.specs.declared.index.Records.{Records}
 use Rattle.fbl_logs.specs.declared.index.Tables.{Tables}

@@ -1,9 +1,9 @@
 -- Vector clocks (Mattern 1988; Fidge 1988): how many of each member's first entries precede one of a member's first entries.
 use Rattle.std.specs.Prelude.{ℕ, ◌≡◌, ◌==◌, ◌&&◌, ◌+◌, ◌<◌, Bool, List, length, take, Option, Some, None, slice_get, slice_index}
 use Rattle.std.specs.HashMap as hash_map
-use Rattle.fbl_base.specs.declared.trace.Mark.{Mark}
-use Rattle.fbl_base.specs.declared.trace.Mark.TheVariants.{Send, Receipt}
-use Rattle.fbl_base.specs.Rules.{WellFormed}
+use Rattle.fbl_trace.specs.declared.trace.Mark.{Mark}
+use Rattle.fbl_trace.specs.declared.trace.Mark.TheVariants.{Send, Receipt}
+use Rattle.fbl_trace.specs.Rules.{WellFormed}
 use Rattle.fbl_logs.specs.declared.clock.Clock.{Clock}
 use Rattle.fbl_logs.specs.declared.clocks.AddressedMessage.{AddressedMessage}
 use Rattle.fbl_logs.specs.declared.clocks.Clocks.{Clocks}

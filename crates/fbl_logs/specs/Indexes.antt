@@ -1,7 +1,7 @@
 -- The members' logs, and who held and stored which determinants from when on, as an index keeps them.
 use Rattle.std.specs.Prelude.{ℕ, ◌≡◌, ◌<◌, ◌≤◌, List, [], length, Option, Some, None, slice_get, option_and_then}
-use Rattle.fbl_base.specs.declared.trace.Determinant.{Determinant}
-use Rattle.fbl_base.specs.Events.{receipt_of}
+use Rattle.fbl_trace.specs.declared.trace.Determinant.{Determinant}
+use Rattle.fbl_trace.specs.Events.{receipt_of}
 use Rattle.fbl_logs.specs.declared.entry.Entry.{Entry}
 use Rattle.fbl_logs.specs.declared.entry.Entry.TheVariants.{Event, Hold, Store}
 use Rattle.fbl_logs.specs.declared.numbers.Keeping.{Keeping}

@@ -1,8 +1,8 @@
 -- Which holds and stores may stand in a log.
 use Rattle.std.specs.Prelude.{ℕ, ◌≡◌, ◌<◌, List, Some, filter_map, length, slice_get, take}
-use Rattle.fbl_base.specs.declared.trace.Determinant.{Determinant}
-use Rattle.fbl_base.specs.Breaches.{IsOutside}
-use Rattle.fbl_base.specs.declared.trace.Mark.{Mark}
+use Rattle.fbl_trace.specs.declared.trace.Determinant.{Determinant}
+use Rattle.fbl_trace.specs.Breaches.{IsOutside}
+use Rattle.fbl_trace.specs.declared.trace.Mark.{Mark}
 use Rattle.fbl_logs.specs.declared.entry.Entry.{Entry}
 use Rattle.fbl_logs.specs.declared.entry.Entry.TheVariants.{Event}
 use Rattle.fbl_logs.specs.declared.fault.RecordFault.{RecordFault}

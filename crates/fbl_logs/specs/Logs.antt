@@ -1,10 +1,11 @@
 -- Logs of runs, and the rules that they obey.
 use Rattle.std.specs.Prelude.{ℕ, ◌≡◌, ◌⊎◌, List, []}
 use Rattle.fbl_base.specs.Audit.{Parts, IsDump, RefusesDump}
-use Rattle.fbl_base.specs.Breaches.{IsDumpBreach, IsEventFault}
-use Rattle.fbl_base.specs.Configs.{FAllowed, IsFirstBreach}
-use Rattle.fbl_base.specs.MemberSets.{AllBelow, Members}
-use Rattle.fbl_base.specs.declared.fault.Breach.TheVariants as breach
+use Rattle.fbl_base.specs.DumpBreaches.{IsDumpBreach}
+use Rattle.fbl_trace.specs.Breaches.{IsEventFault}
+use Rattle.fbl_trace.specs.Configs.{FAllowed, IsFirstBreach}
+use Rattle.fbl_trace.specs.MemberSets.{AllBelow, Members}
+use Rattle.fbl_trace.specs.declared.fault.Breach.TheVariants as breach
 use Rattle.fbl_base.specs.declared.refusal.DumpRefusal.{DumpRefusal}
 use Rattle.fbl_base.specs.declared.refusal.DumpRefusal.TheVariants.{BadEvent, BadHeld}
 use Rattle.fbl_logs.specs.declared.entry.Entry.{Entry}

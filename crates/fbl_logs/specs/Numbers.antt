@@ -3,8 +3,8 @@ use Rattle.std.specs.Prelude.{ℕ, ◌≡◌, ◌==◌, ◌&&◌, Bool, List, Op
 use Rattle.std.proofs.Common.{zero, suc}
 use Rattle.std.specs.Option.{option_or}
 use Rattle.std.specs.HashMap as hash_map
-use Rattle.fbl_base.specs.declared.trace.Determinant.{Determinant}
-use Rattle.fbl_base.specs.Events.{same_determinant}
+use Rattle.fbl_trace.specs.declared.trace.Determinant.{Determinant}
+use Rattle.fbl_trace.specs.Events.{same_determinant}
 use Rattle.fbl_logs.specs.declared.numbers.Firsts.{Firsts}
 use Rattle.fbl_logs.specs.declared.numbers.Keeping.{Keeping}
 use Rattle.fbl_logs.specs.declared.numbers.Numbers.{Numbers}

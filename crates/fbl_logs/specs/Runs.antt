@@ -1,10 +1,10 @@
 -- Runs, and whether one is safe at each of its moments.
 use Rattle.std.specs.Prelude.{ℕ, ◌≡◌, ◌<◌, ◌≤◌, ◌↔◌, ◌⊎◌, true, false, List, Some, slice_get, max}
 use Rattle.std.specs.FinSet as set
-use Rattle.fbl_base.specs.declared.trace.Determinant.{Determinant}
-use Rattle.fbl_base.specs.Configs.{MembersAllowed}
-use Rattle.fbl_base.specs.MemberSets.{AllBelow, Members}
-use Rattle.fbl_base.specs.Rules.{WellFormed}
+use Rattle.fbl_trace.specs.declared.trace.Determinant.{Determinant}
+use Rattle.fbl_trace.specs.Configs.{MembersAllowed}
+use Rattle.fbl_trace.specs.MemberSets.{AllBelow, Members}
+use Rattle.fbl_trace.specs.Rules.{WellFormed}
 use Rattle.fbl_logs.specs.declared.entry.Entry.{Entry}
 use Rattle.fbl_logs.specs.Entries.{Logs, entry_member, log_of, marks, recorded_in}
 use Rattle.fbl_logs.specs.HappenedBefore.{Position, IsAt}

@@ -2,7 +2,7 @@
 
 ghost use Rattle.std.specs.Prelude.{◌≡◌, ◌<◌, ◌==◌, ◌≤◌, ◌↔◌, ℕ, true, max, length, slice_index, if◌then◌else◌};
 
-use fbl_base::{Member, MemberSet};
+use fbl_trace::{Member, MemberSet};
 
 /// For each member's number, how many of its first entries have come.
 #[derive(Clone, Copy)]

@@ -6,7 +6,7 @@ ghost use Rattle.fbl_logs.specs.Entries.{log_of, mark_in};
 
 use crate::clock::Clock;
 use crate::entry::Entry;
-use fbl_base::{Mark, Member};
+use fbl_trace::{Mark, Member};
 use std::alloc::{AllocError, Global};
 use std::collections::HashMap;
 use std::hash::{BuildHasherDefault, FoldHasher};

@@ -3,7 +3,7 @@
 ghost use Rattle.std.specs.Prelude.{◌≡◌};
 ghost use Rattle.fbl_logs.specs.Entries.{entry_member, mark_in, receipt_in, recorded_in};
 
-use fbl_base::{Determinant, Mark, Member};
+use fbl_trace::{Determinant, Mark, Member};
 use std::fmt;
 
 /// An entry of a run's log.

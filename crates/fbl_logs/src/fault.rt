@@ -1,7 +1,7 @@
 //! Why a log is refused.
 
 use crate::entry::Entry;
-use fbl_base::{Breach, Outsider};
+use fbl_trace::{Breach, Outsider};
 use thiserror::Error;
 
 /// Which rule a hold or a store breaks behind the entries before it. Of several the first in this order is named.

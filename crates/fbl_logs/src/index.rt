@@ -2,7 +2,7 @@
 
 ghost use Rattle.std.specs.Prelude.{◌≡◌, ◌<◌, ◌+◌, ◌↔◌, ℕ, true, IfOk, OnOk, [], ◌∷◌, ◌++◌, length, take};
 ghost use Rattle.std.specs.FinSet as set;
-ghost use Rattle.fbl_base.specs.Events.{receipt_of};
+ghost use Rattle.fbl_trace.specs.Events.{receipt_of};
 ghost use Rattle.fbl_logs.specs.Clocks.{StandsAt, cut_of};
 ghost use Rattle.fbl_logs.specs.Entries.{Logs, log_of};
 ghost use Rattle.fbl_logs.specs.HappenedBefore.{IsAt, at};
@@ -14,7 +14,7 @@ ghost use Rattle.fbl_logs.specs.Numbers.{first_in};
 use crate::clock::Clock;
 use crate::entry::Entry;
 use crate::numbers::{Keeping, Numbers};
-use fbl_base::{Determinant, Member, MemberSet};
+use fbl_trace::{Determinant, Member, MemberSet};
 use std::alloc::{AllocError, Global};
 use std::marker::Model;
 

@@ -2,7 +2,7 @@
 
 ghost use Rattle.std.specs.Prelude.{◌≡◌, ◌<◌, ◌+◌, ◌≤◌, ◌↔◌, ℕ, IfOk, IfSome, MatchOption, Some, length, slice_get, take, true};
 ghost use Rattle.fbl_base.specs.Audit.{IsDump, RefusesDump};
-ghost use Rattle.fbl_base.specs.Breaches.{IsDumpBreach};
+ghost use Rattle.fbl_base.specs.DumpBreaches.{IsDumpBreach};
 ghost use Rattle.fbl_logs.specs.Clocks.{IsAdvance, IsLawful};
 ghost use Rattle.fbl_logs.specs.Entries.{marks};
 ghost use Rattle.fbl_logs.specs.Lawful.{BreaksAt, IsEventPlace, IsFirstBad, IsKnownAt, ObeysAt, records};
@@ -14,7 +14,8 @@ use crate::fault::{LogBreach, RecordFault, RecordRule};
 use crate::index::Index;
 use crate::log::RawLog;
 use fbl_base::audit::checked_dump;
-use fbl_base::{Breach, DumpRefusal, EventFault, Mark, Outsider, RawDump};
+use fbl_base::{DumpRefusal, RawDump};
+use fbl_trace::{Breach, EventFault, Mark, Outsider};
 use std::alloc::{AllocError, Global};
 
 /// The most holds and stores that a log may have.

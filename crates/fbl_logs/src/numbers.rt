@@ -6,7 +6,7 @@ ghost use Rattle.fbl_logs.specs.Clocks.{cut_of};
 ghost use Rattle.fbl_logs.specs.Numbers.{AreNumbers, first_after, first_in, first_of, slot_of};
 
 use crate::clock::Clock;
-use fbl_base::{Determinant, Member};
+use fbl_trace::{Determinant, Member};
 use std::alloc::{AllocError, Global};
 use std::collections::HashMap;
 use std::hash::{BuildHasherDefault, FoldHasher};

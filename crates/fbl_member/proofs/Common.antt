@@ -10,11 +10,11 @@ pub use Rattle.std.proofs.lemmas.Option.{get_or_from_slice_get, slice_get-get_or
 pub use Rattle.std.specs.List.{All, AllByRecursion}
 pub use Rattle.std.specs.Option.{option_copied, option_map}
 pub use Rattle.std.specs.Vec.{vec_capacity, vec_len}
-pub use Rattle.fbl_base.proofs.Gets.{length-filter_map}
-pub use Rattle.fbl_base.specs.Events.{same_determinant}
-pub use Rattle.fbl_base.specs.Fold.{numbered, starts_of}
-pub use Rattle.fbl_base.specs.declared.trace.Determinant.{Determinant}
-pub use Rattle.fbl_base.specs.declared.trace.Start.{Start}
+pub use Rattle.fbl_trace.proofs.Gets.{length-filter_map}
+pub use Rattle.fbl_trace.specs.Events.{same_determinant}
+pub use Rattle.fbl_trace.specs.Fold.{numbered, starts_of}
+pub use Rattle.fbl_trace.specs.declared.trace.Determinant.{Determinant}
+pub use Rattle.fbl_trace.specs.declared.trace.Start.{Start}
 pub use Rattle.fbl_table.specs.Tables.{is_open, piggybacked}
 pub use Rattle.fbl_table.specs.declared.entry.Entry.{Entry}
 pub use Rattle.fbl_member.specs.Carried.{IsOnce}

@@ -1,9 +1,9 @@
 -- What is so of every member's record, and how it follows the fold of its receipts, for the function that states it.
 use Rattle.std.specs.Prelude.{◌≡◌, ℕ, ◌≤◌, length, map, List, []}
-use Rattle.fbl_base.specs.Fold.{Logged, numbered, Next, advanced, after_notes}
+use Rattle.fbl_trace.specs.Fold.{Logged, numbered, Next, advanced, after_notes}
 use Rattle.fbl_member.specs.Members.{MemberRecord, Message, progress_of, fresh, received_by, replayed_by}
-use Rattle.fbl_base.specs.declared.trace.Determinant.{Determinant}
-use Rattle.fbl_base.specs.declared.trace.Start.{Start}
+use Rattle.fbl_trace.specs.declared.trace.Determinant.{Determinant}
+use Rattle.fbl_trace.specs.declared.trace.Start.{Start}
 
 -- a logged message without its number: where it went and its content
 abbrev pub without_number : {N : Type 0} → Logged N → ℕ × N

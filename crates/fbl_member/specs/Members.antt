@@ -5,10 +5,10 @@
 use Rattle.std.specs.Prelude.{ℕ, ◌+◌, ◌==◌, ◌&&◌, nat_lt, List, [], ◌∷◌, map, Option, slice_index, slice_set, replicate}
 use Rattle.std.specs.List.{filter, find}
 use Rattle.std.specs.Option.{option_map}
-use Rattle.fbl_base.specs.declared.trace.Determinant.{Determinant}
-use Rattle.fbl_base.specs.declared.trace.Start.{Start}
-use Rattle.fbl_base.specs.declared.outcome.Outcome.{Outcome}
-use Rattle.fbl_base.specs.Fold.{Logged, Progress, Next, begun, stepped}
+use Rattle.fbl_trace.specs.declared.trace.Determinant.{Determinant}
+use Rattle.fbl_trace.specs.declared.trace.Start.{Start}
+use Rattle.fbl_trace.specs.declared.outcome.Outcome.{Outcome}
+use Rattle.fbl_trace.specs.Fold.{Logged, Progress, Next, begun, stepped}
 use Rattle.fbl_table.specs.declared.entry.Entry.{Entry}
 use Rattle.fbl_table.specs.Tables.{learned, noted}
 

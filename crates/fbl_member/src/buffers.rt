@@ -8,7 +8,7 @@ ghost use Rattle.fbl_member.specs.Stored.{HasRoom, HasRooms};
 
 use crate::carried::Carried;
 use crate::wire::Wire;
-use fbl_base::Member;
+use fbl_trace::Member;
 use fbl_table::{Entry, Table};
 use std::alloc::{AllocError, Allocator};
 

@@ -7,7 +7,7 @@ ghost use Rattle.fbl_member.specs.Members.{fresh, blank, last_from, next_determi
 
 use crate::buffers::Buffers;
 use crate::wire::Wire;
-use fbl_base::{Behaviour, Config, Content, Determinant, Member, Note, Outcome};
+use fbl_trace::{Behaviour, Config, Content, Determinant, Member, Note, Outcome};
 use fbl_table::Table;
 use std::alloc::{AllocError, Allocator, Global};
 use std::marker::Model;
@@ -36,7 +36,7 @@ impl<S, N, A: Allocator> Model for MemberRec<S, N, A> {
     ghost coded = { Prim.hlevel (codes, S.code, N.code, entry.the_row.coded) };
 
     ghost use Rattle.std.specs.Prelude.{◌≡◌, ◌≤◌, length};
-    ghost use Rattle.fbl_base.specs.Fold.{numbered};
+    ghost use Rattle.fbl_trace.specs.Fold.{numbered};
 
     ghost view = { λ m. record { state = m.state; received = m.received; last = m.last; log = numbered 0 m.log.items; table = m.table } };
 

@@ -4,7 +4,7 @@ ghost use Rattle.std.specs.Prelude.{◌≡◌, ℕ, ◌<◌, length, IfOk, slice
 ghost use Rattle.fbl_member.specs.Members.{fresh, blank};
 
 use crate::member_rec::MemberRec;
-use fbl_base::{Behaviour, Config, Member};
+use fbl_trace::{Behaviour, Config, Member};
 use std::alloc::{AllocError, Allocator};
 
 /// The members of a group of these parameters, each in its first state, with its starts sent and nothing received. `Err` comes only where there

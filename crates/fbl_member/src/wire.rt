@@ -4,7 +4,7 @@ ghost use Rattle.std.specs.Prelude.{◌≡◌, IfSome};
 ghost use Rattle.fbl_member.specs.Carried.{IsOnce};
 
 use crate::carried::Carried;
-use fbl_base::{Member, Note};
+use fbl_trace::{Member, Note};
 use fbl_table::Entry;
 use std::alloc::{Allocator, Global};
 use std::marker::Model;

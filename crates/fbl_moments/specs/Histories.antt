@@ -1,6 +1,6 @@
 -- What a history answers of the entries of a run.
 use Rattle.std.specs.Prelude.{ℕ, ◌≡◌, ◌<◌, List, length}
-use Rattle.fbl_base.specs.declared.trace.Determinant.{Determinant}
+use Rattle.fbl_trace.specs.declared.trace.Determinant.{Determinant}
 use Rattle.fbl_logs.specs.declared.clock.Clock.{Clock}
 use Rattle.fbl_logs.specs.declared.clocks.Advance.{Advance}
 use Rattle.fbl_logs.specs.declared.entry.Entry.{Entry}

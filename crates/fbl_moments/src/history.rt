@@ -8,7 +8,7 @@ ghost use Rattle.fbl_logs.specs.HappenedBefore.{Position, Precedes, at};
 ghost use Rattle.fbl_moments.specs.Histories.{IsFirstAfter, IsLeastMomentOfReceipt};
 ghost use Rattle.fbl_logs.specs.Logs.{IsLog};
 
-use fbl_base::{Member, MemberSet};
+use fbl_trace::{Member, MemberSet};
 use fbl_logs::{Advance, Clock, Clocks, Entry, Index, RunLog};
 use std::alloc::{AllocError, Global};
 use std::marker::Model;

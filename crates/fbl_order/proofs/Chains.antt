@@ -2,7 +2,7 @@
 use Rattle.fbl_order.proofs.Common.{ℕ, List, [], ◌∷◌, ◌++◌, ◌+◌, ◌-◌, ◌≡◌, ◌≢◌, ◌<◌, ◌≤◌, ◌⊎◌, ◌∙◌, Option, None, Some, refl, sym, ap, inl, inr, arith, rules}
 use Rattle.fbl_order.proofs.Common.{length, length-append, slice_get, slice_get-get_or, get_or, subst}
 use Rattle.fbl_order.proofs.Common.{Mark, At-below, At-front, At-push, AreLinked, IsNextAt, IsOnward, IsStuck, Merge, StandsIn, StartsAt, Stuck}
-use Rattle.fbl_base.proofs.Gets.{map-At}
+use Rattle.fbl_trace.proofs.Gets.{map-At}
 use Rattle.std.proofs.Common.{eqb, map}
 use Rattle.std.proofs.lemmas.Bool.{eqb-true}
 use Rattle.std.proofs.lemmas.Bool.Decides.{Decides-eqb}

@@ -1,6 +1,6 @@
 -- A log may have its entries in any order that keeps the members' logs.
 use Rattle.fbl_order.proofs.Common.{ℕ, List, Some, ◌≡◌, ◌<◌, ◌≤◌, ◌+◌, ◌∙◌, refl, sym, ap, arith, length, slice_get, slice_get_within, subst, take}
-use Rattle.fbl_base.specs.declared.trace.Determinant.{Determinant}
+use Rattle.fbl_trace.specs.declared.trace.Determinant.{Determinant}
 use Rattle.fbl_logs.specs.declared.entry.Entry.{Entry}
 use Rattle.fbl_logs.specs.Entries.{Logs, entry_member, log_of, marks, recorded_in}
 use Rattle.fbl_logs.specs.Lawful.{IsFewAt, records}
@@ -9,8 +9,8 @@ use Rattle.fbl_logs.specs.Moments.{DependsOn}
 use Rattle.fbl_logs.specs.HappenedBefore.{IsAt}
 use Rattle.fbl_logs.specs.Runs.{AlwaysSafe, Run}
 use Rattle.fbl_moments.specs.Unsafe.{IsUnsafe}
-use Rattle.fbl_base.specs.declared.fault.Breach.{Breach}
-use Rattle.fbl_base.specs.declared.fault.Breach.TheVariants as breach
+use Rattle.fbl_trace.specs.declared.fault.Breach.{Breach}
+use Rattle.fbl_trace.specs.declared.fault.Breach.TheVariants as breach
 use Rattle.fbl_base.specs.declared.refusal.DumpRefusal.{DumpRefusal}
 use Rattle.fbl_base.specs.declared.refusal.DumpRefusal.TheVariants.{BadEvent, BadF, BadMembers, Memory}
 use Rattle.fbl_logs.specs.declared.fault.LogBreach.TheVariants.{Trace}

@@ -1,7 +1,7 @@
 -- The places of the sends and receipts among the entries of a log.
 use Rattle.fbl_order.proofs.Common.{At, drop, take-append-drop, List, Mark, ℕ, None, Some, [], ◌∷◌, ◌++◌, ◌+◌, ◌≤◌, ◌≡◌, ◌∙◌, ap, append-nil, arith, At-front, At-push}
 use Rattle.fbl_order.proofs.Common.{filter_map-append, inl, inr, length, length-append, refl, slice_get, slice_get_within, sym, take, take_all}
-use Rattle.fbl_base.proofs.Gets.{At-seam, drop_next}
+use Rattle.fbl_trace.proofs.Gets.{At-seam, drop_next}
 use Rattle.std.proofs.lemmas.List.{take-append-le}
 use Rattle.fbl_logs.specs.declared.entry.Entry.{Entry}
 use Rattle.fbl_logs.specs.declared.entry.Entry.TheVariants.{Event, Hold, Store}

@@ -1,7 +1,7 @@
 -- Laws of what parts have one behind another.
 use Rattle.fbl_order.proofs.Common.{ℕ, List, [], ◌∷◌, ◌++◌, ◌+◌, ◌≡◌, ◌∙◌, Some, suc, refl, sym, ap, arith, add-one, append-nil, At-front, drop, length}
 use Rattle.fbl_order.proofs.Common.{slice_get, take, take-append-drop, take-more}
-use Rattle.fbl_base.proofs.Gets.{drop_next}
+use Rattle.fbl_trace.proofs.Gets.{drop_next}
 use Rattle.std.proofs.Common.{flat_map}
 use Rattle.std.proofs.lemmas.Grind.{flat_map-append}
 use Rattle.fbl_logs.specs.declared.entry.Entry.{Entry}

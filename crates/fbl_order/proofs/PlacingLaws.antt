@@ -2,7 +2,7 @@
 use Rattle.fbl_order.proofs.Common.{List, Mark, At, At-front, At-push, ℕ, suc, [], ◌∷◌, ◌++◌, ◌+◌, ◌≡◌, ◌≤◌, ◌<◌, ◌==◌, ◌∙◌, true, false, None, Some, SameLogs, ap}
 use Rattle.fbl_order.proofs.Common.{append-nil, append_cancel_left, arith, cases_lt, cond, drop, filter-append, filter_map-append, inl, inr, length, length-append}
 use Rattle.fbl_order.proofs.Common.{member_of, nat_tests, refl, slice_get, slice_get_within, sym, take, take-append-drop, take-more, take_all, false}
-use Rattle.fbl_base.proofs.Gets.{At-seam, drop_next}
+use Rattle.fbl_trace.proofs.Gets.{At-seam, drop_next}
 use Rattle.std.proofs.Common.{is_some, set}
 use Rattle.std.proofs.lemmas.List.{drop_all, take-append-le}
 use Rattle.fbl_logs.specs.declared.entry.Entry.{Entry}

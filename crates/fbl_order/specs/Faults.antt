@@ -1,16 +1,17 @@
 -- Why events have no order.
 use Rattle.std.specs.Prelude.{ℕ, ◌≡◌, ◌≢◌, ◌≤◌, ◌+◌, ◌-◌, ◌⊎◌, List, length, Some, map, slice_get, take, AllPairs}
-use Rattle.fbl_base.specs.declared.fault.Breach.{Breach}
-use Rattle.fbl_base.specs.declared.fault.Breach.TheVariants as breach
+use Rattle.fbl_trace.specs.declared.fault.Breach.{Breach}
+use Rattle.fbl_trace.specs.declared.fault.Breach.TheVariants as breach
 use Rattle.fbl_base.specs.declared.refusal.DumpRefusal.{DumpRefusal}
 use Rattle.fbl_base.specs.declared.refusal.DumpRefusal.TheVariants.{BadEvent, BadF, BadMembers, Memory}
-use Rattle.fbl_base.specs.declared.fault.EventRule.TheVariants.{TooMany, NothingInFlight}
-use Rattle.fbl_base.specs.declared.trace.Mark.{Mark}
+use Rattle.fbl_trace.specs.declared.fault.EventRule.TheVariants.{TooMany, NothingInFlight}
+use Rattle.fbl_trace.specs.declared.trace.Mark.{Mark}
 use Rattle.fbl_base.specs.Audit.{Parts, RefusesDump}
-use Rattle.fbl_base.specs.Breaches.{BreaksEvent, IsDumpBreach}
-use Rattle.fbl_base.specs.Configs.{FAllowed, IsFirstBreach, MembersAllowed}
-use Rattle.fbl_base.specs.Events.{At, destination_of, member_of, send_of, source_of}
-use Rattle.fbl_base.specs.Precedence.{Has}
+use Rattle.fbl_base.specs.DumpBreaches.{IsDumpBreach}
+use Rattle.fbl_trace.specs.Breaches.{BreaksEvent}
+use Rattle.fbl_trace.specs.Configs.{FAllowed, IsFirstBreach, MembersAllowed}
+use Rattle.fbl_trace.specs.Events.{At, destination_of, member_of, send_of, source_of}
+use Rattle.fbl_trace.specs.Precedence.{Has}
 use Rattle.fbl_order.specs.Orders.{with_events, log_of, CanCome, HasNoOrder, IsFurthest, IsOrder}
 use Rattle.fbl_order.specs.declared.fault.Obstacle.{Obstacle}
 use Rattle.fbl_order.specs.declared.fault.Obstacle.TheVariants.{Rule, NeverSent, Received, Waits}

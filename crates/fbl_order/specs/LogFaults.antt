@@ -1,10 +1,10 @@
 -- Why the entries of a log have no order, or are refused in one.
 use Rattle.std.specs.Prelude.{ℕ, ◌≡◌, ◌⊎◌, List, Some, length, map, slice_get, slice_index_or}
-use Rattle.fbl_base.specs.declared.fault.EventRule.TheVariants.{TooMany}
-use Rattle.fbl_base.specs.declared.fault.Breach.TheVariants as breach
+use Rattle.fbl_trace.specs.declared.fault.EventRule.TheVariants.{TooMany}
+use Rattle.fbl_trace.specs.declared.fault.Breach.TheVariants as breach
 use Rattle.fbl_base.specs.declared.refusal.DumpRefusal.{DumpRefusal}
 use Rattle.fbl_base.specs.declared.refusal.DumpRefusal.TheVariants.{BadEvent, Memory}
-use Rattle.fbl_base.specs.Configs.{FAllowed, MembersAllowed}
+use Rattle.fbl_trace.specs.Configs.{FAllowed, MembersAllowed}
 use Rattle.fbl_logs.specs.declared.entry.Entry.{Entry}
 use Rattle.fbl_logs.specs.declared.entry.Entry.TheVariants.{Event}
 use Rattle.fbl_logs.specs.declared.fault.LogBreach.{LogBreach}

@@ -1,8 +1,8 @@
 -- Orders of the entries of a log of which only each member's own order is known.
 use Rattle.std.specs.Prelude.{ℕ, ◌≡◌, ◌↔◌, List, Some, length, slice_get}
 use Rattle.std.specs.List.{filter_map}
-use Rattle.fbl_base.specs.Rules.{WellFormed}
-use Rattle.fbl_base.specs.declared.trace.Determinant.{Determinant}
+use Rattle.fbl_trace.specs.Rules.{WellFormed}
+use Rattle.fbl_trace.specs.declared.trace.Determinant.{Determinant}
 use Rattle.fbl_logs.specs.declared.entry.Entry.{Entry}
 use Rattle.fbl_logs.specs.Clocks.{seen}
 use Rattle.fbl_logs.specs.Entries.{entry_member, log_of, marks}

@@ -3,7 +3,7 @@
 ghost use Rattle.std.specs.Prelude.{◌≡◌, ◌<◌, ◌≤◌, ℕ, length, slice_index_or};
 ghost use Rattle.fbl_order.specs.Cursors.{IsFirstFrom, IsLeastGiven};
 
-use fbl_base::{Mark, Member};
+use fbl_trace::{Mark, Member};
 use fbl_logs::Entry;
 
 /// What stands in the log of a member.
@@ -18,7 +18,7 @@ pub(crate) trait Logged {
 }
 
 impl Logged for Mark {
-    ghost use Rattle.fbl_base.specs.Events.{member_of};
+    ghost use Rattle.fbl_trace.specs.Events.{member_of};
 
     ghost member_in = { member_of };
 

@@ -1,8 +1,8 @@
 //! An order of the entries of a log, from one of its sends and receipts.
 
 ghost use Rattle.std.specs.Prelude.{◌≡◌, ◌<◌, ◌+◌, ◌↔◌, true, IfOk, OnOk, List, Some, length, vec_len};
-ghost use Rattle.fbl_base.specs.Events.{At};
-ghost use Rattle.fbl_base.specs.declared.trace.Mark.{Mark};
+ghost use Rattle.fbl_trace.specs.Events.{At};
+ghost use Rattle.fbl_trace.specs.declared.trace.Mark.{Mark};
 ghost use Rattle.fbl_logs.specs.Entries.{marks};
 ghost use Rattle.fbl_order.specs.LogFaults.{AreEventPlaces};
 ghost use Rattle.fbl_order.specs.LogOrders.{ArePlaces, SameEntryLogs, items_at};
@@ -10,7 +10,7 @@ ghost use Rattle.fbl_order.specs.Orders.{SameLogs};
 ghost use Rattle.fbl_order.specs.Placings.{IsLeastNextEntry, IsPlacing, MayComeNext};
 
 use crate::cursors::{firsts_of, least_cursor, next_of};
-use fbl_base::Mark;
+use fbl_trace::Mark;
 use fbl_logs::Entry;
 use std::alloc::{AllocError, Global};
 

@@ -1,6 +1,7 @@
 //! Why the events of a run have no order.
 
-use fbl_base::{Breach, DumpRefusal, EventRule, Mark};
+use fbl_base::DumpRefusal;
+use fbl_trace::{Breach, EventRule, Mark};
 use fbl_logs::LogBreach;
 use std::alloc::{AllocError, Allocator, Global};
 use std::convert::From;
@@ -47,7 +48,7 @@ pub enum OrderFault<A: Allocator = Global> {
 
 impl<A: Allocator> From<AllocError> for OrderFault<A> {
     ghost use Rattle.std.specs.Prelude.{◌≡◌};
-    ghost use Rattle.fbl_base.specs.declared.fault.Breach.TheVariants as breach;
+    ghost use Rattle.fbl_trace.specs.declared.fault.Breach.TheVariants as breach;
     ghost use Rattle.fbl_base.specs.declared.refusal.DumpRefusal.TheVariants.{Memory};
     ghost use Rattle.fbl_order.specs.declared.fault.OrderFault.TheVariants.{Dump};
 
@@ -69,7 +70,7 @@ pub enum LogOrderFault {
 
 impl From<AllocError> for LogOrderFault {
     ghost use Rattle.std.specs.Prelude.{◌≡◌};
-    ghost use Rattle.fbl_base.specs.declared.fault.Breach.TheVariants as breach;
+    ghost use Rattle.fbl_trace.specs.declared.fault.Breach.TheVariants as breach;
     ghost use Rattle.fbl_base.specs.declared.refusal.DumpRefusal.TheVariants.{Memory};
     ghost use Rattle.fbl_logs.specs.declared.fault.LogBreach.TheVariants.{Trace};
     ghost use Rattle.fbl_order.specs.declared.fault.LogOrderFault.TheVariants.{Log};

@@ -6,7 +6,8 @@ ghost use Rattle.fbl_order.specs.LogFaults.{breach_given, obstacle_given, place_
 ghost use Rattle.fbl_order.specs.declared.fault.LogOrderFault.TheVariants.{Log};
 
 use crate::fault::{LogOrderFault, Obstacle, Stuck};
-use fbl_base::{Breach, DumpRefusal, EventFault};
+use fbl_base::DumpRefusal;
+use fbl_trace::{Breach, EventFault};
 use fbl_logs::{LogBreach, RecordFault};
 
 /// The place at which what has this number was given.

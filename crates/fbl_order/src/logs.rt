@@ -1,7 +1,7 @@
 //! Logs whose entries stand in any order that keeps the members' logs.
 
 ghost use Rattle.std.specs.Prelude.{◌≡◌, ◌≤◌, IfErr, IfOk};
-ghost use Rattle.fbl_base.specs.Rules.{WellFormed};
+ghost use Rattle.fbl_trace.specs.Rules.{WellFormed};
 ghost use Rattle.fbl_logs.specs.Entries.{marks};
 ghost use Rattle.fbl_logs.specs.Logs.{IsLog, parts_of_log};
 ghost use Rattle.fbl_order.specs.LogFaults.{RefusesAmong, RefusesUnorderedLog};
@@ -13,7 +13,7 @@ use crate::entries::{Events, at_places, placed};
 use crate::fault::{LogOrderFault, OrderFault};
 use crate::given::given_chain;
 use crate::placing::order;
-use fbl_base::Mark;
+use fbl_trace::Mark;
 use fbl_logs::{Entry, LogBreach, RawLog, RunLog, checked_log};
 use std::alloc::Global;
 

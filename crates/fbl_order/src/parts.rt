@@ -6,7 +6,8 @@ ghost use Rattle.fbl_logs.specs.Logs.{parts_of_log};
 ghost use Rattle.fbl_order.specs.Parts.{Agrees, AgreesAt, Differs, IsFirstOther, IsUnion, RefusesParts, dump_group, log_group};
 ghost use Rattle.fbl_order.specs.Parts.{AreOrigins, IsPlaceIn, IsUnited, IsUnitedLog};
 
-use fbl_base::{MemberSet, RawDump};
+use fbl_base::RawDump;
+use fbl_trace::MemberSet;
 use fbl_logs::{EntryOrigin, RawLog};
 use std::alloc::{AllocError, Allocator, Global};
 use std::convert::From;

@@ -8,12 +8,12 @@ pub use Rattle.std.proofs.lemmas.Option.{get_or_from_slice_get, slice_get-get_or
 pub use Rattle.std.proofs.lemmas.Result.{IfOk-weaker}
 pub use Rattle.std.specs.List.{flat_map, range_with_len, position_from}
 pub use Rattle.std.specs.Option.{is_some, option_or, option_to_list, option_copied}
-pub use Rattle.fbl_base.proofs.Gets.{rows_on, At-filter_map}
+pub use Rattle.fbl_trace.proofs.Gets.{rows_on, At-filter_map}
 pub use Rattle.fbl_base.specs.Audit.{lost_determinants, IsDumpOrphan, Parts}
 pub use Rattle.fbl_audit.specs.Paths.{IsOrphanPath, IsPathTo, IsPath, Origin, path_end, path_step}
-pub use Rattle.fbl_base.specs.Events.{is_message, same_determinant, same_message, determinant_of, receipt_of, receipts, At}
-pub use Rattle.fbl_base.specs.declared.trace.Determinant.{Determinant}
-pub use Rattle.fbl_base.specs.declared.trace.MessageName.{MessageName}
+pub use Rattle.fbl_trace.specs.Events.{is_message, same_determinant, same_message, determinant_of, receipt_of, receipts, At}
+pub use Rattle.fbl_trace.specs.declared.trace.Determinant.{Determinant}
+pub use Rattle.fbl_trace.specs.declared.trace.MessageName.{MessageName}
 pub use Rattle.fbl_history.specs.declared.column.Column.{Column}
 pub use Rattle.fbl_logs.specs.declared.entry.Entry.{Entry}
 pub use Rattle.fbl_logs.specs.declared.entry.Entry.TheVariants.{Event, Hold, Store}

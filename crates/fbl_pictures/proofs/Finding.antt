@@ -3,11 +3,11 @@ use Rattle.fbl_pictures.proofs.Common.{ℕ, zero, suc, ◌+◌, ◌-◌, ◌<◌
 use Rattle.std.specs.FinSet as set
 use Rattle.std.specs.Ordering.{nat_cmp}
 use Rattle.std.specs.Prelude.{option_and_then, map, MatchOption}
-use Rattle.fbl_base.proofs.AuditLaws.{is_receipt}
-use Rattle.fbl_base.proofs.Sets.{some_outside}
-use Rattle.fbl_base.specs.MemberSets.{Members}
-use Rattle.fbl_base.specs.Precedence.{Has}
-use Rattle.fbl_base.specs.declared.trace.Mark.{Mark}
+use Rattle.fbl_trace.proofs.RulesLaws.{is_receipt}
+use Rattle.fbl_trace.proofs.Sets.{some_outside}
+use Rattle.fbl_trace.specs.MemberSets.{Members}
+use Rattle.fbl_trace.specs.Precedence.{Has}
+use Rattle.fbl_trace.specs.declared.trace.Mark.{Mark}
 use Rattle.fbl_audit.specs.Checking.{IsSafe, IsSaidOf, SaysUnsafe}
 use Rattle.fbl_audit.specs.declared.checking.UnsafeReceipt.{UnsafeReceipt}
 use Rattle.fbl_pictures.specs.declared.entries.Placed.{Placed}

@@ -1,8 +1,8 @@
 -- What is said first of a log, as an audit of its last moment has it.
 use Rattle.fbl_pictures.proofs.Common.{ℕ, ◌<◌, ◌≤◌, ◌≡◌, true, List, [], ◌∷◌, Some, None, length, slice_get, inl, inr, refl, sym, ap, subst, arith, slice_get_within, receipt_of, Determinant, log_of, marks, Entry, StandsAt, UnsafeMoment}
 use Rattle.std.specs.FinSet as set
-use Rattle.fbl_base.proofs.PrecedenceLaws.{Has-first}
-use Rattle.fbl_base.specs.Precedence.{Depends, Has}
+use Rattle.fbl_trace.proofs.PrecedenceLaws.{Has-first}
+use Rattle.fbl_trace.specs.Precedence.{Depends, Has}
 use Rattle.fbl_reasons.proofs.LastChecks.{depends_iff}
 use Rattle.fbl_logs.proofs.Listing.{stands_at}
 use Rattle.fbl_logs.specs.HappenedBefore.{Position}

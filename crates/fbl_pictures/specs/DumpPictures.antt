@@ -3,8 +3,8 @@ use Rattle.std.specs.Prelude.{ℕ, ◌≡◌, ◌<◌, ◌⊎◌, ◌↔◌, tru
 use Rattle.std.specs.List.{range_with_len}
 use Rattle.std.specs.FinSet as set
 use Rattle.fbl_base.specs.Audit.{Parts, IsDumpOrphan, IsOrphanStart, lost_determinants}
-use Rattle.fbl_base.specs.Events.{receipts}
-use Rattle.fbl_base.specs.MemberSets.{Members}
+use Rattle.fbl_trace.specs.Events.{receipts}
+use Rattle.fbl_trace.specs.MemberSets.{Members}
 use Rattle.fbl_audit.specs.Checking.{IsSafe, SaysUnsafe}
 use Rattle.fbl_audit.specs.Paths.{IsOrphanPath}
 use Rattle.fbl_audit.specs.declared.checking.UnsafeReceipt.{UnsafeReceipt}

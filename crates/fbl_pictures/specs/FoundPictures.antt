@@ -3,8 +3,8 @@ use Rattle.std.specs.Prelude.{ℕ, ◌≡◌, ◌-◌, ◌<◌, ◌⊎◌, true,
 use Rattle.std.specs.List.{range_with_len}
 use Rattle.std.specs.FinSet as set
 use Rattle.fbl_base.specs.Audit.{Parts}
-use Rattle.fbl_base.specs.Events.{At, receipt_of}
-use Rattle.fbl_base.specs.MemberSets.{Members}
+use Rattle.fbl_trace.specs.Events.{At, receipt_of}
+use Rattle.fbl_trace.specs.MemberSets.{Members}
 use Rattle.fbl_audit.specs.Paths.{IsFirstDependent, IsPathTo, Origin}
 use Rattle.fbl_audit.specs.declared.checking.UnsafeReceipt.{UnsafeReceipt}
 use Rattle.fbl_logs.specs.declared.entry.Entry.{Entry}

@@ -1,7 +1,7 @@
 -- The headings of pictures of runs.
 use Rattle.std.specs.Prelude.{ℕ, List, [], ◌∷◌, ◌++◌, Option, Some, None, codes, decimal}
-use Rattle.fbl_base.specs.declared.trace.Determinant.{Determinant}
-use Rattle.fbl_base.specs.MemberSets.{Members}
+use Rattle.fbl_trace.specs.declared.trace.Determinant.{Determinant}
+use Rattle.fbl_trace.specs.MemberSets.{Members}
 use Rattle.fbl_texts.specs.Sets.{set_words}
 use Rattle.fbl_pictures.specs.Marks.{joined}
 

@@ -5,12 +5,12 @@ use Rattle.std.specs.HashMap as hash_map
 use Rattle.std.specs.List.{flat_map, list_any, position_from, range_with_len}
 use Rattle.std.specs.Option.{option_to_list}
 use Rattle.std.specs.FinSet as set
-use Rattle.fbl_base.specs.declared.trace.Determinant.{Determinant}
-use Rattle.fbl_base.specs.declared.trace.Mark.{Mark}
-use Rattle.fbl_base.specs.declared.trace.Mark.TheVariants.{Send, Receipt}
-use Rattle.fbl_base.specs.declared.trace.MessageName.{MessageName}
+use Rattle.fbl_trace.specs.declared.trace.Determinant.{Determinant}
+use Rattle.fbl_trace.specs.declared.trace.Mark.{Mark}
+use Rattle.fbl_trace.specs.declared.trace.Mark.TheVariants.{Send, Receipt}
+use Rattle.fbl_trace.specs.declared.trace.MessageName.{MessageName}
 use Rattle.fbl_base.specs.Audit.{Parts, is_held_outside, holders_of}
-use Rattle.fbl_base.specs.Events.{is_message, member_of, same_determinant, same_message}
+use Rattle.fbl_trace.specs.Events.{is_message, member_of, same_determinant, same_message}
 use Rattle.fbl_logs.specs.Entries.{mark_in}
 use Rattle.fbl_logs.specs.declared.entry.Entry.{Entry}
 use Rattle.fbl_logs.specs.declared.entry.Entry.TheVariants.{Event, Hold, Store}

@@ -2,7 +2,7 @@
 
 ghost use Rattle.std.specs.Prelude.{◌≡◌, ◌==◌, ◌<◌, ℕ, Some, None, length, if◌then◌else◌};
 
-use fbl_base::Member;
+use fbl_trace::Member;
 
 /// For each member's number, a column or none.
 #[derive(Clone, Copy)]

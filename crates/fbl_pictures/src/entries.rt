@@ -2,12 +2,12 @@
 
 ghost use Rattle.std.specs.Prelude.{◌≡◌, IfOk, map};
 ghost use Rattle.std.specs.HashSet as hash_set;
-ghost use Rattle.fbl_base.specs.Events.{same_determinant};
+ghost use Rattle.fbl_trace.specs.Events.{same_determinant};
 ghost use Rattle.fbl_logs.specs.declared.entry.Entry.TheVariants.{Event};
 ghost use Rattle.fbl_pictures.specs.RunPictures.{is_stored as is_stored_in, placed_from, stored_by as stored_by_of};
 
 use fbl_base::audit::Dump;
-use fbl_base::{Determinant, Mark};
+use fbl_trace::{Determinant, Mark};
 use fbl_logs::Entry;
 use std::alloc::{AllocError, Global};
 use std::collections::HashSet;
@@ -37,7 +37,7 @@ pub(crate) struct Recorded<'a> {
 impl<'a> Model for Recorded<'a> {
     ghost use Rattle.std.specs.Prelude.{List, ◌≡◌};
     ghost use Rattle.std.specs.HashSet as hash_set;
-    ghost use Rattle.fbl_base.specs.Events.{same_determinant};
+    ghost use Rattle.fbl_trace.specs.Events.{same_determinant};
     ghost use Rattle.fbl_logs.specs.declared.entry.Entry.{Entry};
     ghost use Rattle.fbl_pictures.specs.RunPictures.{is_stored};
 

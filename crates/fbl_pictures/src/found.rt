@@ -2,8 +2,8 @@
 
 ghost use Rattle.std.specs.Prelude.{◌≡◌, ℕ, true, IfOk};
 ghost use Rattle.std.specs.FinSet as set;
-ghost use Rattle.fbl_base.specs.Events.{At, receipt_of};
-ghost use Rattle.fbl_base.specs.Precedence.{Depends, Has};
+ghost use Rattle.fbl_trace.specs.Events.{At, receipt_of};
+ghost use Rattle.fbl_trace.specs.Precedence.{Depends, Has};
 ghost use Rattle.fbl_logs.specs.Entries.{marks};
 ghost use Rattle.fbl_pictures.specs.FoundPictures.{AreFoundShapes};
 
@@ -15,7 +15,7 @@ use crate::run_paths::{push_paths_to, starts_of};
 use crate::run_picture::lines_and_arrows;
 use fbl_audit::{Paths, UnsafeReceipt};
 use fbl_base::audit::Audit;
-use fbl_base::{Determinant, Mark};
+use fbl_trace::{Determinant, Mark};
 use fbl_shapes::Shape;
 use std::alloc::{AllocError, Global};
 

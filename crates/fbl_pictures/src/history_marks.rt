@@ -1,12 +1,12 @@
 //! The marks of the columns.
 
 ghost use Rattle.std.specs.Prelude.{◌≡◌, ◌++◌, OnOk, map};
-ghost use Rattle.fbl_base.specs.MemberSets.{member_list};
+ghost use Rattle.fbl_trace.specs.MemberSets.{member_list};
 ghost use Rattle.fbl_shapes.specs.HistoryMarks.{column_marks, event_mark as event_mark_of, strike_mark, recovery_mark};
 ghost use Rattle.fbl_shapes.specs.Shapes.{drawn};
 
 use crate::names::push_any;
-use fbl_base::{Determinant, MemberSet};
+use fbl_trace::{Determinant, MemberSet};
 use fbl_history::{Column, Replay};
 use fbl_shapes::Shape;
 use std::alloc::{AllocError, Global};

@@ -5,7 +5,7 @@ ghost use Rattle.fbl_shapes.specs.HistoryMembers.{is_back, is_down_after, line_p
 
 use crate::names::push_names;
 use crate::words::line_kind;
-use fbl_base::Member;
+use fbl_trace::Member;
 use fbl_history::{Column, Replay};
 use fbl_shapes::Shape;
 use std::alloc::AllocError;

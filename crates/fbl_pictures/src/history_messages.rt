@@ -3,13 +3,13 @@
 ghost use Rattle.std.specs.Prelude.{◌≡◌, ◌==◌, ◌++◌, ◌+◌, ◌<◌, ℕ, IfOk, OnOk, Some, length, if◌then◌else◌};
 ghost use Rattle.std.specs.HashMap as hash_map;
 ghost use Rattle.std.specs.HashSet as hash_set;
-ghost use Rattle.fbl_base.specs.Events.{same_message};
+ghost use Rattle.fbl_trace.specs.Events.{same_message};
 ghost use Rattle.fbl_shapes.specs.HistoryMessages.{receipt_arrow, arrow_from, arrow_kind, back_before, has_standing_receipt, last_sent as last_sent_of, later, sent_before, sent_by_column, stub as stub_in, stub_where, taken_by_column};
 ghost use Rattle.fbl_shapes.specs.HistoryMembers.{is_back};
 ghost use Rattle.fbl_shapes.specs.Shapes.{drawn};
 
 use crate::names::push_any;
-use fbl_base::{Member, MessageName};
+use fbl_trace::{Member, MessageName};
 use fbl_history::{Column, Replay};
 use fbl_shapes::{ArrowKind, Shape};
 use std::alloc::{AllocError, Global};

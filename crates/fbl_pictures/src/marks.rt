@@ -5,7 +5,7 @@ ghost use Rattle.fbl_pictures.specs.Marks.{drawn_checkpoint, cross, drawn_held_r
 
 use crate::places::{before, below, x, y};
 use crate::words::{kind_class, outline, receipts_word, words_if};
-use fbl_base::{Determinant, Member, MemberSet};
+use fbl_trace::{Determinant, Member, MemberSet};
 use fbl_shapes::Kind;
 use fbl_texts::set_text;
 use std::alloc::{AllocError, Global};

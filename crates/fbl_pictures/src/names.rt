@@ -4,7 +4,7 @@ ghost use Rattle.std.specs.Prelude.{◌≡◌, ◌++◌, OnOk};
 ghost use Rattle.std.specs.Option.{option_to_list};
 ghost use Rattle.fbl_shapes.specs.Names.{label_and_names};
 
-use fbl_base::Member;
+use fbl_trace::Member;
 use fbl_shapes::{Shape, Status};
 use std::alloc::AllocError;
 

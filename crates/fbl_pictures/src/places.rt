@@ -3,7 +3,7 @@
 ghost use Rattle.std.specs.Prelude.{◌≡◌, ◌≤◌, ◌<◌, ◌^◌, ◌⊎◌};
 ghost use Rattle.fbl_pictures.specs.Places.{before as before_of, height as height_of, left as left_of, below as below_of, towards as towards_of, width as width_of, x as x_of, y as y_of};
 
-use fbl_base::Member;
+use fbl_trace::Member;
 use fbl_shapes::Legend;
 
 /// How far from the left a column stands.

@@ -6,7 +6,7 @@ ghost use Rattle.fbl_shapes.specs.Shapes.{drawn};
 
 use crate::entries::Recorded;
 use fbl_base::audit::Audit;
-use fbl_base::{Determinant, Mark, Member, MessageName};
+use fbl_trace::{Determinant, Mark, Member, MessageName};
 use fbl_logs::Entry;
 use fbl_shapes::{ArrowKind, Kind, Shape};
 use std::alloc::{AllocError, Global};

@@ -3,7 +3,7 @@
 ghost use Rattle.std.specs.Prelude.{◌≡◌, ◌++◌, ◌<◌, ◌≤◌, ℕ, List, true, false, IfOk, IfNone, IfSome, OnOk, length, map, slice_get};
 ghost use Rattle.std.specs.FinSet as set;
 ghost use Rattle.std.specs.List.{range_with_len};
-ghost use Rattle.fbl_base.specs.Precedence.{DependsOnPlace};
+ghost use Rattle.fbl_trace.specs.Precedence.{DependsOnPlace};
 ghost use Rattle.fbl_audit.specs.Paths.{IsPathTo};
 ghost use Rattle.fbl_pictures.specs.RunPictures.{column_in, path_shapes, placed_from, step_between as step_between_of, step_shape};
 ghost use Rattle.fbl_pictures.specs.DumpPictures.{ArePathsDrawn, dump_entries};
@@ -15,7 +15,7 @@ use crate::entries::Placed;
 use crate::names::push_any;
 use fbl_audit::{Paths, orphan_path};
 use fbl_base::audit::Audit;
-use fbl_base::{Member, MemberSet};
+use fbl_trace::{Member, MemberSet};
 use fbl_shapes::{ArrowKind, LineKind, Shape};
 use std::alloc::{AllocError, Global};
 

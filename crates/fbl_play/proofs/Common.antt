@@ -4,11 +4,11 @@ pub use Rattle.std.proofs.Math.Logic.{∥∥₁_map}
 pub use Rattle.std.proofs.lemmas.List.{map_push, take_all, take_more}
 pub use Rattle.std.proofs.lemmas.Result.{err_from_is_err_and}
 pub use Rattle.std.specs.Result.{IsErrAnd}
-pub use Rattle.fbl_base.specs.Configs.{Settings}
-pub use Rattle.fbl_base.specs.Fold.{Next}
-pub use Rattle.fbl_base.specs.MemberSets.{Members}
-pub use Rattle.fbl_base.specs.declared.strike.Strike.{Strike}
-pub use Rattle.fbl_base.specs.Steps.{SendsWell}
+pub use Rattle.fbl_trace.specs.Configs.{Settings}
+pub use Rattle.fbl_trace.specs.Fold.{Next}
+pub use Rattle.fbl_trace.specs.MemberSets.{Members}
+pub use Rattle.fbl_trace.specs.declared.strike.Strike.{Strike}
+pub use Rattle.fbl_trace.specs.Steps.{SendsWell}
 pub use Rattle.fbl_history.proofs.Deliveries.{follows_delivery}
 pub use Rattle.fbl_history.proofs.Recoveries.{follows_recovery}
 pub use Rattle.fbl_history.proofs.Steps.{begins_at_start, follows_checkpoint, follows_strike}

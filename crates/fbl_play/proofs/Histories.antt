@@ -1,5 +1,5 @@
 -- A history of a run stays one of its group.
-use Rattle.fbl_base.specs.declared.trace.Note.{Note}
+use Rattle.fbl_trace.specs.declared.trace.Note.{Note}
 use Rattle.fbl_play.proofs.Common.{◌≡◌, ℕ, List, [], ◌∷◌, ◌++◌, inl, inr, None, Ok, Err, Option, Result, Some, sym, subst, ap, ◌∙◌, ∥∥₁_map, Answer, Column, Command, GroupRecord, IsSound, Members, Next, Settings, Strike}
 use Rattle.fbl_play.proofs.Common.{DrainRefusal, IsAdded, IsBegun, IsGroupStart, IsHistoryOf, IsLedOn, IsLedTo, IsOfGroup, Recorded, RecordedDrains, SendsWell, Step, Transcript, begins_at_start, follows_checkpoint}
 use Rattle.fbl_play.proofs.Common.{follows_delivery, follows_recovery, follows_strike, history_led, turns_lead}

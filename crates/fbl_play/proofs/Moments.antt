@@ -1,5 +1,5 @@
 -- A run goes on by one command, and where a play of its commands ends.
-use Rattle.fbl_base.specs.declared.trace.Note.{Note}
+use Rattle.fbl_trace.specs.declared.trace.Note.{Note}
 use Rattle.fbl_play.proofs.Common.{◌≡◌, ℕ, ◌<◌, ◌≤◌, ◌+◌, List, [], ◌∷◌, ◌++◌, length, map_push, take, get_or, refl, ap, ◌∙◌, inl, inr, Some, None, Result}
 use Rattle.fbl_play.proofs.Common.{Ok, Err, take_all, take_more, IsErrAnd, err_from_is_err_and, Settings, Next, GroupRecord, Command, OutputFault, Column}
 use Rattle.fbl_play.proofs.Common.{Answer, Along, IsAdded, IsBegun, IsOfGroup, IsPlay, IsSound, IsRun, IsRunOne, IsStopped, Moment, Observes, Ran, Runs, Transcript}

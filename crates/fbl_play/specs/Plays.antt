@@ -1,9 +1,9 @@
 -- Runs of a script's commands, with their transcripts, and what an observer observes and when.
 use Rattle.std.specs.Prelude.{◌≡◌, ℕ, ◌<◌, ◌⊎◌, List, [], ◌∷◌, length, map, take, slice_index_or, Option, Some, None, Result, Ok, Err}
-use Rattle.fbl_base.specs.declared.trace.Note.{Note}
-use Rattle.fbl_base.specs.Configs.{Settings}
-use Rattle.fbl_base.specs.Fold.{Next}
-use Rattle.fbl_base.specs.Steps.{relay_step, mix_step, numbered_from_0}
+use Rattle.fbl_trace.specs.declared.trace.Note.{Note}
+use Rattle.fbl_trace.specs.Configs.{Settings}
+use Rattle.fbl_trace.specs.Fold.{Next}
+use Rattle.fbl_trace.specs.Steps.{relay_step, mix_step, numbered_from_0}
 use Rattle.fbl_input.specs.declared.fault.RunFault.{RunFault}
 use Rattle.fbl_input.specs.declared.output.OutputFault.{OutputFault}
 use Rattle.fbl_input.specs.declared.output.OutputFault.TheVariants as outputs

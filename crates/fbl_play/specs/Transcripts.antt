@@ -1,8 +1,8 @@
 -- The transcript of a run: the text that its commands print, or its history.
 use Rattle.std.specs.Prelude.{◌≡◌, ℕ, ◌<◌, List, [], ◌∷◌, ◌++◌, length, take, Option, None, Some}
 use Rattle.std.specs.Io.KnownBytes.{Appends}
-use Rattle.fbl_base.specs.declared.trace.Note.{Note}
-use Rattle.fbl_base.specs.Fold.{Next}
+use Rattle.fbl_trace.specs.declared.trace.Note.{Note}
+use Rattle.fbl_trace.specs.Fold.{Next}
 use Rattle.fbl_history.specs.declared.column.Column.{Column}
 use Rattle.fbl_history.specs.declared.column.Column.TheVariants.{Strike, Checkpoint}
 use Rattle.fbl_history.specs.Traces.{go_on_to, start_columns, IsAfterRecovery, IsHistoryOf}

@@ -1,15 +1,15 @@
 //! Plays a script, and answers its history.
 
 ghost use Rattle.std.specs.Prelude.{IfSome, None};
-ghost use Rattle.fbl_base.specs.Configs.{WorkersAllowed};
-ghost use Rattle.fbl_base.specs.Steps.{SendsWell};
+ghost use Rattle.fbl_trace.specs.Configs.{WorkersAllowed};
+ghost use Rattle.fbl_trace.specs.Steps.{SendsWell};
 ghost use Rattle.fbl_play.specs.Plays.{IsHistoryPlay, IsPlay, PlaysScript, ReadsAndPlays};
 ghost use Rattle.fbl_play.specs.Transcripts.{text};
 ghost use Rattle.fbl_texts.specs.Scripts.{outline};
 
 use crate::observer::{NoObserver, Observer};
 use crate::transcript::{HistorySoFar, Transcriber};
-use fbl_base::{Behaviour, Config, Mix, Note, Relay};
+use fbl_trace::{Behaviour, Config, Mix, Note, Relay};
 use fbl_commands::run_command;
 use fbl_group::Group;
 use fbl_history::History;

@@ -1,7 +1,7 @@
 //! Who observes the commands of a run.
 
 use crate::transcript::Transcribed;
-use fbl_base::{Behaviour, Note};
+use fbl_trace::{Behaviour, Note};
 use fbl_commands::Answer;
 use fbl_group::Group;
 use fbl_texts::Command;
@@ -13,7 +13,7 @@ use fbl_texts::Command;
 /// more of them, so that only by a call then and there can it make an observer that was called so.
 pub trait Observer {
     ghost use Rattle.std.specs.Prelude.{ℕ};
-    ghost use Rattle.fbl_base.specs.declared.trace.Note.{Note};
+    ghost use Rattle.fbl_trace.specs.declared.trace.Note.{Note};
     ghost use Rattle.fbl_law.specs.Groups.{GroupRecord};
     ghost use Rattle.fbl_play.specs.Transcripts.{Transcript};
     ghost use Rattle.fbl_commands.specs.declared.answer.Answer.{Answer};

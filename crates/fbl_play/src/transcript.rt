@@ -4,7 +4,7 @@ ghost use Rattle.std.specs.Prelude.{◌≡◌, IfErr, IfOk, OnErr, OnOk, Some};
 ghost use Rattle.fbl_play.specs.Transcripts.{history as as_history, GoesOn, IsAdded, IsBegun, IsCut, IsLedOn};
 ghost use Rattle.fbl_commands.specs.Steps.{HasMembers};
 
-use fbl_base::{Behaviour, Note};
+use fbl_trace::{Behaviour, Note};
 use fbl_commands::Answer;
 use fbl_group::Group;
 use fbl_history::History;

@@ -6,11 +6,11 @@ use Rattle.fbl_reasons.proofs.Common.{SafeAt, At-filter_map, filter_map-At}
 use Rattle.std.specs.List.{Contains, filter_map, cons_option}
 use Rattle.std.proofs.lemmas.Option.{get_or_from_slice_get}
 use Rattle.std.specs.FinSet as set
-use Rattle.fbl_base.proofs.Gets.{Apart, Apart-filter_map, Apart-later}
+use Rattle.fbl_trace.proofs.Gets.{Apart, Apart-filter_map, Apart-later}
 use Rattle.fbl_base.specs.Audit.{IsLost}
-use Rattle.fbl_base.proofs.PrecedenceLaws.{Has-first, Has-last}
-use Rattle.fbl_base.specs.MemberSets.{Members}
-use Rattle.fbl_base.specs.Precedence as base
+use Rattle.fbl_trace.proofs.PrecedenceLaws.{Has-first, Has-last}
+use Rattle.fbl_trace.specs.MemberSets.{Members}
+use Rattle.fbl_trace.specs.Precedence as base
 use Rattle.fbl_audit.specs.Checking as audit
 use Rattle.fbl_logs.specs.Clocks.{seen}
 use Rattle.fbl_reasons.specs.LastMoments.{LastMomentLaw, dump_of, last_of, pair_in}

@@ -4,9 +4,9 @@ use Rattle.fbl_reasons.proofs.Common.{cases_order, filter_map-At, slice_get_with
 use Rattle.fbl_reasons.proofs.Common.{Entry, Event, Hold, Store, entry_member, log_of, mark_in, marks, IsAt, Position, Precedes, at, IsReceiptAt}
 use Rattle.std.proofs.Common.{Global, IfNone, IfSome, Vec, map, slice_index, unwrap_or}
 use Rattle.std.proofs.lemmas.Option.{slice_get-get_or}
-use Rattle.fbl_base.proofs.PrecedenceLaws.{events-from_places, places-from_events}
-use Rattle.fbl_base.specs.Events.{At}
-use Rattle.fbl_base.specs.Precedence as base
+use Rattle.fbl_trace.proofs.PrecedenceLaws.{events-from_places, places-from_events}
+use Rattle.fbl_trace.specs.Events.{At}
+use Rattle.fbl_trace.specs.Precedence as base
 use Rattle.fbl_audit.specs.Paths as audit
 use Rattle.fbl_moments.specs.declared.check.UnsafeMoment.{UnsafeMoment}
 use Rattle.fbl_logs.specs.Clocks.{StandsAt, seen}

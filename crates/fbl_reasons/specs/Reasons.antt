@@ -1,8 +1,8 @@
 -- Why a receipt is unsafe at a moment.
 use Rattle.std.specs.Prelude.{ℕ, ◌≡◌, ◌<◌, ◌↔◌, true, List, [], ◌∷◌, Option, Some, None, map, slice_get, slice_index}
 use Rattle.std.specs.FinSet as set
-use Rattle.fbl_base.specs.declared.trace.Determinant.{Determinant}
-use Rattle.fbl_base.specs.Events.{At, receipt_of}
+use Rattle.fbl_trace.specs.declared.trace.Determinant.{Determinant}
+use Rattle.fbl_trace.specs.Events.{At, receipt_of}
 use Rattle.fbl_audit.specs.Paths as base
 use Rattle.fbl_logs.specs.declared.entry.Entry.{Entry}
 use Rattle.fbl_logs.specs.declared.entry.Entry.TheVariants.{Event}

@@ -8,7 +8,8 @@ ghost use Rattle.fbl_logs.specs.Logs.{run_of};
 ghost use Rattle.fbl_logs.specs.Runs.{LosesAt};
 
 use fbl_base::audit::Dump;
-use fbl_base::{Determinant, Member, MemberSet, RawDump};
+use fbl_base::RawDump;
+use fbl_trace::{Determinant, Member, MemberSet};
 use fbl_logs::{Clock, Entry, RunLog, marks_of};
 use fbl_moments::History;
 use std::alloc::{AllocError, Global};

@@ -1,8 +1,8 @@
 //! Why a receipt is unsafe at a moment.
 
 ghost use Rattle.std.specs.Prelude.{◌≡◌, ◌<◌, ◌↔◌, ℕ, true, IfOk, MatchOption, Some, length, map, slice_get, slice_index};
-ghost use Rattle.fbl_base.specs.Events.{At, receipt_of};
-ghost use Rattle.fbl_base.specs.Precedence.{Has};
+ghost use Rattle.fbl_trace.specs.Events.{At, receipt_of};
+ghost use Rattle.fbl_trace.specs.Precedence.{Has};
 ghost use Rattle.fbl_logs.specs.Clocks.{cut_of};
 ghost use Rattle.fbl_logs.specs.Entries.{marks, recorded_in};
 ghost use Rattle.fbl_logs.specs.Lawful.{IsEventPlace};
@@ -12,7 +12,7 @@ ghost use Rattle.fbl_moments.specs.Unsafe.{IsSaidOf};
 use crate::last::last_dump;
 use fbl_audit::Paths;
 use fbl_base::audit::Audit;
-use fbl_base::{Determinant, Mark, MemberSet};
+use fbl_trace::{Determinant, Mark, MemberSet};
 use fbl_logs::{Clock, Entry, RunLog};
 use fbl_moments::{History, UnsafeMoment, moments_of};
 use std::alloc::{AllocError, Global};

@@ -10,8 +10,8 @@ pub use Rattle.std.specs.Cmp.{booleans_Decides}
 pub use Rattle.std.specs.List.{flat_map, fold, range_with_len, filter}
 pub use Rattle.std.specs.Option.{option_to_list}
 pub use Rattle.std.specs.Prelude.{◌*◌, ◌/◌, nat_lt}
-pub use Rattle.fbl_base.specs.Events.{same_message}
-pub use Rattle.fbl_base.specs.declared.trace.MessageName.{MessageName}
+pub use Rattle.fbl_trace.specs.Events.{same_message}
+pub use Rattle.fbl_trace.specs.declared.trace.MessageName.{MessageName}
 pub use Rattle.fbl_history.specs.Columns.{ReceiptsFollowSends}
 pub use Rattle.fbl_history.specs.declared.column.Column.{Column}
 pub use Rattle.fbl_shapes.specs.HistoryMarks.{column_marks, recovery_mark, strike_mark}
@@ -20,5 +20,5 @@ pub use Rattle.fbl_shapes.specs.HistoryMessages.{arrow_from, back_before, has_st
 pub use Rattle.fbl_shapes.specs.Shapes.{drawn, line_kind_of}
 pub use Rattle.fbl_shapes.specs.declared.shape.Shape.{Shape}
 pub use Rattle.std.proofs.lemmas.List.Elements.{filter-append}
-pub use Rattle.fbl_base.proofs.RulesLaws.{eqb-self}
+pub use Rattle.fbl_trace.proofs.RulesLaws.{eqb-self}
 pub use Rattle.fbl_shapes.specs.Names.{label_and_names}

@@ -1,6 +1,6 @@
 -- Each event of a history has its mark, each receipt its arrow from the send of its message, and a member's line is dashed exactly
 -- while the member is down.
-use Rattle.fbl_base.specs.MemberSets.{member_list}
+use Rattle.fbl_trace.specs.MemberSets.{member_list}
 use Rattle.fbl_history.specs.declared.column.Column.TheVariants as columns
 use Rattle.fbl_shapes.specs.declared.shape.Shape.TheVariants as shapes
 use Rattle.fbl_shapes.specs.HistoryLaws.{is_arrow_to, is_before, is_dashed, is_mark_in, leads_to, mark_of_event, ComesFromItsSend, HasArrowFromItsSend, IsDashedWhileDown, IsDownBefore}

@@ -1,8 +1,8 @@
 -- What a test leaves of shapes that are drawn one after another, and of each layer of a history's picture: nothing, where it passes
 -- none of the layer's shapes.
-use Rattle.fbl_base.specs.MemberSets.{member_list}
+use Rattle.fbl_trace.specs.MemberSets.{member_list}
 use Rattle.fbl_history.specs.declared.column.Column.TheVariants as columns
-use Rattle.fbl_base.specs.declared.trace.Determinant.{Determinant}
+use Rattle.fbl_trace.specs.declared.trace.Determinant.{Determinant}
 use Rattle.fbl_shapes.specs.HistoryShapes.{history_shapes}
 use Rattle.fbl_shapes.specs.declared.shape.ArrowKind.{ArrowKind}
 use Rattle.fbl_shapes.specs.declared.shape.LineKind.{LineKind}

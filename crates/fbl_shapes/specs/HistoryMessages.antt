@@ -3,14 +3,14 @@
 use Rattle.std.specs.Prelude.{ℕ, zero, suc, ◌||◌, Bool, true, false, List, length, Option, Some, None, max, nat_lt, slice_get, if◌then◌else◌}
 use Rattle.std.specs.List.{list_any}
 use Rattle.std.specs.Option.{option_to_list}
-use Rattle.fbl_base.specs.Events.{is_message}
+use Rattle.fbl_trace.specs.Events.{is_message}
 use Rattle.fbl_history.specs.declared.column.Column.{Column}
 use Rattle.fbl_history.specs.declared.column.Column.TheVariants as columns
 use Rattle.fbl_shapes.specs.declared.shape.ArrowKind.{ArrowKind}
 use Rattle.fbl_shapes.specs.declared.shape.ArrowKind.TheVariants as arrows
 use Rattle.fbl_shapes.specs.declared.shape.Shape.{Shape}
 use Rattle.fbl_shapes.specs.declared.shape.Shape.TheVariants as shapes
-use Rattle.fbl_base.specs.declared.trace.MessageName.{MessageName}
+use Rattle.fbl_trace.specs.declared.trace.MessageName.{MessageName}
 use Rattle.fbl_shapes.specs.HistoryMembers.{brings_back}
 
 -- the last place before this one that passes the test

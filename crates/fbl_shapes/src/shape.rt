@@ -1,6 +1,6 @@
 //! Shapes, and what tells those of one sort apart.
 
-use fbl_base::{Determinant, Member, MemberSet};
+use fbl_trace::{Determinant, Member, MemberSet};
 
 /// What a label says of a member of a dump.
 #[derive(Clone, Copy)]

@@ -4,11 +4,11 @@ use Rattle.std.proofs.lemmas.Bool.{cases_lt, eqb-true, false≢true}
 use Rattle.std.proofs.lemmas.Bool.Decides.{nat_tests}
 use Rattle.std.proofs.lemmas.List.{get_or-set_other, set_past, get_or-set_same, length-set}
 use Rattle.std.proofs.lemmas.List.Sums.{sum_by-set}
-use Rattle.fbl_base.specs.Configs.{Settings, IsConfig}
-use Rattle.fbl_base.proofs.Gets.{get_or-same}
-use Rattle.fbl_base.specs.declared.outcome.Outcome.{Outcome}
+use Rattle.fbl_trace.specs.Configs.{Settings, IsConfig}
+use Rattle.fbl_trace.proofs.Gets.{get_or-same}
+use Rattle.fbl_trace.specs.declared.outcome.Outcome.{Outcome}
 use Rattle.fbl_law.specs.StepLaws.{AnyNote, HoldsFirst, StepKeeps, StepMakesNone}
-use Rattle.fbl_base.specs.Fold.{state_after}
+use Rattle.fbl_trace.specs.Fold.{state_after}
 use Rattle.fbl_store.specs.Commands.{amount_of, changed, changed_at, key_of, made_of}
 use Rattle.std.specs.List.{fold}
 use Rattle.fbl_store.specs.Shards.{HoldsItsOwn, applied, key_owner, shard_next, shard_step}

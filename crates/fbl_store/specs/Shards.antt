@@ -2,9 +2,9 @@
 use Rattle.std.specs.Prelude.{◌≡◌, ◌≢◌, ℕ, ◌+◌, ◌%◌, ◌<◌, ◌≤◌, ◌==◌, true, List, [], ◌∷◌, replicate, slice_index, slice_set, if◌then◌else◌}
 use Rattle.std.proofs.Common.{arith}
 use Rattle.std.proofs.lemmas.Bool.Decides.{nat_tests}
-use Rattle.fbl_base.specs.Configs.{Settings}
-use Rattle.fbl_base.specs.Steps.{Next, SendsWell}
-use Rattle.fbl_base.specs.declared.outcome.Outcome.{Outcome}
+use Rattle.fbl_trace.specs.Configs.{Settings}
+use Rattle.fbl_trace.specs.Steps.{Next, SendsWell}
+use Rattle.fbl_trace.specs.declared.outcome.Outcome.{Outcome}
 use Rattle.fbl_law.specs.StepLaws.{weight_of_starts}
 use Rattle.fbl_store.specs.Commands.{amount_of, changed, key_of}
 use Rattle.fbl_store.specs.declared.command.Command.{Command}

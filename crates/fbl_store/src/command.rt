@@ -1,6 +1,6 @@
 //! What messages ask of a key's owner.
 
-use fbl_base::{Content, Exact};
+use fbl_trace::{Content, Exact};
 
 /// A command on one of 256 keys.
 #[derive(Clone, Copy, PartialEq, Debug)]

@@ -15,7 +15,7 @@ mod shard;
 
 use anyhow::{Result, ensure};
 use command::Command;
-use fbl_base::{Config, Member, MemberSet, Start, Strike};
+use fbl_trace::{Config, Member, MemberSet, Start, Strike};
 use fbl_group::Group;
 use fbl_threads::{DrainRefusal, Drained, NoGate, drain};
 use shard::Shard;

@@ -18,12 +18,12 @@ pub use Rattle.std.specs.Option.{option_map, option_map_or, option_or}
 pub use Rattle.std.specs.Ordering.{nat_cmp}
 pub use Rattle.std.specs.Prelude.{nat_lt}
 pub use Rattle.std.specs.Vec.{vec_capacity}
-pub use Rattle.fbl_base.proofs.Gets.{drop_next, length-filter_map, length-left}
-pub use Rattle.fbl_base.proofs.AuditLaws.{Decides-same_determinant}
-pub use Rattle.fbl_base.proofs.Sets.{len-within}
-pub use Rattle.fbl_base.specs.Events.{same_determinant}
-pub use Rattle.fbl_base.specs.MemberSets.{same_from_contains}
-pub use Rattle.fbl_base.specs.declared.trace.Determinant.{Determinant}
+pub use Rattle.fbl_trace.proofs.Gets.{drop_next, length-filter_map, length-left}
+pub use Rattle.fbl_trace.proofs.RulesLaws.{Decides-same_determinant}
+pub use Rattle.fbl_trace.proofs.Sets.{len-within}
+pub use Rattle.fbl_trace.specs.Events.{same_determinant}
+pub use Rattle.fbl_trace.specs.MemberSets.{same_from_contains}
+pub use Rattle.fbl_trace.specs.declared.trace.Determinant.{Determinant}
 pub use Rattle.indexmap.proofs.MapLemmas.{absent_from_lookup, insert_entry-absent, or_len-absent}
 pub use Rattle.indexmap.specs.IndexMap.{insert_entry}
 pub use Rattle.indexmap.specs.Layout.{length-set_value_at, set_value_at}

@@ -7,8 +7,8 @@ use Rattle.std.specs.List.{IsDistinct, filter, fold, find, list_any}
 use Rattle.std.specs.Option.{option_map, option_map_or}
 use Rattle.std.specs.Ordering.{nat_cmp}
 use Rattle.std.specs.FinSet as set
-use Rattle.fbl_base.specs.declared.trace.Determinant.{Determinant}
-use Rattle.fbl_base.specs.Events.{same_determinant}
+use Rattle.fbl_trace.specs.declared.trace.Determinant.{Determinant}
+use Rattle.fbl_trace.specs.Events.{same_determinant}
 use Rattle.fbl_table.specs.declared.entry.Entry.{Entry}
 
 -- no two entries have the same determinant

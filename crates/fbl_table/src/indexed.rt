@@ -9,7 +9,7 @@ ghost use Rattle.fbl_table.specs.Tables.{HasInPlace, IsOnce, is_held, is_open, l
 
 use crate::entry::Entry;
 use crate::likely::LikelyPlaces;
-use fbl_base::{Determinant, Member, MemberSet};
+use fbl_trace::{Determinant, Member, MemberSet};
 use indexmap::IndexMap;
 use std::alloc::{AllocError, Allocator};
 use std::hash::{BuildHasherDefault, FoldHasher};

@@ -1,6 +1,6 @@
 //! Where the entries of receipts probably stand.
 
-use fbl_base::Determinant;
+use fbl_trace::Determinant;
 use std::alloc::{AllocError, Allocator};
 
 /// The greatest receipt number whose place is kept: a member of a group has no more receipts.

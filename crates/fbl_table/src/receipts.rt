@@ -5,7 +5,7 @@ ghost use Rattle.std.specs.Option.{option_or};
 ghost use Rattle.fbl_table.specs.Receipts.{receipt_at, IsByNumber};
 
 use crate::table::Table;
-use fbl_base::{Determinant, Member};
+use fbl_trace::{Determinant, Member};
 use std::alloc::{AllocError, Allocator, Global};
 use std::marker::Model;
 
@@ -17,12 +17,12 @@ pub struct Receipts<A: Allocator = Global> {
 
 impl<A: Allocator> Model for Receipts<A> {
     ghost use Rattle.std.specs.Prelude.{List, Option};
-    ghost use Rattle.fbl_base.specs.declared.trace.Determinant.{Determinant};
+    ghost use Rattle.fbl_trace.specs.declared.trace.Determinant.{Determinant};
 
     ghost Value = { List (Option Determinant) };
 
     ghost use Rattle.std.specs.Coded.{coded_list, coded_option};
-    ghost use Rattle.fbl_base.specs.contracts.trace.Determinant as determinant;
+    ghost use Rattle.fbl_trace.specs.contracts.trace.Determinant as determinant;
 
     ghost coded = { coded_list (coded_option determinant.the_row.coded) };
 

@@ -6,7 +6,7 @@ ghost use Rattle.fbl_table.specs.Tables.{IsOnce, is_held, found, greatest_rsn, l
 
 use crate::entry::Entry;
 use crate::indexed::IndexedEntries;
-use fbl_base::{Determinant, Member, MemberSet};
+use fbl_trace::{Determinant, Member, MemberSet};
 use std::alloc::{AllocError, Allocator, Global};
 use std::marker::Model;
 

@@ -3,7 +3,7 @@
 use crate::members::first_receipt;
 use crate::texts::{LOST, dump};
 use fbl_base::audit::{Dump, check_dump, lost, orphans};
-use fbl_base::{Determinant, Member};
+use fbl_trace::{Determinant, Member};
 use std::alloc::{AllocError, Global};
 
 /// Whether an audit of the dump finds this receipt lost and no other, or none, and these orphans. `Err` is to come only where

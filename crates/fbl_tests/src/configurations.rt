@@ -1,6 +1,6 @@
 //! Configurations.
 
-use fbl_base::{Config, Member, Note, Start};
+use fbl_trace::{Config, Member, Note, Start};
 use std::alloc::{AllocError, Global};
 
 /// Whether a configuration is kept, and copied. `Err` is to come only where memory is refused.

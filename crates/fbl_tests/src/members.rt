@@ -2,7 +2,7 @@
 
 ghost use Rattle.std.specs.Prelude.{◌≡◌, ◌<◌, IfOk};
 
-use fbl_base::{Determinant, Member, MemberSet, Note, Start, Strike};
+use fbl_trace::{Determinant, Member, MemberSet, Note, Start, Strike};
 use std::test::Fail;
 
 /// The member with this number.

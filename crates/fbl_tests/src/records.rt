@@ -3,7 +3,7 @@
 ghost use Rattle.std.specs.Prelude.{◌<◌};
 
 use crate::members::first_receipt;
-use fbl_base::{Behaviour, Config, Determinant, Member, MemberSet, Note, Relay, Start};
+use fbl_trace::{Behaviour, Config, Determinant, Member, MemberSet, Note, Relay, Start};
 use fbl_member::{Carried, MemberRec, Wire};
 use fbl_table::Entry;
 use std::alloc::{AllocError, Global};

@@ -1,7 +1,7 @@
 //! Tables of determinants.
 
 use crate::members::first_receipt;
-use fbl_base::{Determinant, Member, MemberSet};
+use fbl_trace::{Determinant, Member, MemberSet};
 use fbl_table::{Entry, Table};
 use std::alloc::{AllocError, Global};
 

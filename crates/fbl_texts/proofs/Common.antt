@@ -16,13 +16,13 @@ pub use Rattle.std.specs.Str.{IsUtf8}
 pub use Rattle.fbl_audit.specs.Checking.{IsSafe, SaysUnsafe, IsLeftOrphan}
 pub use Rattle.fbl_audit.specs.declared.checking.UnsafeReceipt.{UnsafeReceipt}
 pub use Rattle.fbl_base.specs.Audit.{IsDump, Parts, RefusesDump, lost_determinants, parts_of}
-pub use Rattle.fbl_base.specs.Events.{receipts, At, receipt_of}
-pub use Rattle.fbl_base.specs.MemberSets.{AllBelow, member_list, Members}
-pub use Rattle.fbl_base.specs.declared.fault.Breach.{Breach}
+pub use Rattle.fbl_trace.specs.Events.{receipts, At, receipt_of}
+pub use Rattle.fbl_trace.specs.MemberSets.{AllBelow, member_list, Members}
+pub use Rattle.fbl_trace.specs.declared.fault.Breach.{Breach}
 pub use Rattle.fbl_base.specs.declared.refusal.DumpRefusal.{DumpRefusal}
-pub use Rattle.fbl_base.specs.declared.trace.Determinant.{Determinant}
-pub use Rattle.fbl_base.specs.declared.trace.Mark.{Mark}
-pub use Rattle.fbl_base.specs.declared.trace.Mark.TheVariants.{Receipt, Send}
+pub use Rattle.fbl_trace.specs.declared.trace.Determinant.{Determinant}
+pub use Rattle.fbl_trace.specs.declared.trace.Mark.{Mark}
+pub use Rattle.fbl_trace.specs.declared.trace.Mark.TheVariants.{Receipt, Send}
 pub use Rattle.fbl_input.proofs.Inputs.{over_input, refused}
 pub use Rattle.fbl_input.proofs.Lists.{elements_of, json_read}
 pub use Rattle.fbl_input.proofs.Outputs.{puts_front, puts_text}
@@ -47,7 +47,7 @@ pub use Rattle.fbl_texts.specs.declared.auditing.Verdict.{Verdict}
 pub use Rattle.fbl_texts.specs.declared.reading.DumpInput.{DumpInput}
 pub use Rattle.fbl_base.proofs.ClockLaws.{member_within}
 pub use Rattle.fbl_audit.specs.Paths.{IsPathTo}
-pub use Rattle.fbl_base.proofs.PrecedenceLaws.{depends-from_places, places-from_depends, Has-first, Has-last}
-pub use Rattle.fbl_base.specs.Precedence.{DependsOnPlace, Has}
-pub use Rattle.fbl_base.specs.Rules.{WellFormed}
+pub use Rattle.fbl_trace.proofs.PrecedenceLaws.{depends-from_places, places-from_depends, Has-first, Has-last}
+pub use Rattle.fbl_trace.specs.Precedence.{DependsOnPlace, Has}
+pub use Rattle.fbl_trace.specs.Rules.{WellFormed}
 pub use Rattle.fbl_texts.specs.declared.why.OrphanPath.{OrphanPath}

@@ -4,7 +4,7 @@ use Rattle.fbl_texts.proofs.Common.{option_map, Err, nat_cmp, nat_eq, nat_lt, ta
 use Rattle.fbl_texts.proofs.Common.{nat_cmp_total, append_assoc, Data, view, Value, AllBelow, all_shaped, number_within, list_of, member_shape, set_shape, list_data, number_data, elements_of, depth}
 use Rattle.fbl_texts.proofs.Common.{items_depth, items_of, has_float, items_have_float, RunFault, json_of, longest, or_fault, value_of_input, ◌>>=◌}
 use Rattle.std.specs.FinSet as set
-use Rattle.fbl_base.specs.MemberSets.{member_list}
+use Rattle.fbl_trace.specs.MemberSets.{member_list}
 use Rattle.fbl_input.specs.declared.fault.RunFault.TheVariants as faults
 
 -- one more value

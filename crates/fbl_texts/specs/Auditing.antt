@@ -7,9 +7,9 @@ use Rattle.fbl_audit.specs.Checking.{IsLeftOrphan, IsSafe, SaysUnsafe}
 use Rattle.fbl_audit.specs.Paths.{IsPathTo}
 use Rattle.fbl_audit.specs.declared.checking.UnsafeReceipt.{UnsafeReceipt}
 use Rattle.fbl_base.specs.Audit.{Parts, IsDumpOrphan, lost_determinants, holders_of}
-use Rattle.fbl_base.specs.Events.{At, receipt_of, receipts}
-use Rattle.fbl_base.specs.MemberSets.{Members}
-use Rattle.fbl_base.specs.declared.trace.Determinant.{Determinant}
+use Rattle.fbl_trace.specs.Events.{At, receipt_of, receipts}
+use Rattle.fbl_trace.specs.MemberSets.{Members}
+use Rattle.fbl_trace.specs.declared.trace.Determinant.{Determinant}
 use Rattle.fbl_input.specs.Faults.{OverInput, PutsOut}
 use Rattle.fbl_input.specs.declared.fault.RunFault.{RunFault}
 use Rattle.fbl_texts.specs.Dumps.{IsDumpFault, IsDumpOf}

@@ -3,11 +3,11 @@ use Rattle.std.specs.Prelude.{◌≡◌, ℕ, ◌+◌, ◌<◌, ◌==◌, List, 
 use Rattle.std.specs.Option.{option_or}
 use Rattle.serde_json.specs.Data.{Data}
 use Rattle.serde_json.specs.Find.{get, as_object}
-use Rattle.fbl_base.specs.declared.config.ConfigRefusal.TheVariants as config
-use Rattle.fbl_base.specs.declared.strike.Strike as planned
-use Rattle.fbl_base.specs.declared.trace.Note.{Note}
-use Rattle.fbl_base.specs.Configs.{Settings, IsConfig, RefusesConfig}
-use Rattle.fbl_base.specs.Steps.{has_few_hops}
+use Rattle.fbl_trace.specs.declared.config.ConfigRefusal.TheVariants as config
+use Rattle.fbl_trace.specs.declared.strike.Strike as planned
+use Rattle.fbl_trace.specs.declared.trace.Note.{Note}
+use Rattle.fbl_trace.specs.Configs.{Settings, IsConfig, RefusesConfig}
+use Rattle.fbl_trace.specs.Steps.{has_few_hops}
 use Rattle.fbl_input.specs.declared.fault.Key.TheVariants as keys
 use Rattle.fbl_input.specs.declared.fault.RunFault.{RunFault}
 use Rattle.fbl_input.specs.declared.fault.RunFault.TheVariants as faults

@@ -3,7 +3,7 @@ use Rattle.std.specs.Prelude.{ℕ, List, [], ◌∷◌, ◌++◌, codes, decimal
 use Rattle.std.specs.List.{flat_map}
 use Rattle.std.specs.Ordering.{nat_cmp}
 use Rattle.std.specs.FinSet as set
-use Rattle.fbl_base.specs.MemberSets.{member_list}
+use Rattle.fbl_trace.specs.MemberSets.{member_list}
 
 -- each number after a comma
 abbrev pub after_commas : List ℕ → List ℕ

@@ -3,7 +3,7 @@
 ghost use Rattle.std.specs.Prelude.{◌≡◌, ◌++◌, ◌↔◌, [], IfOk, IfSome, OnOk, string_bytes};
 ghost use Rattle.std.specs.List.{flat_map};
 ghost use Rattle.fbl_audit.specs.Checking.{IsSafe, SaysUnsafe};
-ghost use Rattle.fbl_base.specs.Events.{receipts};
+ghost use Rattle.fbl_trace.specs.Events.{receipts};
 ghost use Rattle.fbl_input.specs.Faults.{PutsOut};
 ghost use Rattle.fbl_texts.specs.Auditing.{Audits, IsAuditText, IsChecked, check_lines, unsafe_lines, verdict_of};
 ghost use Rattle.fbl_texts.specs.Lines.{audit_lines, determinant_line, determinant_words, orphans_line, outcome_line, unsafe_line};
@@ -12,7 +12,7 @@ use crate::reading::read_dump;
 use crate::sets::push_set;
 use fbl_audit::{UnsafeReceipt, unsafe_receipts};
 use fbl_base::audit::{Audit, Dump};
-use fbl_base::{Determinant, MemberSet};
+use fbl_trace::{Determinant, MemberSet};
 use fbl_input::{OutputFault, RunFault, put};
 use std::alloc::{AllocError, Global};
 use std::io::{Read, Write};

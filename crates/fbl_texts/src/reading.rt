@@ -12,7 +12,8 @@ ghost use Rattle.fbl_texts.specs.Dumps.{IsDumpOf, IsNoDump, parts_of_data, parts
 ghost use Rattle.fbl_texts.specs.RawDumps.{IsFormMisfit, IsNoRawDump, IsRawDumpOf, IsRefusalOf};
 
 use fbl_base::audit::{Dump, checked_dump};
-use fbl_base::{Determinant, Mark, Member, RawDump};
+use fbl_base::RawDump;
+use fbl_trace::{Determinant, Mark, Member};
 use fbl_input::shapes::{
     ByteShape, JsonShape, count_in, is_named, list_in, member_in, no_other_key, object_in,
     set_field, value_field, value_in, values_field,

@@ -3,7 +3,7 @@
 ghost use Rattle.std.specs.Prelude.{◌≡◌};
 ghost use Rattle.fbl_texts.specs.Scripts.{behaviour_word, is_second_version};
 
-use fbl_base::{Config, Member, MemberSet, Strike};
+use fbl_trace::{Config, Member, MemberSet, Strike};
 use std::fmt;
 use std::marker::Model;
 
@@ -57,12 +57,12 @@ pub struct Plan {
 
 impl Model for Plan {
     ghost use Rattle.std.specs.Prelude.{List};
-    ghost use Rattle.fbl_base.specs.declared.strike.Strike.{Strike};
+    ghost use Rattle.fbl_trace.specs.declared.strike.Strike.{Strike};
 
     ghost Value = { List Strike };
 
     ghost use Rattle.std.specs.Coded.{codes};
-    ghost use Rattle.fbl_base.specs.contracts.strike.Strike as strike;
+    ghost use Rattle.fbl_trace.specs.contracts.strike.Strike as strike;
 
     ghost coded = { Prim.hlevel (codes, strike.the_row.coded) };
 

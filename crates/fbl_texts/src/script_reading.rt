@@ -4,8 +4,8 @@ ghost use Rattle.std.specs.Prelude.{◌≡◌, ◌≤◌, map, IfOk, IfErr, IfSo
 ghost use Rattle.serde_json.specs.Data.{Data};
 ghost use Rattle.serde_json.specs.View.{view};
 ghost use Rattle.serde_json.specs.Find.{get};
-ghost use Rattle.fbl_base.specs.Configs.{IsConfig};
-ghost use Rattle.fbl_base.specs.Steps.{has_few_hops};
+ghost use Rattle.fbl_trace.specs.Configs.{IsConfig};
+ghost use Rattle.fbl_trace.specs.Steps.{has_few_hops};
 ghost use Rattle.fbl_input.specs.Items.{start_from};
 ghost use Rattle.fbl_input.specs.Misfits.{Gives, IsMisfit, IsOfShape};
 ghost use Rattle.fbl_input.specs.Shapes.{count_shape, field, field_or, name_of};
@@ -16,7 +16,7 @@ ghost use Rattle.fbl_texts.specs.Scripts.{IsNoScript, IsScriptMisfit, IsScriptOf
 use crate::commands::commands_in;
 use crate::reading::input_of;
 use crate::script::{BehaviourName, Command, Script, Version};
-use fbl_base::{Config, Note, Start};
+use fbl_trace::{Config, Note, Start};
 use fbl_input::shapes::{
     ByteShape, JsonShape, count_in, is_named, list_field, list_in, member_in, no_other_key,
     object_in, value_field, value_in, values_field,

@@ -3,7 +3,7 @@
 ghost use Rattle.std.specs.Prelude.{◌≡◌, ◌++◌, IfOk, OnOk, string_bytes};
 ghost use Rattle.fbl_texts.specs.Sets.{after_commas, with_commas, set_words};
 
-use fbl_base::{Member, MemberSet};
+use fbl_trace::{Member, MemberSet};
 use std::alloc::{AllocError, Global};
 
 /// Writes each member after a comma.

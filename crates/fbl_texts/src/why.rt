@@ -2,13 +2,13 @@
 
 ghost use Rattle.std.specs.Prelude.{◌≡◌, IfOk, MatchOption};
 ghost use Rattle.std.specs.List.{AllZip};
-ghost use Rattle.fbl_base.specs.Events.{At, receipt_of};
-ghost use Rattle.fbl_base.specs.Precedence.{Has};
+ghost use Rattle.fbl_trace.specs.Events.{At, receipt_of};
+ghost use Rattle.fbl_trace.specs.Precedence.{Has};
 ghost use Rattle.fbl_texts.specs.Auditing.{ArePathsFrom, IsLossReason, TellsLost, TellsUnsafe};
 
 use fbl_audit::{Paths, UnsafeReceipt, unsafe_receipts};
 use fbl_base::audit::{Audit, Dump};
-use fbl_base::{Determinant, Mark, Member, MemberSet};
+use fbl_trace::{Determinant, Mark, Member, MemberSet};
 use std::alloc::{AllocError, Global};
 use std::fmt;
 

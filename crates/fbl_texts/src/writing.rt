@@ -7,11 +7,11 @@ ghost use Rattle.serde_json.specs.View.{members_view, view};
 ghost use Rattle.serde_json.specs.Written.{compact_text};
 ghost use Rattle.fbl_input.specs.Shapes.{json_of, longest, member_shape};
 ghost use Rattle.fbl_texts.specs.Dumps.{event_shape, pair_shape, parts_of_data, parts_of_input};
-ghost use Rattle.fbl_base.specs.MemberSets.{member_list};
+ghost use Rattle.fbl_trace.specs.MemberSets.{member_list};
 ghost use Rattle.fbl_texts.specs.DumpLines.{IsWritable, common_data, dump_data, dump_line, ReadsBack, event_data, list_data, number_data, pair_data};
 
 use fbl_base::audit::Dump;
-use fbl_base::{Determinant, Mark, Member, MemberSet};
+use fbl_trace::{Determinant, Mark, Member, MemberSet};
 use serde_json::{Map, Value, put};
 use std::alloc::{AllocError, Global};
 

@@ -9,14 +9,14 @@ pub use Rattle.std.proofs.lemmas.List.Folds.{sum_by-replicate}
 pub use Rattle.std.proofs.lemmas.List.Sums.{sum_by_push}
 pub use Rattle.std.specs.Coded.{Coded-set, coded_ℕ, codes}
 pub use Rattle.std.specs.Ordering.{nat_cmp}
-pub use Rattle.fbl_base.proofs.Gets.{At-push, get_or-same}
-pub use Rattle.fbl_base.specs.Fold.{Next}
-pub use Rattle.fbl_base.specs.MemberSets.{Members}
-pub use Rattle.fbl_base.specs.declared.strike.Strike.{Strike}
+pub use Rattle.fbl_trace.proofs.Gets.{At-push, get_or-same}
+pub use Rattle.fbl_trace.specs.Fold.{Next}
+pub use Rattle.fbl_trace.specs.MemberSets.{Members}
+pub use Rattle.fbl_trace.specs.declared.strike.Strike.{Strike}
 pub use Rattle.fbl_answers.specs.declared.answers.Recovered.{Recovered}
 pub use Rattle.fbl_answers.specs.declared.record.CrashRecord.{CrashRecord}
 pub use Rattle.fbl_answers.specs.declared.record.TurnRecord.{TurnRecord}
-pub use Rattle.fbl_base.specs.declared.ticket.Ticket.{Ticket}
+pub use Rattle.fbl_trace.specs.declared.ticket.Ticket.{Ticket}
 pub use Rattle.fbl_law.specs.Groups.{GroupRecord}
 pub use mathlib.Core.Logic.{⊎_elim}
 pub use Rattle.fbl_turns.proofs.Keeping.{kept, sum-more}

@@ -1,6 +1,6 @@
 //! What a worker passes between taking a message and making the step.
 
-use fbl_base::Member;
+use fbl_trace::Member;
 
 /// A point that each worker passes between taking a message for a member and making the step, with no lock held and the
 /// member claimed.

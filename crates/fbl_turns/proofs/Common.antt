@@ -16,15 +16,15 @@ pub use Rattle.std.specs.Option.{is_none, is_some}
 pub use Rattle.std.specs.Ordering.{nat_cmp}
 pub use Rattle.atomic_table.proofs.Lists.{at_longer, at_set, at_snoc, set_again, set_else}
 pub use Rattle.atomic_table.specs.Table.{Allows, Joins, Splits, State, keeps}
-pub use Rattle.fbl_base.specs.Configs.{Settings}
-pub use Rattle.fbl_base.specs.Events.{mark_of, member_of}
-pub use Rattle.fbl_base.specs.Fold.{Next}
-pub use Rattle.fbl_base.specs.MemberSets.{Members, same_from_contains}
-pub use Rattle.fbl_base.specs.Breaches.{IsPlan, MayBeStruck, set_at}
-pub use Rattle.fbl_base.specs.Precedence.{Has}
-pub use Rattle.fbl_base.specs.declared.strike.Strike.{Strike}
-pub use Rattle.fbl_base.specs.declared.trace.Event.{Event}
-pub use Rattle.fbl_base.specs.declared.trace.Mark.{Mark}
+pub use Rattle.fbl_trace.specs.Configs.{Settings}
+pub use Rattle.fbl_trace.specs.Events.{mark_of, member_of}
+pub use Rattle.fbl_trace.specs.Fold.{Next}
+pub use Rattle.fbl_trace.specs.MemberSets.{Members, same_from_contains}
+pub use Rattle.fbl_trace.specs.Breaches.{IsPlan, MayBeStruck, set_at}
+pub use Rattle.fbl_trace.specs.Precedence.{Has}
+pub use Rattle.fbl_trace.specs.declared.strike.Strike.{Strike}
+pub use Rattle.fbl_trace.specs.declared.trace.Event.{Event}
+pub use Rattle.fbl_trace.specs.declared.trace.Mark.{Mark}
 pub use Rattle.fbl_group.proofs.Striking.{is_allowed}
 pub use Rattle.fbl_group.specs.Records.{Commits, IsPlannedCrash, IsRecoveryRecord, StrikeLeads, TurnLeads, TurnsLead}
 pub use Rattle.fbl_group.specs.Strikes.{Recovers, strike_refusal}
@@ -35,7 +35,7 @@ pub use Rattle.fbl_answers.specs.declared.record.RecoveryRecord.{RecoveryRecord}
 pub use Rattle.fbl_answers.specs.declared.record.TurnRecord.{TurnRecord}
 pub use Rattle.fbl_answers.specs.declared.refusals.CommitRefusal.{CommitRefusal}
 pub use Rattle.fbl_answers.specs.declared.refusals.CommitRefusal.TheVariants.{Down, Full, Memory, Stale}
-pub use Rattle.fbl_base.specs.declared.ticket.Ticket.{Ticket}
+pub use Rattle.fbl_trace.specs.declared.ticket.Ticket.{Ticket}
 pub use Rattle.fbl_law.specs.GroupSteps.{IsDelivery, IsStrike, delivery_events, IsEventCut, Stays}
 pub use Rattle.fbl_law.specs.Groups.{GroupRecord, knowledge, member}
 pub use Rattle.fbl_member.specs.Members.{Message}

@@ -1,12 +1,12 @@
 -- What a drain keeps of a group's past.
 use Rattle.std.specs.Prelude.{◌≡◌, ℕ, ◌+◌, ◌==◌, false, List, length, sum, take}
-use Rattle.fbl_base.specs.Fold.{Next}
+use Rattle.fbl_trace.specs.Fold.{Next}
 use Rattle.fbl_turns.specs.Runs.{Counts, Reached}
 use Rattle.std.specs.List.{filter}
-use Rattle.fbl_base.specs.declared.trace.Event.{Event}
-use Rattle.fbl_base.specs.Events.{mark_of, member_of}
+use Rattle.fbl_trace.specs.declared.trace.Event.{Event}
+use Rattle.fbl_trace.specs.Events.{mark_of, member_of}
 use Rattle.fbl_law.specs.Groups.{GroupRecord}
-use Rattle.fbl_base.specs.declared.strike.Strike.{Strike}
+use Rattle.fbl_trace.specs.declared.strike.Strike.{Strike}
 use Rattle.fbl_turns.specs.Plans.{is_named}
 
 -- the events of a member, in order

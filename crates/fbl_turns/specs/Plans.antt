@@ -2,8 +2,8 @@
 use Rattle.std.specs.Prelude.{◌==◌, ℕ, Bool, Option, option_map, List}
 use Rattle.std.specs.List.{list_any, find}
 use Rattle.std.specs.FinSet as set
-use Rattle.fbl_base.specs.MemberSets.{Members}
-use Rattle.fbl_base.specs.declared.strike.Strike.{Strike}
+use Rattle.fbl_trace.specs.MemberSets.{Members}
+use Rattle.fbl_trace.specs.declared.strike.Strike.{Strike}
 
 -- the set that the plan strikes at this number of receipts, if any
 abbrev pub struck_at : List Strike → ℕ → Option Members

@@ -1,8 +1,8 @@
 -- Runs of turns that are recorded: of each turn that made a receipt, what it did.
 use Rattle.std.specs.Prelude.{◌≡◌, ℕ, ◌+◌, ◌<◌, ◌==◌, Bool, List, [], ◌∷◌, ◌++◌, length, slice_get, slice_index, sum, sum_by, count_by, Option, Some, None, option_map, if◌then◌else◌}
-use Rattle.fbl_base.specs.Fold.{Next}
-use Rattle.fbl_base.specs.declared.strike.Strike.{Strike}
-use Rattle.fbl_base.specs.declared.ticket.Ticket.{Ticket}
+use Rattle.fbl_trace.specs.Fold.{Next}
+use Rattle.fbl_trace.specs.declared.strike.Strike.{Strike}
+use Rattle.fbl_trace.specs.declared.ticket.Ticket.{Ticket}
 use Rattle.fbl_law.specs.Groups.{GroupRecord, member}
 use Rattle.fbl_answers.specs.declared.record.TurnRecord.{TurnRecord}
 use Rattle.fbl_answers.specs.declared.record.CrashRecord.{CrashRecord}

@@ -1,10 +1,10 @@
 -- The records of a run's turns, where they are kept.
 use Rattle.std.specs.Prelude.{◌≡◌, ℕ, ◌<◌, Bool, true, false, length, List, ◌++◌, ◌∷◌, [], Vec, vec_len, vec_capacity, Option, Some, None, option_map}
 use Rattle.std.specs.Option.{ForSome}
-use Rattle.fbl_base.specs.Fold.{Next}
-use Rattle.fbl_base.specs.MemberSets.{Members}
-use Rattle.fbl_base.specs.declared.strike.Strike.{Strike}
-use Rattle.fbl_base.specs.declared.ticket.Ticket.{Ticket}
+use Rattle.fbl_trace.specs.Fold.{Next}
+use Rattle.fbl_trace.specs.MemberSets.{Members}
+use Rattle.fbl_trace.specs.declared.strike.Strike.{Strike}
+use Rattle.fbl_trace.specs.declared.ticket.Ticket.{Ticket}
 use Rattle.fbl_law.specs.Groups.{GroupRecord, member}
 use Rattle.fbl_answers.specs.declared.answers.Recovered.{Recovered}
 use Rattle.fbl_answers.specs.declared.answers.Struck.{Struck}

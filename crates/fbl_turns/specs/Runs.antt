@@ -1,12 +1,12 @@
 -- How a drain leads from one record of a group to another.
 use Rattle.std.specs.Prelude.{◌≡◌, ℕ, ◌+◌, ◌<◌, ◌⊎◌, Bool, true, false, List, Some, None, slice_index, slice_set}
 use Rattle.std.proofs.Math.ListN.{replicate}
-use Rattle.fbl_base.specs.MemberSets.{Members}
-use Rattle.fbl_base.specs.Fold.{Next}
-use Rattle.fbl_base.specs.declared.strike.Strike.{Strike}
+use Rattle.fbl_trace.specs.MemberSets.{Members}
+use Rattle.fbl_trace.specs.Fold.{Next}
+use Rattle.fbl_trace.specs.declared.strike.Strike.{Strike}
 use Rattle.fbl_law.specs.Groups.{GroupRecord}
 use Rattle.fbl_answers.specs.declared.answers.Recovered.{Recovered}
-use Rattle.fbl_base.specs.declared.ticket.Ticket.{Ticket}
+use Rattle.fbl_trace.specs.declared.ticket.Ticket.{Ticket}
 use Rattle.fbl_answers.specs.declared.refusals.CommitRefusal.TheVariants.{Full, Stale, Down}
 use Rattle.fbl_group.specs.Deliveries.{MayCommit, RefusesCommit}
 use Rattle.fbl_group.specs.Records.{Commits, IsPlannedCrash}

@@ -6,7 +6,7 @@ ghost use Rattle.fbl_turns.specs.Claims.{IsExclusive, Gains, GivesBack, Looks, H
 ghost use Rattle.atomic_table.specs.Seated.{TableId};
 
 use atomic_table::{Join, Play, Seat, Split, Table, TableRule};
-use fbl_base::Member;
+use fbl_trace::Member;
 use std::alloc::{AllocError, Allocator, Global};
 use std::marker::Model;
 use std::{fmt, mem};

@@ -3,7 +3,7 @@
 ghost use Rattle.std.specs.Prelude.{◌≡◌, ◌<◌, ◌≤◌, sum, IfOk, IfErr, OnOk, OnErr, MatchOption, None, Some, [], if◌then◌else◌};
 ghost use Rattle.std.specs.Option.{is_some};
 ghost use Rattle.fbl_law.specs.Groups.{IsSound};
-ghost use Rattle.fbl_base.specs.Breaches.{IsPlan};
+ghost use Rattle.fbl_trace.specs.Breaches.{IsPlan};
 ghost use Rattle.arrayvec.specs.ArrayVec.{array_vec_len};
 ghost use Rattle.fbl_group.specs.Deliveries.{RefusesCommit};
 ghost use Rattle.fbl_group.specs.Records.{Commits};
@@ -17,7 +17,7 @@ use crate::counted::{Drained, add};
 use crate::origin::Origin;
 use crate::plan::planned;
 use crate::recorder::{Records, keep, reserve};
-use fbl_base::{Behaviour, Member, MemberSet, Strike};
+use fbl_trace::{Behaviour, Member, MemberSet, Strike};
 use fbl_group::{
     CommitRefusal, CrashRecord, Done, Group, Recovered, RecoveryRecord, Struck, Ticket, TurnRecord,
 };

@@ -24,7 +24,7 @@ impl Workers for Brand {
 /// picks them.
 pub trait Origin<S, N>: Workers {
     ghost use Rattle.std.specs.Prelude.{Bool, List};
-    ghost use Rattle.fbl_base.specs.declared.strike.Strike.{Strike};
+    ghost use Rattle.fbl_trace.specs.declared.strike.Strike.{Strike};
     ghost use Rattle.fbl_law.specs.Groups.{GroupRecord};
 
     ghost start: { S → GroupRecord S N };

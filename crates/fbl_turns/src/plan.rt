@@ -3,7 +3,7 @@
 ghost use Rattle.std.specs.Prelude.{◌≡◌};
 ghost use Rattle.fbl_turns.specs.Plans.{struck_at};
 
-use fbl_base::{MemberSet, Strike};
+use fbl_trace::{MemberSet, Strike};
 
 /// The set that the plan strikes at this number of receipts.
 pub(crate) fn planned(plan: &[Strike], ever: u64) -> Option<MemberSet>

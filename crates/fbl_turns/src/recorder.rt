@@ -3,7 +3,7 @@
 ghost use Rattle.std.specs.Prelude.{◌≡◌, [], OnOk, Some, None, if◌then◌else◌};
 ghost use Rattle.fbl_turns.specs.Recorders.{recorded, with_record, HasRoom};
 
-use fbl_base::{Content, Exact};
+use fbl_trace::{Content, Exact};
 use fbl_group::TurnRecord;
 use std::alloc::{AllocError, Global};
 

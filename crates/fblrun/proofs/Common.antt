@@ -21,7 +21,7 @@ pub use Rattle.clap.specs.declared.parser.matches.ArgMatches.{ArgMatches}
 pub use Rattle.clap.specs.declared.parser.matches.ArgMatches.TheViews.{out-ArgMatches, out-SubCommand}
 pub use Rattle.clap.specs.declared.parser.matches.SubCommand.{SubCommand}
 pub use Rattle.fbl_base.proofs.AuditLaws.{or_false}
-pub use Rattle.fbl_base.specs.Configs.{WorkersAllowed}
+pub use Rattle.fbl_trace.specs.Configs.{WorkersAllowed}
 pub use Rattle.fbl_commands.specs.Steps.{is_refusal}
 pub use Rattle.fbl_commands.specs.declared.answer.Answer.{Answer}
 pub use Rattle.fbl_pictures.specs.HistoryPictures.{history_picture}

@@ -1,5 +1,5 @@
 -- The exit status of what was done, and whether a play was refused something.
-use Rattle.fbl_base.specs.declared.trace.Note.{Note}
+use Rattle.fbl_trace.specs.declared.trace.Note.{Note}
 use Rattle.fbl_order.specs.declared.parts.PartsFault.TheVariants as parts
 use Rattle.fblrun.specs.declared.merging.MergeFault.TheVariants as faults
 use Rattle.fblrun.proofs.Common.{DumpTask, EndsLogs, EndsMerged, MergeFault, RawDump, RawLog, RefusesLogMerge, RefusesMerge, inl, inr, keeps_itself, merge_status, refl, ◌⊎◌, ◌≡◌, ℕ, ◌||◌, ◌&&◌, not}

@@ -9,7 +9,7 @@ use crate::merging::{MergeExplanation, MergeFault, MergeLine, Parts};
 use crate::streams::Failure;
 use crate::{DumpTask, INPUT_FAULT, fail, status_of};
 use fbl_base::audit::Dump;
-use fbl_base::{Behaviour, Note};
+use fbl_trace::{Behaviour, Note};
 use fbl_commands::{Account, Answer};
 use fbl_group::Group;
 use fbl_input::{InputFault, RunFault};

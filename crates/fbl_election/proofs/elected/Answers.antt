@@ -2,8 +2,8 @@ use Rattle.std.proofs.Common.{◌≡◌, ℕ, zero, suc, ◌<◌, ◌≤◌, ◌
 use Rattle.std.proofs.lemmas.Bool.{cases_lt}
 use Rattle.std.specs.FinSet as set
 use Rattle.std.proofs.lemmas.Bool.Decides.{nat_tests}
-use Rattle.fbl_base.specs.declared.trace.Note.{Note}
-use Rattle.fbl_base.specs.Configs.{Settings}
+use Rattle.fbl_trace.specs.declared.trace.Note.{Note}
+use Rattle.fbl_trace.specs.Configs.{Settings}
 use Rattle.fbl_law.specs.Groups.{member, member_checkpoint, messages_in_flight, sum_below}
 use Rattle.fbl_election.specs.Elections.{greatest, has_greatest, brought-most, taken-most}
 use Rattle.fbl_election.specs.declared.candidate.Standing.{Standing}

@@ -4,10 +4,10 @@ use Rattle.std.proofs.lemmas.Bool.{cases_lt, eqb-true}
 use Rattle.std.proofs.lemmas.Bool.Decides.{nat_tests}
 use Rattle.std.proofs.lemmas.List.{get_or_past}
 use Rattle.std.proofs.lemmas.List.Sums.{get_or-le-sum_by}
-use Rattle.fbl_base.proofs.Gets.{get_or-same}
+use Rattle.fbl_trace.proofs.Gets.{get_or-same}
 use Rattle.fbl_law.proofs.Lists.{sum_below-none}
 use Rattle.fbl_law.specs.Groups.{member as record_of, sum_below, received_notes}
-use Rattle.fbl_base.specs.Fold.{state_after}
+use Rattle.fbl_trace.specs.Fold.{state_after}
 use Rattle.fbl_store.specs.Laws.{shard_value}
 use Rattle.fbl_store.specs.Shards.{shard_next}
 use Rattle.fbl_store.proofs.look_up.Goals as goal

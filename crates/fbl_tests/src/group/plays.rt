@@ -5,7 +5,7 @@ use super::steps::Step::{
     self, Checkpoint, Commit, Crash, Deliver, Dump, Ever, Recover, Strike, Take,
 };
 use super::steps::Verdict;
-use fbl_base::{Behaviour, Member, MemberSet, Mix, Note, Relay};
+use fbl_trace::{Behaviour, Member, MemberSet, Mix, Note, Relay};
 use fbl_group::{CommitRefusal, CrashRefusal, Done, Group, RecoverRefusal};
 use std::process::Abort;
 use std::test::Fail;

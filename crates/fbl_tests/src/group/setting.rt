@@ -1,6 +1,6 @@
 //! What groups are made of.
 
-use fbl_base::{Behaviour, Config, Member, Note, Start};
+use fbl_trace::{Behaviour, Config, Member, Note, Start};
 use fbl_group::Group;
 use std::alloc::{AllocError, Global};
 

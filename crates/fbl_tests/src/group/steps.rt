@@ -1,7 +1,7 @@
 //! Calls of a group, with the answers that are expected of them.
 
 use crate::members::{member, set};
-use fbl_base::{Behaviour, Note};
+use fbl_trace::{Behaviour, Note};
 use fbl_group::{
     CheckpointRefusal, CommitRefusal, CrashRefusal, DeliverRefusal, Done, DumpGroupRefusal, Group,
     Receipted, RecoverRefusal, Recovered, run_step,

@@ -2,7 +2,7 @@
 
 ghost use Rattle.std.specs.Prelude.{◌≡◌, true};
 
-use fbl_base::Member;
+use fbl_trace::Member;
 use fbl_threads::{Claim, ClaimRefusal, Claims};
 use std::test::Fail;
 

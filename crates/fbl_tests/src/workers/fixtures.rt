@@ -1,7 +1,7 @@
 //! Groups, and drains of them.
 
 use crate::members::{start, strike};
-use fbl_base::{Config, ConfigRefusal, Member, MemberSet, Relay, Start, Strike};
+use fbl_trace::{Config, ConfigRefusal, Member, MemberSet, Relay, Start, Strike};
 use fbl_group::Group;
 use fbl_threads::{DrainRefusal, Drained, NoGate, drain};
 use std::alloc::Global;

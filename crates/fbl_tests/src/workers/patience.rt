@@ -2,7 +2,7 @@
 
 use super::fixtures::{group, has_counts, has_states};
 use crate::members::start;
-use fbl_base::Member;
+use fbl_trace::Member;
 use fbl_threads::{Gate, drain};
 use std::sync::atomic::{AtomicBool, AtomicU64, Ordering};
 use std::test::Fail;

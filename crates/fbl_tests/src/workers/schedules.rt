@@ -5,7 +5,7 @@ use super::fixtures::{
     twelve_receipts,
 };
 use crate::members::{start, strike};
-use fbl_base::{Relay, Strike};
+use fbl_trace::{Relay, Strike};
 use fbl_group::Group;
 use fbl_threads::{DrainRefusal, Drained, NoGate, drain};
 use std::alloc::Global;

@@ -2,7 +2,7 @@
 
 use super::fixtures::{TURNS, group};
 use crate::members::start;
-use fbl_base::{Member, MemberSet, Relay};
+use fbl_trace::{Member, MemberSet, Relay};
 use fbl_group::{Group, Recovered};
 use fbl_threads::{NoGate, SharedGroup, drain};
 use std::test::Fail;

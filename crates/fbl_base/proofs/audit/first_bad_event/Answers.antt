@@ -1,6 +1,6 @@
 use Rattle.fbl_base.proofs.Common.{add-one, arith, refl, slice_get_read, take_all, take-take}
-use Rattle.fbl_base.proofs.Gets.{slice_get-take, take-more}
-use Rattle.fbl_base.proofs.RulesLaws.{WellFormed-none, WellFormed-push}
+use Rattle.fbl_trace.proofs.Gets.{slice_get-take, take-more}
+use Rattle.fbl_trace.proofs.RulesLaws.{WellFormed-none, WellFormed-push}
 use Rattle.fbl_base.proofs.audit.first_bad_event.Goals as goal
 
 pub loop-place-init : goal.loop-place-init

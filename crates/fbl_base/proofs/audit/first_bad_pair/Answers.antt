@@ -1,8 +1,8 @@
 use Rattle.fbl_base.proofs.Common.{ℕ, List, arith, refl, slice_get_read, Determinant, Mark, FitsPair}
-use Rattle.fbl_base.specs.Breaches.{BreaksPair}
-use Rattle.fbl_base.specs.declared.fault.PairRule.{PairRule}
-use Rattle.fbl_base.specs.declared.fault.PairRule.TheVariants as rules
-use Rattle.fbl_base.proofs.Gets.{each_all, each_more}
+use Rattle.fbl_base.specs.DumpBreaches.{BreaksPair}
+use Rattle.fbl_trace.specs.declared.fault.PairRule.{PairRule}
+use Rattle.fbl_trace.specs.declared.fault.PairRule.TheVariants as rules
+use Rattle.fbl_trace.proofs.Gets.{each_all, each_more}
 use Rattle.fbl_base.proofs.audit.first_bad_pair.Goals as goal
 
 unfit : (n : ℕ) (t : List Mark) (place holder : ℕ) (d : Determinant) (rule : PairRule) → BreaksPair n t place holder d rule → ¬ (FitsPair n t place holder d)

@@ -1,5 +1,5 @@
 use Rattle.fbl_base.proofs.Common.{append_assoc, arith, length, refl, slice_get_read}
-use Rattle.fbl_base.proofs.Gets.{drop_next}
+use Rattle.fbl_trace.proofs.Gets.{drop_next}
 use Rattle.fbl_base.proofs.audit.lost_by.Goals as goal
 
 pub loop-event-preserved : goal.loop-event-preserved

@@ -1,5 +1,5 @@
 use Rattle.std.proofs.Common.{◌≡◌, ◌+◌, ◌*◌, ◌%◌, suc, ap, refl, ◌∙◌, arith}
-use Rattle.fbl_base.specs.Steps.{modulus}
+use Rattle.fbl_trace.specs.Steps.{modulus}
 use Rattle.fbl_benchmark.specs.Circulation.{mixed}
 use Rattle.fbl_benchmark.proofs.long_circulate.mix_often.Goals as goal
 

@@ -1,5 +1,5 @@
 use Rattle.fbl_commands.proofs.Common.{◌≡◌, ◌++◌, ◌∙◌, ap, arith, member_line, of_members}
-use Rattle.fbl_base.specs.Configs.{Settings}
+use Rattle.fbl_trace.specs.Configs.{Settings}
 use Rattle.fbl_commands.specs.Texts.{total_lines}
 use Rattle.fbl_commands.proofs.answer.report_text.Goals as goal
 

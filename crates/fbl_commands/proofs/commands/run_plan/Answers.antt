@@ -1,4 +1,4 @@
-use Rattle.fbl_base.specs.declared.trace.Note.{Note}
+use Rattle.fbl_trace.specs.declared.trace.Note.{Note}
 use Rattle.fbl_commands.proofs.Common.{ℕ, List, Result, Ok, Err, Next, GroupRecord, RecordedDrains, IfErr, IfOk-weaker, Strike, Recorded, DrainRefusal, IsPlanRefused}
 use Rattle.fbl_threads.specs.declared.draining.DrainRefusal.TheVariants as drain
 use Rattle.fbl_commands.proofs.commands.run_plan.Goals as goal

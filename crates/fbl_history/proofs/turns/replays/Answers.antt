@@ -1,5 +1,5 @@
 use Rattle.std.proofs.Common.{append_assoc}
-use Rattle.fbl_base.specs.MemberSets.{member_list}
+use Rattle.fbl_trace.specs.MemberSets.{member_list}
 use Rattle.fbl_history.proofs.Common.{◌≡◌, ◌≤◌, ◌+◌, ◌-◌, suc, arith, append-nil, refl, ap}
 use Rattle.fbl_history.proofs.Following.{none-listed}
 use Rattle.fbl_history.proofs.turns.replays.Goals as goal

@@ -2,10 +2,10 @@ use Rattle.fbl_logs.proofs.Common.{ℕ, ◌≡◌, ◌≤◌, Option, Some, None
 use Rattle.std.proofs.Common.{MatchOption}
 use Rattle.std.specs.Option.{unwrap_or}
 use Rattle.fbl_base.specs.Audit.{RefusesDump}
-use Rattle.fbl_base.specs.Breaches.{IsDumpBreach}
-use Rattle.fbl_base.specs.declared.fault.Breach.{Breach}
-use Rattle.fbl_base.specs.declared.fault.Breach.TheVariants as breach
-use Rattle.fbl_base.specs.declared.fault.EventFault.{EventFault}
+use Rattle.fbl_base.specs.DumpBreaches.{IsDumpBreach}
+use Rattle.fbl_trace.specs.declared.fault.Breach.{Breach}
+use Rattle.fbl_trace.specs.declared.fault.Breach.TheVariants as breach
+use Rattle.fbl_trace.specs.declared.fault.EventFault.{EventFault}
 use Rattle.fbl_base.specs.declared.refusal.DumpRefusal.{DumpRefusal}
 use Rattle.fbl_base.specs.declared.refusal.DumpRefusal.TheVariants.{BadEvent, BadHeld}
 use Rattle.fbl_logs.specs.Lawful.{IsEventPlace}

@@ -1,6 +1,6 @@
 use Rattle.fbl_moments.proofs.Common.{arith, ap, ◌≡◌, ◌≤◌, subst, [], ◌∷◌, inl, inr, refl, append-nil, append_assoc, List, Entry, length, Some, slice_get, slice_get_read}
 use Rattle.std.proofs.lemmas.List.{drop_all}
-use Rattle.fbl_base.proofs.Gets.{drop_next}
+use Rattle.fbl_trace.proofs.Gets.{drop_next}
 use Rattle.fbl_moments.proofs.UnsafeLaws.{says_safe}
 use Rattle.fbl_moments.proofs.check.moments_of.Goals as goal
 

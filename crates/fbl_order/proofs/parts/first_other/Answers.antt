@@ -1,5 +1,5 @@
 use Rattle.fbl_order.proofs.Common.{ℕ, ◌≡◌, ◌∙◌, List, Some, refl, sym, arith, slice_get, slice_get_read, slice_get_within}
-use Rattle.fbl_base.proofs.Common.{below_more}
+use Rattle.fbl_trace.proofs.Common.{below_more}
 use Rattle.fbl_order.specs.Parts.{Agrees, AgreesAt, Differs}
 use Rattle.fbl_order.specs.declared.parts.Group.{Group}
 use Rattle.fbl_order.specs.declared.parts.PartsFault.{PartsFault}

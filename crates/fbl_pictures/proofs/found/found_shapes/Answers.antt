@@ -1,5 +1,5 @@
 use Rattle.fbl_pictures.proofs.Common.{ℕ, List, ◌≡◌, ◌∙◌, ap, length, refl, subst, sym, range_with_len, ArePaths, IsStart, column_in, placed_from, At, receipt_of, Origin, run_shapes}
-use Rattle.fbl_base.proofs.PrecedenceLaws.{places-from_depends}
+use Rattle.fbl_trace.proofs.PrecedenceLaws.{places-from_depends}
 use Rattle.fbl_pictures.proofs.Finding.{length-placed}
 use Rattle.fbl_pictures.specs.declared.entries.Placed.{Placed}
 use Rattle.fbl_pictures.proofs.found.found_shapes.Goals as goal

@@ -1,6 +1,6 @@
 use Rattle.fbl_reasons.proofs.Common.{arith, ap, sym, ◌≡◌, ◌∙◌, ◌≤◌, ◌↔◌, true, Members, subst, [], ◌∷◌, inl, inr, refl, append-nil, append_assoc, List, Entry, ℕ, length, Some, slice_get, slice_get_read, Cut, LosesAt, log_of, at, false≢true, Determinant}
 use Rattle.std.proofs.lemmas.List.{drop_all}
-use Rattle.fbl_base.proofs.Gets.{drop_next}
+use Rattle.fbl_trace.proofs.Gets.{drop_next}
 use Rattle.std.specs.FinSet as set
 use Rattle.fbl_logs.specs.Clocks.{PrecedesSome, cut_of}
 use Rattle.fbl_reasons.specs.LastMoments.{last_of}

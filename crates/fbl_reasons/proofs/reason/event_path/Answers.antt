@@ -2,8 +2,8 @@ use Rattle.fbl_reasons.proofs.Common.{ap, sym, subst, ◌≡◌, ◌∙◌, List
 use Rattle.std.proofs.Common.{IfNone, IfSome}
 use Rattle.fbl_audit.specs.Paths.{IsPathTo, Origin}
 use Rattle.fbl_base.specs.Audit.{Parts}
-use Rattle.fbl_base.specs.Events.{At}
-use Rattle.fbl_base.specs.Precedence.{DependsOnPlace, Has}
+use Rattle.fbl_trace.specs.Events.{At}
+use Rattle.fbl_trace.specs.Precedence.{DependsOnPlace, Has}
 use Rattle.fbl_reasons.proofs.PathLaws.{found_path, has_receipt}
 use Rattle.fbl_reasons.proofs.reason.event_path.Goals as goal
 use Rattle.fbl_reasons.proofs.reason.event_path.Goals.{After-events, in-Some+in_ok-path-in-Some, in-None}

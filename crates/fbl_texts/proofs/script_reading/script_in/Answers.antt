@@ -1,8 +1,8 @@
 use Rattle.fbl_texts.proofs.Common.{Breach, ◌≡◌, ◌∙◌, ap, inr, Ok, Result, ◌>>=◌, IsFirstFault, IsOfSettings, RunFault, refused, run_fault}
-use Rattle.fbl_base.specs.Configs.{RefusesConfig}
-use Rattle.fbl_base.specs.Steps.{has_few_hops}
-use Rattle.fbl_base.specs.declared.config.ConfigRefusal.{ConfigRefusal}
-use Rattle.fbl_base.specs.declared.config.ConfigRefusal.TheVariants.{Memory}
+use Rattle.fbl_trace.specs.Configs.{RefusesConfig}
+use Rattle.fbl_trace.specs.Steps.{has_few_hops}
+use Rattle.fbl_trace.specs.declared.config.ConfigRefusal.{ConfigRefusal}
+use Rattle.fbl_trace.specs.declared.config.ConfigRefusal.TheVariants.{Memory}
 use Rattle.fbl_input.specs.declared.misfit.InputKind.TheVariants.{Script}
 use Rattle.fbl_input.specs.declared.misfit.Misfit.TheVariants.{Config}
 use Rattle.fbl_texts.specs.Scripts.{Outline, RefusesScript, outline_of, outline_of_input, request_outline}

@@ -1,6 +1,6 @@
 use Rattle.fbl_base.proofs.Common.{arith, false≢true, slice_get_read}
 use Rattle.fbl_base.proofs.ClockLaws.{depends_right, has_first}
-use Rattle.fbl_base.proofs.Gets.{At-below}
+use Rattle.fbl_trace.proofs.Gets.{At-below}
 use Rattle.fbl_base.proofs.clocks.Clocks.depends.Goals as goal
 
 pub returns-then-place-events : goal.returns-then-place-events

@@ -1,6 +1,6 @@
 use Rattle.fbl_base.proofs.Common.{arith, false≢true, slice_get_read}
 use Rattle.fbl_base.proofs.ClockLaws.{has_first, has_last}
-use Rattle.fbl_base.proofs.Gets.{At-below}
+use Rattle.fbl_trace.proofs.Gets.{At-below}
 use Rattle.fbl_base.proofs.clocks.Clocks.precedes.Goals as goal
 
 pub returns-then-earlier-events : goal.returns-then-earlier-events

@@ -1,7 +1,8 @@
 use Rattle.fbl_base.proofs.Common.{ℕ, Bool, Option, Some, ◌≡◌, ◌==◌, ◌||◌, ◌&&◌, ◌∙◌, true, ap, cond, unwrap_or, arith, nat_tests, nat_cmp, nat_cmp_total, unsigned_tied}
 use Rattle.fbl_base.proofs.Common.{drop_all, length, refl, slice_get_read, same_determinant, Members, same_from_contains}
-use Rattle.fbl_base.proofs.Gets.{drop_next}
-use Rattle.fbl_base.proofs.AuditLaws.{Decides-same_determinant, contains-holders}
+use Rattle.fbl_trace.proofs.Gets.{drop_next}
+use Rattle.fbl_base.proofs.AuditLaws.{contains-holders}
+use Rattle.fbl_trace.proofs.RulesLaws.{Decides-same_determinant}
 use Rattle.std.specs.FinSet as set
 use Rattle.std.specs.HashMap as hash_map
 use Rattle.fbl_base.proofs.holders.Holders.of.Goals as goal

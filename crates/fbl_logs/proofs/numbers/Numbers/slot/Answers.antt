@@ -1,6 +1,6 @@
 use Rattle.fbl_logs.proofs.Common.{◌≡◌, ◌∙◌, ap, sym, refl, cond, length, Some, None, Determinant}
 use Rattle.std.proofs.Common.{rules, vec_len}
-use Rattle.fbl_base.specs.Events.{same_determinant}
+use Rattle.fbl_trace.specs.Events.{same_determinant}
 use Rattle.fbl_logs.specs.declared.numbers.Firsts.{Firsts}
 use Rattle.fbl_logs.specs.declared.numbers.Numbers.{Numbers}
 use Rattle.fbl_logs.specs.Numbers.{slot_of}

@@ -1,6 +1,6 @@
 use Rattle.fbl_order.proofs.Common.{ℕ, List, Mark, ◌≡◌, ◌<◌, ◌∙◌, ap, arith, length, refl, subst, sym, At-below, BreaksEvent, IsFirstAfter, IsNextAt}
 use Rattle.fbl_order.proofs.Common.{LacksMessage, Send, send_of}
-use Rattle.fbl_base.specs.declared.fault.EventRule.TheVariants.{NothingInFlight}
+use Rattle.fbl_trace.specs.declared.fault.EventRule.TheVariants.{NothingInFlight}
 use Rattle.fbl_order.proofs.MergeLaws.{cursor-next, has_run}
 use Rattle.fbl_order.proofs.Own.{cursor_at}
 use Rattle.fbl_order.proofs.merge.Merge.obstacle.Goals as goal

@@ -1,5 +1,0 @@
-use Rattle.fbl_base.proofs.PrecedenceLaws.{depends_push}
-use Rattle.fbl_base.proofs.laws.depends_law.Goals as goal
-
-pub returns : goal.returns
-returns c = depends_push

@@ -1,5 +1,0 @@
-use Rattle.fbl_base.proofs.LawfulLaws.{lawful_deliver}
-use Rattle.fbl_base.proofs.laws.lawful_delivery_law.Goals as goal
-
-pub returns : goal.returns
-returns g c = lawful_deliver

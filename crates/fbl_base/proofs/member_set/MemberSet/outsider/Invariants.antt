@@ -1,6 +1,0 @@
-use Rattle.fbl_base.proofs.Common.{◌≡◌, ℕ, ◌<◌, ◌≤◌, false}
-use Rattle.std.specs.FinSet as set
-use Rattle.fbl_base.proofs.member_set.MemberSet.outsider.Given as goal
-
-abbrev pub invariant-loop-number : goal.invariant-loop-number
-invariant-loop-number l = (k : ℕ) → l.n ≤ k → k < l.number → set.contains l.self k ≡ false

@@ -1,6 +1,0 @@
-use Rattle.std.proofs.lemmas.Result.{on_ok_weaker}
-use Rattle.fbl_base.proofs.RulesLaws.{counted_event}
-use Rattle.fbl_base.proofs.rules.Counts.add.Goals as goal
-
-pub returns : goal.returns
-returns g c = on_ok_weaker _ (counted_event c.args.n c.args.trace.now c.args.self.now _ c.requires.members c.requires.rules c.requires.counted c.args.event.now c.requires.may) c.count.ensures

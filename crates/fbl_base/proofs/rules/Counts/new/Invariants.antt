@@ -1,5 +1,0 @@
-use Rattle.fbl_base.proofs.Common.{◌≡◌, [], replicate}
-use Rattle.fbl_base.proofs.rules.Counts.new.Given as goal
-
-abbrev pub invariant-loop : goal.invariant-loop
-invariant-loop g l = l.channels.items ≡ replicate l.counter []

@@ -1,0 +1,11 @@
+pub mod Laws
+pub mod Configs
+pub mod Numeric
+pub mod Exactness
+pub mod Fold
+pub mod Steps
+pub mod Events
+pub mod Precedence
+pub mod Rules
+pub mod MemberSets
+pub mod Breaches

@@ -1,0 +1,31 @@
+//! Types, behaviours and the rules of a trace.
+#![tactic(auto)]
+
+mod behaviour;
+mod config;
+mod content;
+mod fault;
+pub mod laws;
+mod member;
+mod member_set;
+mod outcome;
+mod plan;
+mod rules;
+mod strike;
+mod ticket;
+mod trace;
+
+pub use behaviour::{Behaviour, Mix, Relay};
+pub use config::{Config, ConfigRefusal};
+pub use content::{Content, Exact};
+pub use fault::{
+    Breach, EntryRule, EventFault, EventRule, Outsider, PairFault, PairRule, PlanFault, StartRule,
+};
+pub use member::{LEAST_MEMBERS, MOST_MEMBERS, Member};
+pub use member_set::MemberSet;
+pub use outcome::Outcome;
+pub use plan::{first_bad_entry, plan_fault};
+pub use rules::Counts;
+pub use strike::Strike;
+pub use ticket::{Room, Ticket};
+pub use trace::{Determinant, Event, Mark, MessageName, Note, Start};
