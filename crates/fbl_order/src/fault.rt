@@ -8,7 +8,7 @@ use std::convert::From;
 use thiserror::Error;
 
 /// What keeps an event from coming where all its member's events before it have come.
-#[derive(Clone, Copy, PartialEq, Eq, Debug, Error)]
+#[derive(Clone, Copy, Debug, Error)]
 pub enum Obstacle {
     /// It breaks this rule, whichever other events have come.
     #[error(transparent)]
@@ -25,7 +25,7 @@ pub enum Obstacle {
 }
 
 /// The first event of its member that comes in no part of an order.
-#[derive(Clone, Copy, PartialEq, Eq, Debug, Error)]
+#[derive(Clone, Copy, Debug, Error)]
 #[error("event {place} is {event}, and {obstacle}")]
 pub struct Stuck {
     /// Its place, from 0, as the events were given.

@@ -6,7 +6,7 @@ use crate::trace::{Determinant, Mark, Start};
 use thiserror::Error;
 
 /// A member that is named where a group has fewer members.
-#[derive(Clone, Copy, PartialEq, Eq, Debug, Error)]
+#[derive(Clone, Copy, Debug, Error)]
 #[error("member {member} is outside the group, whose members are 0 to {}", .members.saturating_sub(1))]
 pub struct Outsider {
     pub member: Member,
@@ -15,7 +15,7 @@ pub struct Outsider {
 }
 
 /// Which rule a start breaks.
-#[derive(Clone, Copy, PartialEq, Eq, Debug, Error)]
+#[derive(Clone, Copy, Debug, Error)]
 pub enum StartRule {
     /// Each end is in the group: the first that isn't.
     #[error(transparent)]
@@ -29,7 +29,7 @@ pub enum StartRule {
 }
 
 /// Which rule an event breaks behind the events before it.
-#[derive(Clone, Copy, PartialEq, Eq, Debug, Error)]
+#[derive(Clone, Copy, Debug, Error)]
 pub enum EventRule {
     /// At most 8192 events.
     #[error("there may be at most 8192 events")]
@@ -59,7 +59,7 @@ pub enum EventRule {
 }
 
 /// The first event of a dump that breaks a rule: its place, from 0, what it is, and the first rule that it breaks.
-#[derive(Clone, Copy, PartialEq, Eq, Debug, Error)]
+#[derive(Clone, Copy, Debug, Error)]
 #[error("event {place} is {event}, and {rule}")]
 pub struct EventFault {
     pub place: usize,
@@ -68,7 +68,7 @@ pub struct EventFault {
 }
 
 /// Which rule a held pair breaks.
-#[derive(Clone, Copy, PartialEq, Eq, Debug, Error)]
+#[derive(Clone, Copy, Debug, Error)]
 pub enum PairRule {
     /// At most 131,072 pairs.
     #[error("there may be at most 131072 pairs")]
@@ -82,7 +82,7 @@ pub enum PairRule {
 }
 
 /// The first held pair of a dump that breaks a rule: its place, from 0, what it is, and the first rule that it breaks.
-#[derive(Clone, Copy, PartialEq, Eq, Debug, Error)]
+#[derive(Clone, Copy, Debug, Error)]
 #[error("held pair {place} is [{holder},{},{},{},{}], and {rule}", .determinant.from, .determinant.ssn, .determinant.to, .determinant.rsn)]
 pub struct PairFault {
     pub place: usize,
@@ -92,7 +92,7 @@ pub struct PairFault {
 }
 
 /// What a configuration or a dump is refused for, with the numbers that were given.
-#[derive(Clone, Copy, PartialEq, Eq, Debug, Error)]
+#[derive(Clone, Copy, Debug, Error)]
 pub enum Breach {
     #[error("members is {members}, and must be 2 to 16")]
     Members {
@@ -135,7 +135,7 @@ pub enum Breach {
 }
 
 /// Which rule an entry of a plan breaks.
-#[derive(Clone, Copy, PartialEq, Eq, Debug, Error)]
+#[derive(Clone, Copy, Debug, Error)]
 pub enum EntryRule {
     /// At most 64 entries.
     #[error("a plan has at most 64 entries")]
@@ -155,7 +155,7 @@ pub enum EntryRule {
 }
 
 /// The first entry of a plan that breaks a rule: its place, from 0, what it is, and the first rule that it breaks.
-#[derive(Clone, Copy, PartialEq, Eq, Debug, Error)]
+#[derive(Clone, Copy, Debug, Error)]
 #[error("entry {place} of the plan comes at {} and strikes {}, and {rule}", .entry.at, .entry.set)]
 pub struct PlanFault {
     pub place: usize,
