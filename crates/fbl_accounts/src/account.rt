@@ -1,5 +1,5 @@
-use fbl_trace::{Behaviour, Member, Note, Outcome};
 use fbl_law::step_laws::Conserving;
+use fbl_trace::{Behaviour, Member, Note, Outcome};
 
 /// A member whose state is a balance, at first 100 for the first member, 200 for the second, and so on. It takes a payment in and, if the message has hops left, pays half of the balance to
 /// the next account, with one hop fewer. A payment for which it has no room goes on to the next account.

@@ -10,9 +10,9 @@ mod account;
 
 use account::Account;
 use anyhow::{Result, ensure};
-use fbl_trace::{Config, Member, MemberSet, Note, Start, Strike};
 use fbl_group::Group;
 use fbl_threads::{DrainRefusal, Drained, NoGate, drain};
+use fbl_trace::{Config, Member, MemberSet, Note, Start, Strike};
 use std::alloc::Global;
 use std::sync::Wait;
 use std::thread::Threads;

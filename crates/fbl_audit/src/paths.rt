@@ -5,8 +5,8 @@ ghost use Rattle.fbl_base.specs.Audit.{IsDumpOrphan, IsOrphanStart, orphan_start
 ghost use Rattle.fbl_trace.specs.Precedence.{DependsOnPlace, PlacePrecedes};
 ghost use Rattle.fbl_audit.specs.Paths.{AreEnds, IsBefore, IsEndBy, IsOrphanPath, IsPathTo};
 
-use fbl_trace::Member;
 use fbl_base::audit::Audit;
+use fbl_trace::Member;
 use std::alloc::{AllocError, Global};
 use std::marker::Model;
 

@@ -19,7 +19,10 @@ use crate::clocks::Clocks;
 use crate::holders::Holders;
 use crate::raw_dump::RawDump;
 use crate::refusal::DumpRefusal;
-use fbl_trace::{Breach, Counts, Determinant, EventFault, LEAST_MEMBERS, MOST_MEMBERS, Mark, Member, MemberSet, Outsider, PairFault, PairRule};
+use fbl_trace::{
+    Breach, Counts, Determinant, EventFault, LEAST_MEMBERS, MOST_MEMBERS, Mark, Member, MemberSet,
+    Outsider, PairFault, PairRule,
+};
 use std::alloc::{AllocError, Allocator, Global};
 use std::collections::HashSet;
 use std::hash::{BuildHasherDefault, FoldHasher};

@@ -4,8 +4,8 @@ ghost use Rattle.std.specs.Prelude.{◌≡◌, ◌<◌};
 
 use crate::times::{microseconds_since, print_rate};
 use anyhow::Result;
-use fbl_trace::Member;
 use fbl_threads::{Claims, Pass};
+use fbl_trace::Member;
 use std::sync::{Mutex, Wait};
 use std::time::Instant;
 

@@ -4,8 +4,8 @@ use crate::circulate::Circulate;
 use crate::ring::{NOTE, deliver_many, group_of, next_member};
 use crate::times::{TRIES, microseconds_since, print_rate};
 use anyhow::Result;
-use fbl_trace::{Member, MemberSet};
 use fbl_group::Group;
+use fbl_trace::{Member, MemberSet};
 use std::time::Instant;
 
 /// The sizes of the groups, each with how many members may be lost at once.

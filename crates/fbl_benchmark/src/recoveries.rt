@@ -5,8 +5,8 @@ use crate::long_circulate::LongCirculate;
 use crate::ring::{NOTE, deliver_many, group_of, next_member};
 use crate::times::{TRIES, microseconds_since, print_rate};
 use anyhow::Result;
-use fbl_trace::{Behaviour, Member, MemberSet, Note};
 use fbl_group::{Group, Recovered};
+use fbl_trace::{Behaviour, Member, MemberSet, Note};
 use std::time::Instant;
 
 /// How many members the group has.

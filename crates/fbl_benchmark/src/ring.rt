@@ -1,8 +1,8 @@
 //! Groups with messages that go round, and deliveries of one that does.
 
 use anyhow::Result;
-use fbl_trace::{Behaviour, Config, Member, Note, Start};
 use fbl_group::{DeliverRefusal, Group};
+use fbl_trace::{Behaviour, Config, Member, Note, Start};
 use std::alloc::{AllocError, Global};
 
 /// How many events a trace may have here.

@@ -4,8 +4,8 @@ use crate::ring::{LIMIT, group_of};
 use crate::spread::Spread;
 use crate::times::{TRIES, microseconds_since, print_rate};
 use anyhow::Result;
-use fbl_trace::{Member, Note};
 use fbl_group::{DeliverRefusal, Group};
+use fbl_trace::{Member, Note};
 use std::time::Instant;
 
 /// How many members the group has.

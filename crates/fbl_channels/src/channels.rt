@@ -7,8 +7,8 @@ ghost use Rattle.std.specs.FinSet as set;
 ghost use Rattle.fbl_law.specs.Groups.{HasChannels, channel_in, sum_below, messages_in};
 ghost use Rattle.fbl_channels.specs.Channels.{AreReplaced, each, rows, room_in, with_at, with_sent, taken_and_sent, send_of_message, value_of, values_in};
 
-use fbl_trace::{Event, Member, MemberSet, Note};
 use fbl_member::Wire;
+use fbl_trace::{Event, Member, MemberSet, Note};
 use std::alloc::{AllocError, Allocator};
 use std::collections::VecDeque;
 use std::mem;

@@ -1,10 +1,10 @@
 //! What a command did beside what its lines say, in words for a person.
 
 use crate::answer::Answer;
-use fbl_trace::{Determinant, Strike};
 use fbl_group::{CrashRecord, Recovered};
 use fbl_texts::Command;
 use fbl_threads::{Drained, Recorded};
+use fbl_trace::{Determinant, Strike};
 use std::fmt;
 
 /// A command's place and words with what it did beside what its lines say, as in `command 7, deliver to 1 from 2: nothing is in

@@ -9,10 +9,10 @@ ghost use Rattle.fbl_texts.specs.Sets.{set_words};
 
 use crate::reason::Reason;
 use fbl_base::audit::{Audit, Dump};
-use fbl_trace::{Behaviour, Determinant, Member, MemberSet, Note, PlanFault};
 use fbl_group::{DumpGroupRefusal, Group, Receipted, Recovered, Struck};
 use fbl_texts::{dump_text, set_text};
 use fbl_threads::{Drained, Recorded};
+use fbl_trace::{Behaviour, Determinant, Member, MemberSet, Note, PlanFault};
 use std::alloc::{AllocError, Global};
 
 /// What a command did: what its lines say, before it is text, and what they don't. The states and the report are those of the

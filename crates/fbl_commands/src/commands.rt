@@ -12,10 +12,10 @@ use crate::answer::Answer;
 use crate::reason::{
     Reason, checkpoint_reason, deliver_reason, no_such_member, run_reason, strike_reason,
 };
-use fbl_trace::{Behaviour, Determinant, Member, MemberSet, Note, Strike};
 use fbl_group::{CheckpointRefusal, DeliverRefusal, DumpGroupRefusal, Group, RecoverRefusal};
 use fbl_texts::{Command, Plan};
 use fbl_threads::{DrainRefusal, NoGate, Recorded, drain_recorded};
+use fbl_trace::{Behaviour, Determinant, Member, MemberSet, Note, Strike};
 use std::alloc::{AllocError, Global};
 use std::sync::Wait;
 use std::thread::Threads;

@@ -4,9 +4,9 @@ ghost use Rattle.std.specs.Prelude.{◌≡◌};
 ghost use Rattle.fbl_commands.specs.Reasons.{IsPlanRefused, IsRunReason};
 ghost use Rattle.fbl_commands.specs.Reasons.{checkpoint_reason as checkpoint_reason_of, deliver_reason as deliver_reason_of, no_such_member as no_member_of, strike_reason as strike_reason_of};
 
-use fbl_trace::{Behaviour, Member, MemberSet, Note, PlanFault, Strike, plan_fault};
 use fbl_group::{CheckpointRefusal, DeliverRefusal, Group, StrikeRefusal};
 use fbl_threads::DrainRefusal;
+use fbl_trace::{Behaviour, Member, MemberSet, Note, PlanFault, Strike, plan_fault};
 use std::fmt;
 use thiserror::Error;
 

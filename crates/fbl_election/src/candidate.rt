@@ -1,5 +1,5 @@
-use fbl_trace::{Behaviour, Exact, Member, Note, Outcome};
 use fbl_law::step_laws::{Keeping, LosingNone, Weighing};
+use fbl_trace::{Behaviour, Exact, Member, Note, Outcome};
 
 /// What a candidate knows.
 #[derive(Clone, Copy, PartialEq, Debug)]

@@ -12,9 +12,9 @@ mod candidate;
 
 use anyhow::{Result, ensure};
 use candidate::Candidate;
-use fbl_trace::{Config, Member, MemberSet, Note, Start, Strike};
 use fbl_group::Group;
 use fbl_threads::{DrainRefusal, Drained, NoGate, drain};
+use fbl_trace::{Config, Member, MemberSet, Note, Start, Strike};
 use std::alloc::Global;
 use std::sync::Wait;
 use std::thread::Threads;

@@ -8,8 +8,8 @@ ghost use Rattle.fbl_group.specs.Deliveries.{Delivers, IsPlanned, has_no_room, t
 use crate::group::Group;
 use crate::ticket::Done;
 use fbl_answers::{CommitRefusal, Receipted, TakeRefusal};
-use fbl_trace::{Behaviour, Content, Exact, Member, Ticket};
 use fbl_member::{MemberRec, Wire};
+use fbl_trace::{Behaviour, Content, Exact, Member, Ticket};
 use std::alloc::{AllocError, Allocator};
 
 impl<B: Behaviour, A: Allocator + Copy> Group<B, A> {

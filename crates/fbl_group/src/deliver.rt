@@ -8,8 +8,8 @@ ghost use Rattle.fbl_answers.specs.Refusals.{of_commit as of_commit_refusal};
 use crate::group::Group;
 use crate::ticket::{Done, run_step};
 use fbl_answers::{CommitRefusal, DeliverRefusal, Receipted};
-use fbl_trace::{Behaviour, Event, Member, Outcome};
 use fbl_member::{MemberRec, Wire};
+use fbl_trace::{Behaviour, Event, Member, Outcome};
 use std::alloc::{AllocError, Allocator};
 
 impl<B: Behaviour, A: Allocator + Copy> Group<B, A> {

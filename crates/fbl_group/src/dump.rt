@@ -12,11 +12,11 @@ ghost use Rattle.fbl_group.specs.Readers.{IsDumpRefusal};
 
 use crate::group::Group;
 use fbl_answers::DumpGroupRefusal;
-use fbl_base::audit::Dump;
 use fbl_base::RawDump;
-use fbl_trace::{Behaviour, Content, Determinant, Event, Mark, Member, MemberSet};
+use fbl_base::audit::Dump;
 use fbl_member::MemberRec;
 use fbl_table::Table;
+use fbl_trace::{Behaviour, Content, Determinant, Event, Mark, Member, MemberSet};
 use std::alloc::{AllocError, Allocator};
 
 impl<B: Behaviour, A: Allocator + Copy> Group<B, A> {

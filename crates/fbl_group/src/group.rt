@@ -2,9 +2,9 @@
 
 ghost use Rattle.std.specs.Prelude.{◌≡◌, ℕ, ◌<◌, length, IfOk, IsTrue, ◌↔◌};
 
-use fbl_trace::{Behaviour, Config, Event, MemberSet};
 use fbl_channels::Channels;
 use fbl_member::MemberRec;
+use fbl_trace::{Behaviour, Config, Event, MemberSet};
 use std::alloc::{Allocator, Global};
 use std::marker::{Model, PhantomData};
 

@@ -12,9 +12,9 @@ ghost use Rattle.fbl_group.specs.Readers.{is_quiet as is_quiet_now};
 ghost use Rattle.fbl_group.specs.Theorem.{HasNoOrphan, IsRecoverable};
 
 use crate::group::Group;
-use fbl_trace::{Behaviour, Config, Event, Member, MemberSet, Note};
 use fbl_member::MemberRec;
 use fbl_table::Table;
+use fbl_trace::{Behaviour, Config, Event, Member, MemberSet, Note};
 use std::alloc::Allocator;
 
 impl<B: Behaviour, A: Allocator + Copy> Group<B, A> {

@@ -7,9 +7,9 @@ ghost use Rattle.fbl_member.specs.Members.{blank};
 ghost use Rattle.fbl_law.specs.GroupSteps.{stays_by};
 ghost use Rattle.fbl_group.specs.Strikes.{AreRecordsReplaced};
 
-use fbl_trace::{Behaviour, Event, Mark, Member, MemberSet};
 use fbl_member::MemberRec;
 use fbl_table::{Receipts, Table};
+use fbl_trace::{Behaviour, Event, Mark, Member, MemberSet};
 use std::alloc::Allocator;
 use std::mem;
 

@@ -11,9 +11,9 @@ ghost use Rattle.fbl_group.specs.Strikes.{AreByNumber, AreReplaying, Tries, Roun
 
 use crate::group::Group;
 use crate::rebuilt::Rebuilt;
-use fbl_trace::{Behaviour, Determinant, Member};
 use fbl_member::MemberRec;
 use fbl_table::{Receipts, Table};
+use fbl_trace::{Behaviour, Determinant, Member};
 use std::alloc::{AllocError, Allocator};
 use std::mem;
 

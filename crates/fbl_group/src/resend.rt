@@ -9,10 +9,10 @@ ghost use Rattle.fbl_channels.specs.Channels.{rows};
 ghost use Rattle.fbl_group.specs.Strikes.{AreSentAgain};
 
 use crate::group::Group;
-use fbl_trace::{Behaviour, Member};
 use fbl_channels::{Channel, Channels, has_either};
 use fbl_member::{Carried, MemberRec, Wire};
 use fbl_table::Table;
+use fbl_trace::{Behaviour, Member};
 use std::alloc::{AllocError, Allocator};
 use std::collections::VecDeque;
 

@@ -9,9 +9,9 @@ ghost use Rattle.fbl_law.specs.Groups.{HasChannels, channel_in};
 ghost use Rattle.fbl_channels.specs.Channels.{rows};
 
 use crate::group::Group;
-use fbl_trace::{Behaviour, Config, Content, Event, Mark, Member, MemberSet, Start};
 use fbl_channels::{Channels, empty_channels};
 use fbl_member::{Carried, Wire, fresh_members};
+use fbl_trace::{Behaviour, Config, Content, Event, Mark, Member, MemberSet, Start};
 use std::alloc::{AllocError, Allocator};
 use std::marker::PhantomData;
 

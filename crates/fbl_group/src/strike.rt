@@ -12,9 +12,9 @@ ghost use Rattle.fbl_group.specs.Theorem.{HasNoOrphan};
 
 use crate::group::Group;
 use fbl_answers::{StrikeRefusal, Struck};
-use fbl_trace::{Behaviour, Content, Determinant, Event, Member, MemberSet};
 use fbl_channels::{Channels, has_either};
 use fbl_member::MemberRec;
+use fbl_trace::{Behaviour, Content, Determinant, Event, Member, MemberSet};
 use std::alloc::{AllocError, Allocator};
 
 impl<B: Behaviour, A: Allocator + Copy> Group<B, A> {

@@ -10,8 +10,8 @@ ghost use Rattle.fbl_history.specs.declared.column.Column.TheVariants.{Strike, C
 use crate::column::Column;
 use crate::states::trace_columns;
 use crate::turns::{add_turn, replays};
-use fbl_trace::{Behaviour, Config, Member, MemberSet, Note};
 use fbl_group::{Group, TurnRecord};
+use fbl_trace::{Behaviour, Config, Member, MemberSet, Note};
 use std::alloc::{AllocError, Global};
 use std::marker::Model;
 

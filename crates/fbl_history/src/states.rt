@@ -6,9 +6,9 @@ ghost use Rattle.fbl_history.specs.Replays.{HaveReplayed};
 ghost use Rattle.fbl_history.specs.Traces.{trace_columns as columns_of_trace, event_column, state_after_receipt};
 
 use crate::column::Column;
-use fbl_trace::{Behaviour, Determinant, Event, Note};
 use fbl_group::Group;
 use fbl_member::{MemberRec, fresh_members};
+use fbl_trace::{Behaviour, Determinant, Event, Note};
 use std::alloc::{AllocError, Global};
 
 /// Lets the receipt at this place of the group's trace be replayed, and answers the receiver's state after it.

@@ -7,8 +7,8 @@ ghost use Rattle.fbl_history.specs.Traces.{replays_of};
 ghost use Rattle.fbl_history.specs.Turns.{is_beyond as is_beyond_in, undone_beyond, step_columns, IsAfterCrash, IsAfterTurn};
 
 use crate::column::{Column, Replay};
-use fbl_trace::{Behaviour, Member, MemberSet, Note, Outcome, Ticket};
 use fbl_group::{CrashRecord, Group, RecoveryRecord, TurnRecord, run_step};
+use fbl_trace::{Behaviour, Member, MemberSet, Note, Outcome, Ticket};
 use std::alloc::{AllocError, Global};
 
 /// Adds what a turn made, and what its planned crash struck, undid and brought back. The group is one to which the turn has led, so

@@ -18,7 +18,7 @@ use std::alloc::{AllocError, Global};
 use std::fmt;
 
 /// What is told of an input beside its fault.
-#[derive(Debug, Drop)]
+#[derive(Drop)]
 enum Detail {
     Nothing,
     /// It is an input of this kind, and not of the one that is wanted.
@@ -30,7 +30,7 @@ enum Detail {
 }
 
 /// Why an input is not taken, in words for a person.
-#[derive(Debug, Drop)]
+#[derive(Drop)]
 pub struct Explanation<'a> {
     fault: &'a InputFault,
     detail: Detail,

@@ -5,8 +5,8 @@ ghost use Rattle.fbl_input.specs.declared.misfit.Misfit.TheVariants.{Memory};
 
 use crate::fault::{Key, RunFault};
 use fbl_base::DumpRefusal;
-use fbl_trace::{Breach, ConfigRefusal};
 use fbl_logs::LogBreach;
+use fbl_trace::{Breach, ConfigRefusal};
 use serde_json::Error as JsonError;
 use std::alloc::{AllocError, AllocFailed};
 use std::fmt;
@@ -105,7 +105,7 @@ impl InputKind {
 }
 
 /// How a command is written. `Any` stands where no command is named, and `NoCheckpoint` where version 1 names one.
-#[derive(Clone, Copy, PartialEq, Eq, Debug)]
+#[derive(Clone, Copy)]
 pub enum CommandForm {
     Deliver,
     States,
@@ -145,10 +145,8 @@ impl fmt::Display for CommandForm {
     }
 }
 
-impl std::error::Error for CommandForm {}
-
 /// The first fault of an input. The faults are tested in the order of `RunFault`.
-#[derive(Debug, Drop)]
+#[derive(Drop)]
 pub enum Misfit {
     /// A read failed. An interrupted read is tried again, at most 1000 times in all, and then counts as failed.
     Read,

@@ -10,7 +10,7 @@ use std::fmt;
 const MARK: &[u8] = b"\xef\xbb\xbf";
 
 /// What stands where the reader of JSON stopped.
-#[derive(Debug, Drop)]
+#[derive(Drop)]
 pub(crate) enum Stop {
     /// A byte order mark, at the start.
     ByteOrderMark,

@@ -8,8 +8,8 @@ ghost use Rattle.fbl_member.specs.Stored.{HasRoom, HasRooms};
 
 use crate::carried::Carried;
 use crate::wire::Wire;
-use fbl_trace::Member;
 use fbl_table::{Entry, Table};
+use fbl_trace::Member;
 use std::alloc::{AllocError, Allocator};
 
 /// Room for the messages of a step, and a list for each with room for what it carries.

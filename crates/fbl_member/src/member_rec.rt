@@ -7,8 +7,8 @@ ghost use Rattle.fbl_member.specs.Members.{fresh, blank, last_from, next_determi
 
 use crate::buffers::Buffers;
 use crate::wire::Wire;
-use fbl_trace::{Behaviour, Config, Content, Determinant, Member, Note, Outcome};
 use fbl_table::Table;
+use fbl_trace::{Behaviour, Config, Content, Determinant, Member, Note, Outcome};
 use std::alloc::{AllocError, Allocator, Global};
 use std::marker::Model;
 

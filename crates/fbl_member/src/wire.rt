@@ -4,8 +4,8 @@ ghost use Rattle.std.specs.Prelude.{◌≡◌, IfSome};
 ghost use Rattle.fbl_member.specs.Carried.{IsOnce};
 
 use crate::carried::Carried;
-use fbl_trace::{Member, Note};
 use fbl_table::Entry;
+use fbl_trace::{Member, Note};
 use std::alloc::{Allocator, Global};
 use std::marker::Model;
 

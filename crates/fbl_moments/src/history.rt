@@ -8,8 +8,8 @@ ghost use Rattle.fbl_logs.specs.HappenedBefore.{Position, Precedes, at};
 ghost use Rattle.fbl_moments.specs.Histories.{IsFirstAfter, IsLeastMomentOfReceipt};
 ghost use Rattle.fbl_logs.specs.Logs.{IsLog};
 
-use fbl_trace::{Member, MemberSet};
 use fbl_logs::{Advance, Clock, Clocks, Entry, Index, RunLog};
+use fbl_trace::{Member, MemberSet};
 use std::alloc::{AllocError, Global};
 use std::marker::Model;
 

@@ -3,8 +3,8 @@
 ghost use Rattle.std.specs.Prelude.{◌≡◌, ◌<◌, ◌≤◌, ℕ, length, slice_index_or};
 ghost use Rattle.fbl_order.specs.Cursors.{IsFirstFrom, IsLeastGiven};
 
-use fbl_trace::{Mark, Member};
 use fbl_logs::Entry;
+use fbl_trace::{Mark, Member};
 
 /// What stands in the log of a member.
 pub(crate) trait Logged {

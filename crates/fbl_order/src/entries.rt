@@ -10,8 +10,8 @@ ghost use Rattle.fbl_order.specs.Orders.{SameLogs};
 ghost use Rattle.fbl_order.specs.Placings.{IsLeastNextEntry, IsPlacing, MayComeNext};
 
 use crate::cursors::{firsts_of, least_cursor, next_of};
-use fbl_trace::Mark;
 use fbl_logs::Entry;
+use fbl_trace::Mark;
 use std::alloc::{AllocError, Global};
 
 /// The sends and receipts among the entries of a log.

@@ -1,8 +1,8 @@
 //! Why the events of a run have no order.
 
 use fbl_base::DumpRefusal;
-use fbl_trace::{Breach, EventRule, Mark};
 use fbl_logs::LogBreach;
+use fbl_trace::{Breach, EventRule, Mark};
 use std::alloc::{AllocError, Allocator, Global};
 use std::convert::From;
 use thiserror::Error;

@@ -7,8 +7,8 @@ ghost use Rattle.fbl_order.specs.declared.fault.LogOrderFault.TheVariants.{Log};
 
 use crate::fault::{LogOrderFault, Obstacle, Stuck};
 use fbl_base::DumpRefusal;
-use fbl_trace::{Breach, EventFault};
 use fbl_logs::{LogBreach, RecordFault};
+use fbl_trace::{Breach, EventFault};
 
 /// The place at which what has this number was given.
 fn given(places: &[usize], number: usize) -> usize

@@ -13,8 +13,8 @@ use crate::entries::{Events, at_places, placed};
 use crate::fault::{LogOrderFault, OrderFault};
 use crate::given::given_chain;
 use crate::placing::order;
-use fbl_trace::Mark;
 use fbl_logs::{Entry, LogBreach, RawLog, RunLog, checked_log};
+use fbl_trace::Mark;
 use std::alloc::Global;
 
 /// A log whose entries were put in an order.

@@ -7,8 +7,8 @@ ghost use Rattle.fbl_order.specs.Parts.{Agrees, AgreesAt, Differs, IsFirstOther,
 ghost use Rattle.fbl_order.specs.Parts.{AreOrigins, IsPlaceIn, IsUnited, IsUnitedLog};
 
 use fbl_base::RawDump;
-use fbl_trace::MemberSet;
 use fbl_logs::{EntryOrigin, RawLog};
+use fbl_trace::MemberSet;
 use std::alloc::{AllocError, Allocator, Global};
 use std::convert::From;
 use thiserror::Error;

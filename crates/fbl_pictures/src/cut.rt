@@ -6,8 +6,8 @@ ghost use Rattle.fbl_reasons.specs.Reasons.{cut_in};
 ghost use Rattle.fbl_pictures.specs.Crossings.{AreCrossings, HasPassed, IsCrossing};
 
 use crate::columns::Columns;
-use fbl_trace::Member;
 use fbl_logs::Entry;
+use fbl_trace::Member;
 
 /// What a pass over entries knows of a cut of them.
 #[derive(Drop)]

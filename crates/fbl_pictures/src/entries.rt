@@ -7,8 +7,8 @@ ghost use Rattle.fbl_logs.specs.declared.entry.Entry.TheVariants.{Event};
 ghost use Rattle.fbl_pictures.specs.RunPictures.{is_stored as is_stored_in, placed_from, stored_by as stored_by_of};
 
 use fbl_base::audit::Dump;
-use fbl_trace::{Determinant, Mark};
 use fbl_logs::Entry;
+use fbl_trace::{Determinant, Mark};
 use std::alloc::{AllocError, Global};
 use std::collections::HashSet;
 use std::hash::{BuildHasherDefault, FoldHasher};

@@ -15,8 +15,8 @@ use crate::run_paths::{push_paths_to, starts_of};
 use crate::run_picture::lines_and_arrows;
 use fbl_audit::{Paths, UnsafeReceipt};
 use fbl_base::audit::Audit;
-use fbl_trace::{Determinant, Mark};
 use fbl_shapes::Shape;
+use fbl_trace::{Determinant, Mark};
 use std::alloc::{AllocError, Global};
 
 /// The place of the receipt with the determinant.

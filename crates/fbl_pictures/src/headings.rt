@@ -3,8 +3,8 @@
 ghost use Rattle.std.specs.Prelude.{◌≡◌, IfOk, string_bytes};
 ghost use Rattle.fbl_pictures.specs.Headings.{audit_words as audit_words_of, heading as heading_of, place_words as place_words_of, unsafe_words as unsafe_words_of};
 
-use fbl_trace::{Determinant, MemberSet};
 use fbl_texts::set_text;
+use fbl_trace::{Determinant, MemberSet};
 use std::alloc::{AllocError, Global};
 
 /// What an audit prints: who is struck, how many receipts are lost, and the orphans.

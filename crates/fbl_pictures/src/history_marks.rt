@@ -6,9 +6,9 @@ ghost use Rattle.fbl_shapes.specs.HistoryMarks.{column_marks, event_mark as even
 ghost use Rattle.fbl_shapes.specs.Shapes.{drawn};
 
 use crate::names::push_any;
-use fbl_trace::{Determinant, MemberSet};
 use fbl_history::{Column, Replay};
 use fbl_shapes::Shape;
+use fbl_trace::{Determinant, MemberSet};
 use std::alloc::{AllocError, Global};
 
 /// Draws a mark on the line of each member that is struck at this place.

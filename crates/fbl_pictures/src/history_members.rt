@@ -5,9 +5,9 @@ ghost use Rattle.fbl_shapes.specs.HistoryMembers.{is_back, is_down_after, line_p
 
 use crate::names::push_names;
 use crate::words::line_kind;
-use fbl_trace::Member;
 use fbl_history::{Column, Replay};
 use fbl_shapes::Shape;
+use fbl_trace::Member;
 use std::alloc::AllocError;
 
 /// Whether a member is among those that came back.

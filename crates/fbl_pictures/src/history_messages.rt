@@ -9,9 +9,9 @@ ghost use Rattle.fbl_shapes.specs.HistoryMembers.{is_back};
 ghost use Rattle.fbl_shapes.specs.Shapes.{drawn};
 
 use crate::names::push_any;
-use fbl_trace::{Member, MessageName};
 use fbl_history::{Column, Replay};
 use fbl_shapes::{ArrowKind, Shape};
+use fbl_trace::{Member, MessageName};
 use std::alloc::{AllocError, Global};
 use std::collections::{HashMap, HashSet};
 use std::hash::{BuildHasherDefault, FoldHasher};

@@ -5,8 +5,8 @@ ghost use Rattle.fbl_pictures.specs.Words.{drawn_arrow, drawn_down_from, drawn_i
 
 use crate::places::{before, below, left, towards, x, y};
 use crate::words::{arrow_class, in_flight_class, line_class, status_words};
-use fbl_trace::Member;
 use fbl_shapes::{ArrowKind, LineKind, Status};
+use fbl_trace::Member;
 use std::alloc::{AllocError, Global};
 
 /// The text of a member's name.

@@ -5,9 +5,9 @@ ghost use Rattle.fbl_pictures.specs.Marks.{drawn_checkpoint, cross, drawn_held_r
 
 use crate::places::{before, below, x, y};
 use crate::words::{kind_class, outline, receipts_word, words_if};
-use fbl_trace::{Determinant, Member, MemberSet};
 use fbl_shapes::Kind;
 use fbl_texts::set_text;
+use fbl_trace::{Determinant, Member, MemberSet};
 use std::alloc::{AllocError, Global};
 
 /// The text of the stroke behind the number of an undone event, wider than so many characters.

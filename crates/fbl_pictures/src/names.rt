@@ -4,8 +4,8 @@ ghost use Rattle.std.specs.Prelude.{◌≡◌, ◌++◌, OnOk};
 ghost use Rattle.std.specs.Option.{option_to_list};
 ghost use Rattle.fbl_shapes.specs.Names.{label_and_names};
 
-use fbl_trace::Member;
 use fbl_shapes::{Shape, Status};
+use fbl_trace::Member;
 use std::alloc::AllocError;
 
 /// Adds the shape, if there is one.

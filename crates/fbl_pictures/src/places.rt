@@ -3,8 +3,8 @@
 ghost use Rattle.std.specs.Prelude.{◌≡◌, ◌≤◌, ◌<◌, ◌^◌, ◌⊎◌};
 ghost use Rattle.fbl_pictures.specs.Places.{before as before_of, height as height_of, left as left_of, below as below_of, towards as towards_of, width as width_of, x as x_of, y as y_of};
 
-use fbl_trace::Member;
 use fbl_shapes::Legend;
+use fbl_trace::Member;
 
 /// How far from the left a column stands.
 pub(crate) fn x(column: usize) -> u128

@@ -6,9 +6,9 @@ ghost use Rattle.fbl_shapes.specs.Shapes.{drawn};
 
 use crate::entries::Recorded;
 use fbl_base::audit::Audit;
-use fbl_trace::{Determinant, Mark, Member, MessageName};
 use fbl_logs::Entry;
 use fbl_shapes::{ArrowKind, Kind, Shape};
+use fbl_trace::{Determinant, Mark, Member, MessageName};
 use std::alloc::{AllocError, Global};
 use std::collections::HashMap;
 use std::hash::{BuildHasherDefault, FoldHasher};

@@ -7,8 +7,8 @@ ghost use Rattle.fbl_pictures.specs.RunPictures.{column_in, member_line, member_
 use crate::columns::Columns;
 use crate::names::{push_any, push_names};
 use crate::words::line_kind;
-use fbl_trace::{Member, MemberSet};
 use fbl_shapes::{LineKind, Shape, Status};
+use fbl_trace::{Member, MemberSet};
 use std::alloc::AllocError;
 
 /// How the members' lines are drawn.

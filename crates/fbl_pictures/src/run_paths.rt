@@ -15,8 +15,8 @@ use crate::entries::Placed;
 use crate::names::push_any;
 use fbl_audit::{Paths, orphan_path};
 use fbl_base::audit::Audit;
-use fbl_trace::{Member, MemberSet};
 use fbl_shapes::{ArrowKind, LineKind, Shape};
+use fbl_trace::{Member, MemberSet};
 use std::alloc::{AllocError, Global};
 
 /// A step from one event to another.

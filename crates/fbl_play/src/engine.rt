@@ -9,12 +9,12 @@ ghost use Rattle.fbl_texts.specs.Scripts.{outline};
 
 use crate::observer::{NoObserver, Observer};
 use crate::transcript::{HistorySoFar, Transcriber};
-use fbl_trace::{Behaviour, Config, Mix, Note, Relay};
 use fbl_commands::run_command;
 use fbl_group::Group;
 use fbl_history::History;
 use fbl_input::{OutputFault, RunFault};
 use fbl_texts::{BehaviourName, Command, Script, read_script};
+use fbl_trace::{Behaviour, Config, Mix, Note, Relay};
 use std::alloc::{AllocError, Global};
 use std::io::{Read, Write};
 use std::sync::Wait;

@@ -1,10 +1,10 @@
 //! Who observes the commands of a run.
 
 use crate::transcript::Transcribed;
-use fbl_trace::{Behaviour, Note};
 use fbl_commands::Answer;
 use fbl_group::Group;
 use fbl_texts::Command;
+use fbl_trace::{Behaviour, Note};
 
 /// Is called for each command of a run, in their order: before it is run, and once it was run and is in the transcript. Each
 /// time it sees the group and the transcript as they stand then. It has no part in what the run does and writes.

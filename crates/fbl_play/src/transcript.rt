@@ -4,11 +4,11 @@ ghost use Rattle.std.specs.Prelude.{◌≡◌, IfErr, IfOk, OnErr, OnOk, Some};
 ghost use Rattle.fbl_play.specs.Transcripts.{history as as_history, GoesOn, IsAdded, IsBegun, IsCut, IsLedOn};
 ghost use Rattle.fbl_commands.specs.Steps.{HasMembers};
 
-use fbl_trace::{Behaviour, Note};
 use fbl_commands::Answer;
 use fbl_group::Group;
 use fbl_history::History;
 use fbl_input::{OutputFault, put};
+use fbl_trace::{Behaviour, Note};
 use std::alloc::{AllocError, Global};
 use std::io::Write;
 

@@ -7,11 +7,11 @@ ghost use Rattle.fbl_reasons.specs.LastMoments.{IsLogAudit, dump_of, pair_in};
 ghost use Rattle.fbl_logs.specs.Logs.{run_of};
 ghost use Rattle.fbl_logs.specs.Runs.{LosesAt};
 
-use fbl_base::audit::Dump;
 use fbl_base::RawDump;
-use fbl_trace::{Determinant, Member, MemberSet};
+use fbl_base::audit::Dump;
 use fbl_logs::{Clock, Entry, RunLog, marks_of};
 use fbl_moments::History;
+use fbl_trace::{Determinant, Member, MemberSet};
 use std::alloc::{AllocError, Global};
 
 /// Who holds what from here on, if the entry is a hold.

@@ -12,9 +12,9 @@ ghost use Rattle.fbl_moments.specs.Unsafe.{IsSaidOf};
 use crate::last::last_dump;
 use fbl_audit::Paths;
 use fbl_base::audit::Audit;
-use fbl_trace::{Determinant, Mark, MemberSet};
 use fbl_logs::{Clock, Entry, RunLog};
 use fbl_moments::{History, UnsafeMoment, moments_of};
+use fbl_trace::{Determinant, Mark, MemberSet};
 use std::alloc::{AllocError, Global};
 
 /// Why a receipt is unsafe at a moment. Places are those among all entries, from 0.

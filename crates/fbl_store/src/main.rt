@@ -15,9 +15,9 @@ mod shard;
 
 use anyhow::{Result, ensure};
 use command::Command;
-use fbl_trace::{Config, Member, MemberSet, Start, Strike};
 use fbl_group::Group;
 use fbl_threads::{DrainRefusal, Drained, NoGate, drain};
+use fbl_trace::{Config, Member, MemberSet, Start, Strike};
 use shard::Shard;
 use std::alloc::Global;
 use std::sync::Wait;

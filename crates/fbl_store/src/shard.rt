@@ -1,7 +1,7 @@
 use crate::command::Command;
 use arrayvec::ArrayVec;
-use fbl_trace::{Behaviour, Member, Outcome};
 use fbl_law::step_laws::{Keeping, MakingNone, Weighing};
+use fbl_trace::{Behaviour, Member, Outcome};
 
 /// A member whose state is its shard of a store of 256 keys: the values of the keys that it owns. It carries out the commands on
 /// its own keys, and passes another on to the next member.

@@ -3,9 +3,9 @@
 ghost use Rattle.std.specs.Prelude.{◌<◌};
 
 use crate::members::first_receipt;
-use fbl_trace::{Behaviour, Config, Determinant, Member, MemberSet, Note, Relay, Start};
 use fbl_member::{Carried, MemberRec, Wire};
 use fbl_table::Entry;
+use fbl_trace::{Behaviour, Config, Determinant, Member, MemberSet, Note, Relay, Start};
 use std::alloc::{AllocError, Global};
 
 /// Delivers a message that carries nothing to a member of three, where that is the member's next receipt.

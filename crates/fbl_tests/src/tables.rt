@@ -1,8 +1,8 @@
 //! Tables of determinants.
 
 use crate::members::first_receipt;
-use fbl_trace::{Determinant, Member, MemberSet};
 use fbl_table::{Entry, Table};
+use fbl_trace::{Determinant, Member, MemberSet};
 use std::alloc::{AllocError, Global};
 
 /// Whether this is the table's only entry.

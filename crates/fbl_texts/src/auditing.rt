@@ -12,8 +12,8 @@ use crate::reading::read_dump;
 use crate::sets::push_set;
 use fbl_audit::{UnsafeReceipt, unsafe_receipts};
 use fbl_base::audit::{Audit, Dump};
-use fbl_trace::{Determinant, MemberSet};
 use fbl_input::{OutputFault, RunFault, put};
+use fbl_trace::{Determinant, MemberSet};
 use std::alloc::{AllocError, Global};
 use std::io::{Read, Write};
 

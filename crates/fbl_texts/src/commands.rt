@@ -8,9 +8,9 @@ ghost use Rattle.fbl_texts.specs.Scripts.{IsBadAmong, checkpoint_from, command_f
 ghost use Rattle.fbl_texts.specs.declared.script.Command.TheVariants.{Run};
 
 use crate::script::{Command, Plan, Version};
-use fbl_trace::Strike;
 use fbl_input::shapes::{JsonShape, all_in, count_in, is_named, list_in, member_in, set_in};
 use fbl_input::{CommandForm, MOST_COMMANDS, Misfit};
+use fbl_trace::Strike;
 use serde_json::Value;
 use std::alloc::{AllocError, Global};
 

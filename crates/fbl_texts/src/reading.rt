@@ -11,14 +11,14 @@ ghost use Rattle.fbl_input.specs.declared.misfit.InputKind.TheVariants as kinds;
 ghost use Rattle.fbl_texts.specs.Dumps.{IsDumpOf, IsNoDump, parts_of_data, parts_of_input};
 ghost use Rattle.fbl_texts.specs.RawDumps.{IsFormMisfit, IsNoRawDump, IsRawDumpOf, IsRefusalOf};
 
-use fbl_base::audit::{Dump, checked_dump};
 use fbl_base::RawDump;
-use fbl_trace::{Determinant, Mark, Member};
+use fbl_base::audit::{Dump, checked_dump};
 use fbl_input::shapes::{
     ByteShape, JsonShape, count_in, is_named, list_in, member_in, no_other_key, object_in,
     set_field, value_field, value_in, values_field,
 };
 use fbl_input::{InputFault, InputKind, Key, Misfit, read_input};
+use fbl_trace::{Determinant, Mark, Member};
 use serde_json::Value;
 use std::alloc::Global;
 use std::io::Read;

@@ -50,7 +50,7 @@ impl BehaviourName {
 }
 
 /// The strikes that a run makes on its way, in the order given. Contracts see the list.
-#[derive(Debug, Drop)]
+#[derive(Drop)]
 pub struct Plan {
     strikes: Vec<Strike>,
 }
@@ -109,7 +109,7 @@ impl fmt::Display for Plan {
 }
 
 /// A command of a script.
-#[derive(Debug, Drop)]
+#[derive(Drop)]
 pub enum Command {
     /// Deliver the first message from `from` to `to`.
     Deliver { to: Member, from: Member },
@@ -155,7 +155,7 @@ impl fmt::Display for Command {
 }
 
 /// What a script asks for.
-#[derive(Debug, Drop)]
+#[derive(Drop)]
 pub struct Script {
     /// What each member does with a message.
     pub behaviour: BehaviourName,

@@ -16,12 +16,12 @@ ghost use Rattle.fbl_texts.specs.Scripts.{IsNoScript, IsScriptMisfit, IsScriptOf
 use crate::commands::commands_in;
 use crate::reading::input_of;
 use crate::script::{BehaviourName, Command, Script, Version};
-use fbl_trace::{Config, Note, Start};
 use fbl_input::shapes::{
     ByteShape, JsonShape, count_in, is_named, list_field, list_in, member_in, no_other_key,
     object_in, value_field, value_in, values_field,
 };
 use fbl_input::{InputFault, InputKind, Key, Misfit};
+use fbl_trace::{Config, Note, Start};
 use serde_json::Value;
 use std::alloc::Global;
 use std::io::Read;

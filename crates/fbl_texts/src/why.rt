@@ -13,7 +13,7 @@ use std::alloc::{AllocError, Global};
 use std::fmt;
 
 /// A member that depends on a receipt, and a path from the receipt to it.
-#[derive(Drop, Debug)]
+#[derive(Drop)]
 pub struct OrphanPath {
     pub orphan: Member,
     /// The places of the events on the path, from 0: the first is that of the receipt, the last that of the member's first
@@ -22,7 +22,7 @@ pub struct OrphanPath {
 }
 
 /// A receipt that a strike loses.
-#[derive(Drop, Debug)]
+#[derive(Drop)]
 pub struct LossReason {
     /// What names the receipt.
     pub determinant: Determinant,

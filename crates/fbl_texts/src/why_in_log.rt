@@ -11,9 +11,9 @@ ghost use Rattle.fbl_texts.specs.LogAuditing.{TellsLostInLog};
 use crate::sources::Sources;
 use crate::why::{LossReason, OnPath, loss_reasons, write_holders, write_losses, write_path};
 use fbl_base::audit::{Audit, Dump};
-use fbl_trace::{Determinant, Mark};
 use fbl_logs::{Entry, RunLog};
 use fbl_reasons::{MomentReason, audit_log, last_dump, moment_reasons};
+use fbl_trace::{Determinant, Mark};
 use std::alloc::{AllocError, Global};
 use std::fmt;
 

@@ -17,10 +17,10 @@ use crate::counted::{Drained, add};
 use crate::origin::Origin;
 use crate::plan::planned;
 use crate::recorder::{Records, keep, reserve};
-use fbl_trace::{Behaviour, Member, MemberSet, Strike};
 use fbl_group::{
     CommitRefusal, CrashRecord, Done, Group, Recovered, RecoveryRecord, Struck, Ticket, TurnRecord,
 };
+use fbl_trace::{Behaviour, Member, MemberSet, Strike};
 use std::alloc::AllocError;
 use std::marker::PhantomData;
 

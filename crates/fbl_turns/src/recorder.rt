@@ -3,8 +3,8 @@
 ghost use Rattle.std.specs.Prelude.{◌≡◌, [], OnOk, Some, None, if◌then◌else◌};
 ghost use Rattle.fbl_turns.specs.Recorders.{recorded, with_record, HasRoom};
 
-use fbl_trace::{Content, Exact};
 use fbl_group::TurnRecord;
+use fbl_trace::{Content, Exact};
 use std::alloc::{AllocError, Global};
 
 /// The records of the turns so far, in order, if they are kept.

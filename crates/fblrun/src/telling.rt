@@ -9,7 +9,6 @@ use crate::merging::{MergeExplanation, MergeFault, MergeLine, Parts};
 use crate::streams::Failure;
 use crate::{DumpTask, INPUT_FAULT, fail, status_of};
 use fbl_base::audit::Dump;
-use fbl_trace::{Behaviour, Note};
 use fbl_commands::{Account, Answer};
 use fbl_group::Group;
 use fbl_input::{InputFault, RunFault};
@@ -18,6 +17,7 @@ use fbl_play::{Observer, Transcribed};
 use fbl_texts::{
     Checked, Command, Sources, why_lost, why_lost_in_log, why_unsafe, why_unsafe_in_log,
 };
+use fbl_trace::{Behaviour, Note};
 use std::alloc::{AllocError, Global};
 use std::fmt;
 

@@ -5,8 +5,8 @@ use super::steps::Step::{
     self, Checkpoint, Commit, Crash, Deliver, Dump, Ever, Recover, Strike, Take,
 };
 use super::steps::Verdict;
-use fbl_trace::{Behaviour, Member, MemberSet, Mix, Note, Relay};
 use fbl_group::{CommitRefusal, CrashRefusal, Done, Group, RecoverRefusal};
+use fbl_trace::{Behaviour, Member, MemberSet, Mix, Note, Relay};
 use std::process::Abort;
 use std::test::Fail;
 

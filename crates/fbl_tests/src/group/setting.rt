@@ -1,7 +1,7 @@
 //! What groups are made of.
 
-use fbl_trace::{Behaviour, Config, Member, Note, Start};
 use fbl_group::Group;
+use fbl_trace::{Behaviour, Config, Member, Note, Start};
 use std::alloc::{AllocError, Global};
 
 /// The parameters of a group. A start is a sender, a receiver, a value and a number of hops.

@@ -1,11 +1,11 @@
 //! Calls of a group, with the answers that are expected of them.
 
 use crate::members::{member, set};
-use fbl_trace::{Behaviour, Note};
 use fbl_group::{
     CheckpointRefusal, CommitRefusal, CrashRefusal, DeliverRefusal, Done, DumpGroupRefusal, Group,
     Receipted, RecoverRefusal, Recovered, run_step,
 };
+use fbl_trace::{Behaviour, Note};
 use std::test::Fail;
 
 /// A call and its answer. A delivery is to a member from another. A receipt is answered by its number, how many entries

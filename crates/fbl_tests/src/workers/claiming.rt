@@ -2,8 +2,8 @@
 
 ghost use Rattle.std.specs.Prelude.{◌≡◌, true};
 
-use fbl_trace::Member;
 use fbl_threads::{Claim, ClaimRefusal, Claims};
+use fbl_trace::Member;
 use std::test::Fail;
 
 #[test]

@@ -1,9 +1,9 @@
 //! Groups, and drains of them.
 
 use crate::members::{start, strike};
-use fbl_trace::{Config, ConfigRefusal, Member, MemberSet, Relay, Start, Strike};
 use fbl_group::Group;
 use fbl_threads::{DrainRefusal, Drained, NoGate, drain};
+use fbl_trace::{Config, ConfigRefusal, Member, MemberSet, Relay, Start, Strike};
 use std::alloc::Global;
 use std::sync::Wait;
 use std::thread::Threads;

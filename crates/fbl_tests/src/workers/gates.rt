@@ -2,8 +2,8 @@
 
 use super::fixtures::{TURNS, group, has_counts, has_states};
 use crate::members::start;
-use fbl_trace::Member;
 use fbl_threads::{Gate, drain};
+use fbl_trace::Member;
 use std::sync::atomic::{AtomicBool, AtomicU64, Ordering};
 use std::test::Fail;
 use std::thread;

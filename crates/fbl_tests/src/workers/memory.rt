@@ -4,9 +4,9 @@ use super::fixtures::{
     STATES_OF_TWELVE, TURNS, drain_by, has_states, three_strikes, twelve_receipts,
 };
 use super::recording::are_counted;
-use fbl_trace::Relay;
 use fbl_group::Group;
 use fbl_threads::{DrainRefusal, Drained, NoGate, drain_recorded};
+use fbl_trace::Relay;
 use std::test::Fail;
 
 /// Recovers the members that are down, and answers whether nobody is down now.

@@ -1,9 +1,9 @@
 //! Drains whose turns are recorded. That the turns lead to the group that comes back is a clause of the call.
 
 use super::fixtures::{STATES_OF_TWELVE, TURNS, has_states, three_strikes, total, twelve_receipts};
-use fbl_trace::{Relay, Strike};
 use fbl_group::Group;
 use fbl_threads::{NoGate, Recorded, drain_recorded};
+use fbl_trace::{Relay, Strike};
 use std::alloc::Global;
 use std::process::Abort;
 use std::sync::Wait;

@@ -5,9 +5,9 @@ use super::fixtures::{
     twelve_receipts,
 };
 use crate::members::{start, strike};
-use fbl_trace::{Relay, Strike};
 use fbl_group::Group;
 use fbl_threads::{DrainRefusal, Drained, NoGate, drain};
+use fbl_trace::{Relay, Strike};
 use std::alloc::Global;
 use std::process::Abort;
 use std::sync::Wait;

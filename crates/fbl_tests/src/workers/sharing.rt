@@ -2,9 +2,9 @@
 
 use super::fixtures::{TURNS, group};
 use crate::members::start;
-use fbl_trace::{Member, MemberSet, Relay};
 use fbl_group::{Group, Recovered};
 use fbl_threads::{NoGate, SharedGroup, drain};
+use fbl_trace::{Member, MemberSet, Relay};
 use std::test::Fail;
 
 /// Whether nobody of three is down, and member 1 has a checkpoint of one receipt.
