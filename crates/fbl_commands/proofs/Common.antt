@@ -1,26 +1,14 @@
 -- The names that proofs of this crate take from outside: of the standard library, of the crates below, and of the definitions here.
 pub use Rattle.std.proofs.Common.{Err, IfErr, List, Ok, Result, [], ap, append-nil, arith, get_or, inl, inr, length, refl, string_bytes, subst}
 pub use Rattle.std.proofs.Common.{sym, take, drop, ℕ, ◌++◌, ◌+◌, ◌<◌, ◌∙◌, ◌∷◌, ◌≡◌, ◌≤◌, Bool, true, false, not, cond, suc, map, length-drop}
-pub use Rattle.std.proofs.lemmas.Bool.{false≢true, true_from_ne_false}
+pub use Rattle.fbl_group.proofs.Common.{false≢true, true_from_ne_false, filter, Next, Members, Has, itself, Determinant, Event, lost_receipts, no_orphan, up_if_none, IsStrike}
+pub use Rattle.fbl_group.proofs.Common.{GroupRecord, is_recorded, knowledge, marks, IsSound, MemberRecord}
 pub use Rattle.std.proofs.lemmas.List.{drop_more, get_or_default, take_all, take_more}
-pub use Rattle.std.proofs.lemmas.List.Elements.{filter-append, filter_passes}
+pub use Rattle.fbl_law.proofs.Common.{filter-append, filter_passes, Decides-same_determinant, IsRecorded, IsUp, Names}
 pub use Rattle.std.proofs.lemmas.Result.{IfOk-weaker}
-pub use Rattle.std.specs.List.{filter}
-pub use Rattle.fbl_trace.specs.Fold.{Next}
-pub use Rattle.fbl_trace.specs.MemberSets.{Members}
 pub use Rattle.fbl_trace.specs.Events.{mark_of, receipt_of, receipts, same_determinant}
-pub use Rattle.fbl_trace.proofs.RulesLaws.{Decides-same_determinant}
-pub use Rattle.fbl_trace.specs.Precedence.{Has, itself}
 pub use Rattle.fbl_trace.specs.declared.strike.Strike.{Strike}
-pub use Rattle.fbl_trace.specs.declared.trace.Determinant.{Determinant}
-pub use Rattle.fbl_trace.specs.declared.trace.Event.{Event}
-pub use Rattle.fbl_group.specs.Strikes.{lost_receipts}
 pub use Rattle.fbl_law.proofs.Keeping.{recorded_test, was_up}
-pub use Rattle.fbl_law.proofs.Safe.{no_orphan, up_if_none}
-pub use Rattle.fbl_law.specs.GroupSteps.{IsStrike}
-pub use Rattle.fbl_law.specs.Groups.{GroupRecord, is_recorded, knowledge, marks, IsSound}
-pub use Rattle.fbl_law.specs.Knowledge.{IsRecorded, IsUp, Names}
-pub use Rattle.fbl_member.specs.Members.{MemberRecord}
 pub use Rattle.fbl_threads.specs.Drains.{RecordedDrains}
 pub use Rattle.fbl_threads.specs.declared.draining.DrainRefusal.{DrainRefusal}
 pub use Rattle.fbl_threads.specs.declared.draining.Recorded.{Recorded}

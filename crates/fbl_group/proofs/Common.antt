@@ -1,37 +1,21 @@
 -- The names that proofs of this crate take from outside: of the standard library, of the crates below, and of the definitions here.
 pub use Rattle.std.proofs.Common.{All, Bool, Fits, IfSome, List, None, Option, Some, [], add-one, ap, append-nil, append_assoc, arith, cond, count_by, deque_items, drop, drop_of_length-le, false, get_or, inl, inr, length, length-append, map, nat_lt, not, refl, replicate, rules, slice_get, slice_index_or, slice_set, subst, suc, sum_by, sym, take, true, vec_capacity, vec_len, w32, w64, zero, ℕ, ◌*◌, ◌++◌, ◌+◌}
-pub use Rattle.std.proofs.Common.{◌-◌, ◌<◌, ◌==◌, ◌^◌, ◌||◌, ◌↔◌, ◌∙◌, ◌∷◌, ◌≡◌, ◌≢◌, ◌≤◌, ◌⊎◌}
+pub use Rattle.fbl_trace.proofs.Common.{◌-◌, ◌<◌, ◌==◌, ◌^◌, ◌||◌, ◌↔◌, ◌∙◌, ◌∷◌, ◌≡◌, ◌≢◌, ◌≤◌, ◌⊎◌, common_steps, nat_cmp_total, unsigned_tied, eq_by_cmp, nat_cmp}
 pub use Rattle.std.proofs.lemmas.Bool.{false≢true, true_from_ne_false}
-pub use Rattle.std.proofs.lemmas.Bool.Decides.{nat_tests}
+pub use Rattle.fbl_law.proofs.Common.{nat_tests, filter-append, filter_map-append, Any-from_list_any, list_any-from_Any, get_or_from_slice_get, slice_get-get_or, filter}
+pub use Rattle.fbl_law.proofs.Common.{filter_map, list_any, after_notes-state, eqb-self, length-filter_map, length-left, IsConfig, Settings, StartAllowed, determinant_of, mark_of}
+pub use Rattle.fbl_law.proofs.Common.{receipt_of, Next, step_events, AllBelow, Members, Has, itself, in_flight, sent_on, taken_on, Determinant, Event, Mark, Send, Start}
+pub use Rattle.fbl_law.proofs.Common.{pairs_from, pairs_of, IsCheckpoint, IsDelivery, IsRecovery, IsStrike, delivery_events, message_of_send, start_events, step_of, between}
+pub use Rattle.fbl_law.proofs.Common.{gathered_all, is_on, recovery_table, saved_tables, taken_off, IsRebuilt, IsReplaying, is_replayed, recovered_trace, replayed_in, resent}
+pub use Rattle.fbl_law.proofs.Common.{resent_to, sent_again, stays_by, working, IsDown, IsInFlight, IsUp, send_mark, table, IsOnce, found, piggybacked, Entry}
 pub use Rattle.std.proofs.lemmas.Fn.{filter_same}
-pub use Rattle.std.proofs.lemmas.Grind.{common_steps}
 pub use Rattle.std.proofs.lemmas.List.{at_drop_more, get_or-replicate, get_or-set_other, get_or-set_same, get_or_default, get_or_past, length-map, length-replicate, length-set, map-append, set-get_or, length-take, map_more, take_all}
-pub use Rattle.std.proofs.lemmas.List.Elements.{filter-append, filter_map-append}
-pub use Rattle.std.proofs.lemmas.List.Folds.{Any-from_list_any, list_any-from_Any}
 pub use Rattle.std.proofs.lemmas.List.Sums.{AllPass-from_list_all, count_by_more_no, count_by_more_yes, fold-append, list_all-from_AllPass, sum_by-cons, count_by-le-length}
-pub use Rattle.std.proofs.lemmas.Option.{get_or_from_slice_get, slice_get-get_or}
-pub use Rattle.std.specs.Cmp.{nat_cmp_total, unsigned_tied}
 pub use Rattle.std.specs.FinSet.{contains, empty_of_len, len-empty}
-pub use Rattle.std.specs.List.{filter, filter_map, list_any}
-pub use Rattle.std.specs.Ordering.{eq_by_cmp, nat_cmp}
-pub use Rattle.fbl_trace.proofs.LawfulLaws.{after_notes-state}
-pub use Rattle.fbl_trace.proofs.RulesLaws.{eqb-self}
-pub use Rattle.fbl_trace.proofs.Gets.{length-filter_map, length-left}
 pub use Rattle.fbl_base.specs.Audit.{IsDumpOrphan, Parts}
-pub use Rattle.fbl_trace.specs.Configs.{IsConfig, Settings, StartAllowed}
-pub use Rattle.fbl_trace.specs.Events.{determinant_of, mark_of, receipt_of}
-pub use Rattle.fbl_trace.specs.Fold.{Next, step_events}
-pub use Rattle.fbl_trace.specs.MemberSets.{AllBelow, Members}
-pub use Rattle.fbl_trace.specs.Precedence.{Has, itself}
-pub use Rattle.fbl_trace.specs.Rules.{in_flight, sent_on, taken_on}
 pub use Rattle.fbl_trace.specs.Steps.{SendsAllowed, SendsWell}
 pub use Rattle.fbl_trace.specs.declared.outcome.Outcome.{Outcome}
-pub use Rattle.fbl_trace.specs.declared.trace.Determinant.{Determinant}
-pub use Rattle.fbl_trace.specs.declared.trace.Event.{Event}
 pub use Rattle.fbl_trace.specs.declared.trace.Event.TheVariants.{Receipt}
-pub use Rattle.fbl_trace.specs.declared.trace.Mark.{Mark}
-pub use Rattle.fbl_trace.specs.declared.trace.Mark.TheVariants.{Send}
-pub use Rattle.fbl_trace.specs.declared.trace.Start.{Start}
 pub use Rattle.fbl_law.proofs.Lists.{sent_again-short, sum_below-agree, sum_below-none}
 pub use Rattle.fbl_law.proofs.Channels.{flight_at, flight_ends}
 pub use Rattle.fbl_law.proofs.Keeping.{checkpoint_is_recorded, group_checkpoint_keeps, group_strike_keeps, recorded_test}
@@ -42,17 +26,11 @@ pub use Rattle.fbl_law.proofs.GroupStart.{group_start_is_sound}
 pub use Rattle.fbl_law.proofs.ReplayLaws.{rebuilt_is_recovered, recovered_trace-rebuilt, replay_begins, replay_is_right, replayed_in-all, replayed_in-short, replayed_in-step, replaying-next, count_in-same, replaying-room, replaying-tables, with-table, working-log}
 pub use Rattle.fbl_law.proofs.Safe.{IsRecorded-before, down_or_both_up, down_or_up, no_orphan, up_if_none}
 pub use Rattle.fbl_law.proofs.WeightKept.{flow, into, out, weight_in, weight_on}
-pub use Rattle.fbl_law.specs.Promises.{pairs_from, pairs_of}
-pub use Rattle.fbl_law.specs.GroupSteps.{IsCheckpoint, IsDelivery, IsRecovery, IsStrike, delivery_events, message_of_send, start_events, step_of, between, gathered_all, is_on, recovery_table, saved_tables, taken_off, IsRebuilt, IsReplaying, is_replayed, recovered_trace, replayed_in, resent, resent_to, sent_again, stays_by, working}
 pub use Rattle.fbl_law.specs.Groups.{GroupRecord, HasChannels, channel, channel_in, is_recorded, knowledge, marks, member, member_checkpoint, messages_in, messages_in_flight, receipts, sum_below, IsSound, received_notes}
-pub use Rattle.fbl_law.specs.Knowledge.{IsDown, IsInFlight, IsUp, send_mark, table}
 pub use Rattle.fbl_member.proofs.Made.{Made, made-more, made_none}
 pub use Rattle.fbl_member.proofs.Once.{IsOnce-none, IsOnce-piggybacked}
-pub use Rattle.fbl_member.specs.Carried.{IsOnce}
 pub use Rattle.fbl_member.specs.Members.{MemberRecord, Message, blank, logged_note, messages_from, received_by, replayed_by, table_after}
 pub use Rattle.fbl_table.specs.Receipts.{IsByNumber, receipt_at}
-pub use Rattle.fbl_table.specs.Tables.{found, piggybacked}
-pub use Rattle.fbl_table.specs.declared.entry.Entry.{Entry}
 pub use Rattle.fbl_answers.specs.Refusals.{of_commit}
 pub use Rattle.fbl_answers.specs.declared.answers.Receipted.{Receipted}
 pub use Rattle.fbl_answers.specs.declared.refusals.CommitRefusal.{CommitRefusal}

@@ -1,7 +1,9 @@
 -- The names that proofs of this crate take from outside: of the standard library, of the crates below, and of the definitions here.
 pub use Rattle.std.proofs.Common.{Bool, Decides, List, None, Option, Some, [], ap, append_assoc, arith, cond, count_by, drop, false, get_or, if◌then◌else◌, inl, inr, length}
 pub use Rattle.std.proofs.Common.{length-append, length-take, map, nat_le, nat_lt, not, option_map, refl, slice_get, subst, suc, sym, take, true, zero, ℕ, ◌&&◌, ◌*◌, ◌++◌, ◌+◌}
-pub use Rattle.std.proofs.Common.{◌-◌, ◌<◌, ◌==◌, ◌||◌, ◌↔◌, ◌∙◌, ◌∷◌, ◌≡◌, ◌≢◌, ◌≤◌, ◌⊎◌}
+pub use Rattle.fbl_trace.proofs.Common.{◌-◌, ◌<◌, ◌==◌, ◌||◌, ◌↔◌, ◌∙◌, ◌∷◌, ◌≡◌, ◌≢◌, ◌≤◌, ◌⊎◌, nat_cmp, At, destination_of, determinant_of, mark_of, member_of, receipt_of}
+pub use Rattle.fbl_trace.proofs.Common.{same_determinant, send_of, start_of, starts_of, step_events, took, MayFollow, WellFormed, in_flight, is_receipt_of, is_send_of, receipts_of}
+pub use Rattle.fbl_trace.proofs.Common.{sends_of, sent_on, taken_on, Determinant, Event, Mark, Receipt, Send, Start}
 pub use Rattle.std.proofs.Math.Nat.{add-zero, zero-add}
 pub use Rattle.std.proofs.Math.Seq.{take-append-add}
 pub use Rattle.std.proofs.lemmas.Bool.{and_parts, false≢true, cases_Bool, cases_eq, cases_lt, cases_order, eq-eqb, false_from_ne_true, ne_eqb}
@@ -20,7 +22,6 @@ pub use Rattle.std.proofs.lemmas.Simd.{map-map}
 pub use Rattle.std.specs.Cmp.{decided}
 pub use Rattle.std.specs.List.{All, Contains, filter, filter_map, fold, list_any, position_or_len}
 pub use Rattle.std.specs.Option.{option_map_or}
-pub use Rattle.std.specs.Ordering.{nat_cmp}
 pub use Rattle.std.specs.Prelude.{slice_index_or, slice_set, sum_by}
 pub use Rattle.fbl_trace.proofs.LawfulLaws.{after_notes-state, lawful_deliver, note_of-front, notes_of-sent, receipts-noted, sent-note}
 pub use Rattle.fbl_trace.proofs.Gets.{Apart, At-seam, Apart-later, At-below, At-filter, At-filter_map, At-front, At-push, drop_next, filter_map-At, filter_map-agree, map-At}
@@ -32,25 +33,16 @@ pub use Rattle.fbl_trace.proofs.RulesLaws.{is_receipt, Decides-same_determinant}
 pub use Rattle.fbl_trace.proofs.Sets.{len-within, some_member, some_outside}
 pub use Rattle.fbl_base.specs.Audit.{HeldAt}
 pub use Rattle.fbl_trace.specs.Configs.{IsConfig, Settings, StartAllowed}
-pub use Rattle.fbl_trace.specs.Events.{At, destination_of, determinant_of, mark_of, member_of, receipt_of, same_determinant, send_of}
 pub use Rattle.fbl_trace.specs.Fold.{Action, Lawful, Logged, Next, Progress, action_of, actions_of, advanced, after_notes, begun, note_of, notes_of, numbered, responses, sent}
-pub use Rattle.fbl_trace.specs.Fold.{start_of, starts_of, step_events, took}
 pub use Rattle.fbl_trace.specs.MemberSets.{AllBelow, Members, contains-members_where, contains-union, contains-insert_other, contains-insert_same, members_where}
 pub use Rattle.fbl_trace.specs.Precedence.{Depends, Earlier, Has, Leads, Precedes, itself, step}
-pub use Rattle.fbl_trace.specs.Rules.{MayFollow, WellFormed, in_flight, is_receipt_of, is_send_of, receipts_of, sends_of, sent_on, taken_on}
 pub use Rattle.fbl_trace.specs.Steps.{SendsWell}
-pub use Rattle.fbl_trace.specs.declared.trace.Determinant.{Determinant}
-pub use Rattle.fbl_trace.specs.declared.trace.Event.{Event}
-pub use Rattle.fbl_trace.specs.declared.trace.Mark.{Mark}
-pub use Rattle.fbl_trace.specs.declared.trace.Mark.TheVariants.{Receipt, Send}
-pub use Rattle.fbl_trace.specs.declared.trace.Start.{Start}
 pub use Rattle.fbl_member.proofs.Logs.{length-numbered, numbered-append}
 pub use Rattle.fbl_member.proofs.Once.{IsOnce-none}
-pub use Rattle.fbl_member.specs.Carried.{IsOnce}
+pub use Rattle.fbl_member.proofs.Common.{IsOnce, Entry}
 pub use Rattle.fbl_member.specs.Members.{MemberRecord, Message, blank, fresh, last_from, logged_beyond, logged_note, messages_from, next_determinant, progress_of, replayed_by}
 pub use Rattle.fbl_table.proofs.Adding.{added_new, fold_next, held-carried, held-gathered, not_held_learned}
 pub use Rattle.fbl_table.specs.Tables.{found, gathered, held_by, is_held, is_of_receipt, learned, noted, piggybacked}
-pub use Rattle.fbl_table.specs.declared.entry.Entry.{Entry}
 pub use Rattle.fbl_law.specs.Promises.{dump_of, held_pairs, pairs_from, pairs_of, GainsHolders, HoldsEachReceipt, IsHeldBy, LeavesRecorded, RecordsCauses, RecordsFirst, SurvivorsHold}
 pub use Rattle.fbl_law.specs.GroupLaws.{CheckpointIsRecorded, GainsTheDown, GroupCheckpointKeeps, OfRecovery, RecordedTest, RunIsSound, StaysIsRecorded, checkpoints, delivers}
 pub use Rattle.fbl_law.specs.GroupLaws.{recovers, starts, strikes}

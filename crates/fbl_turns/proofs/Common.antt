@@ -1,44 +1,28 @@
 -- The names that proofs of this crate take from outside: of the standard library, of the crates below, and of the definitions here.
 pub use Rattle.std.proofs.Common.{Bool, List, None, Option, Some, [], ap, append-nil, arith, below_more, cond, eq-eqb, eqb, false, filter, find, get_or, get_or-set_other, get_or-set_same, inl, inr}
-pub use Rattle.std.proofs.Common.{not, ◌==◌, ◌||◌, ◌↔◌, ◌∙◌, ◌∷◌, ◌≡◌, ◌≤◌, ◌⊎◌}
+pub use Rattle.fbl_group.proofs.Common.{not, ◌==◌, ◌||◌, ◌↔◌, ◌∙◌, ◌∷◌, ◌≡◌, ◌≤◌, ◌⊎◌, nat_tests, filter-append, nat_cmp_total, nat_cmp, Settings, Next, Has, Event, Mark, Recovers}
+pub use Rattle.fbl_group.proofs.Common.{strike_refusal, RefusesCommit, CommitRefusal, Ticket, GroupRecord, knowledge, member, Message}
 pub use Rattle.std.proofs.Common.{length, length-set, map, ne_eqb, option_map, refl, rules, set, slice_index, subst, suc, sum, sym, take, true, true≢false, zero, ℕ, ◌++◌, ◌+◌, ◌<◌}
 pub use Rattle.std.proofs.Math.ListN.{replicate}
 pub use Rattle.std.proofs.Math.Logic.{∥∥₁_elim, ∥∥₁_map}
-pub use Rattle.std.proofs.lemmas.Bool.{cases_lt}
-pub use Rattle.std.proofs.lemmas.Bool.Decides.{nat_tests}
+pub use Rattle.fbl_law.proofs.Common.{cases_lt, mark_of, member_of, IsDelivery, IsStrike, delivery_events, IsEventCut, Stays}
 pub use Rattle.std.proofs.lemmas.List.{ext_get_or, length-replicate, length-take, set-get_or, take-append-le, take_all}
-pub use Rattle.std.proofs.lemmas.List.Elements.{filter-append}
 pub use Rattle.std.proofs.lemmas.List.Folds.{sum_by-replicate}
 pub use Rattle.std.proofs.lemmas.List.Sums.{get_or-le-sum_by, sum_by-set}
-pub use Rattle.std.specs.Cmp.{nat_cmp_total}
 pub use Rattle.std.specs.Coded.{Coded, Coded-set, coded_ℕ, codes}
 pub use Rattle.std.specs.Option.{is_none, is_some}
-pub use Rattle.std.specs.Ordering.{nat_cmp}
 pub use Rattle.atomic_table.proofs.Lists.{at_longer, at_set, at_snoc, set_again, set_else}
 pub use Rattle.atomic_table.specs.Table.{Allows, Joins, Splits, State, keeps}
-pub use Rattle.fbl_trace.specs.Configs.{Settings}
-pub use Rattle.fbl_trace.specs.Events.{mark_of, member_of}
-pub use Rattle.fbl_trace.specs.Fold.{Next}
 pub use Rattle.fbl_trace.specs.MemberSets.{Members, same_from_contains}
 pub use Rattle.fbl_trace.specs.Breaches.{IsPlan, MayBeStruck, set_at}
-pub use Rattle.fbl_trace.specs.Precedence.{Has}
 pub use Rattle.fbl_trace.specs.declared.strike.Strike.{Strike}
-pub use Rattle.fbl_trace.specs.declared.trace.Event.{Event}
-pub use Rattle.fbl_trace.specs.declared.trace.Mark.{Mark}
 pub use Rattle.fbl_group.proofs.Striking.{is_allowed}
 pub use Rattle.fbl_group.specs.Records.{Commits, IsPlannedCrash, IsRecoveryRecord, StrikeLeads, TurnLeads, TurnsLead}
-pub use Rattle.fbl_group.specs.Strikes.{Recovers, strike_refusal}
-pub use Rattle.fbl_group.specs.Deliveries.{RefusesCommit}
 pub use Rattle.fbl_answers.specs.declared.answers.Recovered.{Recovered}
 pub use Rattle.fbl_answers.specs.declared.record.CrashRecord.{CrashRecord}
 pub use Rattle.fbl_answers.specs.declared.record.RecoveryRecord.{RecoveryRecord}
 pub use Rattle.fbl_answers.specs.declared.record.TurnRecord.{TurnRecord}
-pub use Rattle.fbl_answers.specs.declared.refusals.CommitRefusal.{CommitRefusal}
 pub use Rattle.fbl_answers.specs.declared.refusals.CommitRefusal.TheVariants.{Down, Full, Memory, Stale}
-pub use Rattle.fbl_trace.specs.declared.ticket.Ticket.{Ticket}
-pub use Rattle.fbl_law.specs.GroupSteps.{IsDelivery, IsStrike, delivery_events, IsEventCut, Stays}
-pub use Rattle.fbl_law.specs.Groups.{GroupRecord, knowledge, member}
-pub use Rattle.fbl_member.specs.Members.{Message}
 pub use lib.ListN.{get_elem?}
 pub use mathlib.Core.Logic.{dite, ⊎_elim}
 pub use mathlib.Core.Option.{some, some-ne-none}
