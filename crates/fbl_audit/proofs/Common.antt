@@ -1,6 +1,6 @@
 -- The names that proofs of this crate take from outside: of the standard library, of the crates below, and of the definitions here.
 pub use Rattle.fbl_base.proofs.Common.{List, None, Option, Some, [], ap, append_assoc, arith, drop, false, get_or, inl, inr, length, length-set, max, nat_tests, nat_cmp_total}
-pub use Rattle.fbl_base.proofs.Common.{nat_cmp, At, determinant_of, member_of, receipt_of, receipts, send_of, IsSendOf, WellFormed, Determinant, Mark, Receipt, Send}
+pub use Rattle.fbl_base.proofs.Common.{nat_cmp, At, determinant_of, member_of, receipt_of, receipts, send_of, IsSendOf, WellFormed}
 pub use Rattle.std.proofs.Common.{refl, reverse, slice_get, suc, sym, true, zero, ℕ, ◌++◌, ◌+◌, ◌<◌, ◌↔◌, ◌∙◌, ◌∷◌, ◌≡◌, ◌≢◌, ◌≤◌, ◌⊎◌}
 pub use Rattle.std.proofs.lemmas.Bool.{cases_eq, cases_lt, eqb-true, false≢true}
 pub use Rattle.std.proofs.lemmas.List.{append-nil, drop_all, reverse-append}
@@ -16,6 +16,9 @@ pub use Rattle.fbl_trace.proofs.Sets.{len-remove_one, len-within, some_member}
 pub use Rattle.fbl_base.specs.Audit.{AreCauses, IsDump, IsDumpOrphan, IsFirstCause, IsLost, IsOrphaned, IsOrphanStart, Parts, holders_of}
 pub use Rattle.fbl_trace.specs.MemberSets.{Members, contains-union}
 pub use Rattle.fbl_trace.specs.Precedence.{DependsOnPlace, IsReached, PlaceLeads, PlacePrecedes, Depends, Has}
+pub use Rattle.fbl_trace.specs.declared.trace.Determinant.{Determinant}
+pub use Rattle.fbl_trace.specs.declared.trace.Mark.{Mark}
+pub use Rattle.fbl_trace.specs.declared.trace.Mark.TheVariants.{Receipt, Send}
 pub use Rattle.fbl_audit.specs.Checking.{IsLeftOrphan, IsSafe, IsSaidOf, IsUnsafe, LosesReceipt, MayBeLost, SaysUnsafe, struck_by, HasAlwaysNoOrphans, SafeLaw}
 pub use Rattle.fbl_audit.specs.Paths.{AreEnds, IsBefore, IsEndBy, IsEndFound, IsFirstDependent, IsPath, Origin, Reaches, path_end, path_step}
 pub use Rattle.fbl_audit.specs.declared.checking.UnsafeReceipt.{UnsafeReceipt}

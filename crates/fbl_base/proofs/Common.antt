@@ -1,6 +1,6 @@
 -- The names that proofs of this crate take from outside: of the standard library, of the crates below, and of the definitions here.
 pub use Rattle.fbl_trace.proofs.Common.{Bool, Decides, List, MatchOption, None, Option, Some, [], add-one, ap, append_assoc, arith, cond, nat_tests, filter_map-append}
-pub use Rattle.fbl_trace.proofs.Common.{nat_cmp_total, unsigned_tied, Contains, cons_option, filter, list_any, nat_cmp, Counted, WellFormed, Determinant, Mark, Receipt, Send}
+pub use Rattle.fbl_trace.proofs.Common.{nat_cmp_total, unsigned_tied, Contains, cons_option, filter, list_any, nat_cmp, Counted, WellFormed}
 pub use Rattle.std.proofs.Common.{drop, false, get_or, get_or-set_other, get_or-set_same, inl, inr, length, length-append, length-set, length-take, map, not, refl, replicate}
 pub use Rattle.std.proofs.Common.{rules, slice_get, sym, take, true, w16, ℕ, ◌&&◌, ◌++◌, ◌+◌, ◌<◌, ◌==◌, max, unwrap_or, ◌||◌, ◌↔◌, ◌∙◌, ◌∷◌, ◌≡◌, ◌≢◌, ◌≤◌, ◌⊎◌}
 pub use Rattle.std.proofs.Math.Bool.{or-false}
@@ -15,4 +15,7 @@ pub use Rattle.fbl_trace.specs.Events.{At, determinant_of, member_of, receipt_of
 pub use Rattle.fbl_trace.specs.Precedence.{DependsOnPlace, IsReached, PlaceLeads, PlacePrecedes, place_step, same_place, Has}
 pub use Rattle.fbl_base.specs.declared.clocks.Clock.{Clock}
 pub use Rattle.fbl_base.specs.declared.clocks.Seen.{Seen}
+pub use Rattle.fbl_trace.specs.declared.trace.Determinant.{Determinant}
+pub use Rattle.fbl_trace.specs.declared.trace.Mark.{Mark}
+pub use Rattle.fbl_trace.specs.declared.trace.Mark.TheVariants.{Receipt, Send}
 pub use Rattle.fbl_trace.specs.declared.trace.MessageName.{MessageName}

@@ -4,10 +4,10 @@ pub use Rattle.fbl_trace.proofs.Common.{◌-◌, ◌<◌, ◌==◌, ◌^◌, ◌
 pub use Rattle.std.proofs.lemmas.Bool.{false≢true, true_from_ne_false}
 pub use Rattle.fbl_law.proofs.Common.{nat_tests, filter-append, filter_map-append, Any-from_list_any, list_any-from_Any, get_or_from_slice_get, slice_get-get_or, filter}
 pub use Rattle.fbl_law.proofs.Common.{filter_map, list_any, after_notes-state, eqb-self, length-filter_map, length-left, IsConfig, Settings, StartAllowed, determinant_of, mark_of}
-pub use Rattle.fbl_law.proofs.Common.{receipt_of, Next, step_events, AllBelow, Members, Has, itself, in_flight, sent_on, taken_on, Determinant, Event, Mark, Send, Start}
-pub use Rattle.fbl_law.proofs.Common.{pairs_from, pairs_of, IsCheckpoint, IsDelivery, IsRecovery, IsStrike, delivery_events, message_of_send, start_events, step_of, between}
-pub use Rattle.fbl_law.proofs.Common.{gathered_all, is_on, recovery_table, saved_tables, taken_off, IsRebuilt, IsReplaying, is_replayed, recovered_trace, replayed_in, resent}
-pub use Rattle.fbl_law.proofs.Common.{resent_to, sent_again, stays_by, working, IsDown, IsInFlight, IsUp, send_mark, table, IsOnce, found, piggybacked, Entry}
+pub use Rattle.fbl_law.proofs.Common.{receipt_of, Next, step_events, AllBelow, Members, Has, itself, in_flight, sent_on, taken_on, pairs_from, pairs_of, IsCheckpoint, IsDelivery}
+pub use Rattle.fbl_law.proofs.Common.{IsRecovery, IsStrike, delivery_events, message_of_send, start_events, step_of, between, gathered_all, is_on, recovery_table, saved_tables}
+pub use Rattle.fbl_law.proofs.Common.{taken_off, IsRebuilt, IsReplaying, is_replayed, recovered_trace, replayed_in, resent, resent_to, sent_again, stays_by, working, IsDown}
+pub use Rattle.fbl_law.proofs.Common.{IsInFlight, IsUp, send_mark, table, IsOnce, found, piggybacked}
 pub use Rattle.std.proofs.lemmas.Fn.{filter_same}
 pub use Rattle.std.proofs.lemmas.List.{at_drop_more, get_or-replicate, get_or-set_other, get_or-set_same, get_or_default, get_or_past, length-map, length-replicate, length-set, map-append, set-get_or, length-take, map_more, take_all}
 pub use Rattle.std.proofs.lemmas.List.Sums.{AllPass-from_list_all, count_by_more_no, count_by_more_yes, fold-append, list_all-from_AllPass, sum_by-cons, count_by-le-length}
@@ -15,7 +15,12 @@ pub use Rattle.std.specs.FinSet.{contains, empty_of_len, len-empty}
 pub use Rattle.fbl_base.specs.Audit.{IsDumpOrphan, Parts}
 pub use Rattle.fbl_trace.specs.Steps.{SendsAllowed, SendsWell}
 pub use Rattle.fbl_trace.specs.declared.outcome.Outcome.{Outcome}
+pub use Rattle.fbl_trace.specs.declared.trace.Determinant.{Determinant}
+pub use Rattle.fbl_trace.specs.declared.trace.Event.{Event}
 pub use Rattle.fbl_trace.specs.declared.trace.Event.TheVariants.{Receipt}
+pub use Rattle.fbl_trace.specs.declared.trace.Mark.{Mark}
+pub use Rattle.fbl_trace.specs.declared.trace.Mark.TheVariants.{Send}
+pub use Rattle.fbl_trace.specs.declared.trace.Start.{Start}
 pub use Rattle.fbl_law.proofs.Lists.{sent_again-short, sum_below-agree, sum_below-none}
 pub use Rattle.fbl_law.proofs.Channels.{flight_at, flight_ends}
 pub use Rattle.fbl_law.proofs.Keeping.{checkpoint_is_recorded, group_checkpoint_keeps, group_strike_keeps, recorded_test}
@@ -31,6 +36,7 @@ pub use Rattle.fbl_member.proofs.Made.{Made, made-more, made_none}
 pub use Rattle.fbl_member.proofs.Once.{IsOnce-none, IsOnce-piggybacked}
 pub use Rattle.fbl_member.specs.Members.{MemberRecord, Message, blank, logged_note, messages_from, received_by, replayed_by, table_after}
 pub use Rattle.fbl_table.specs.Receipts.{IsByNumber, receipt_at}
+pub use Rattle.fbl_table.specs.declared.entry.Entry.{Entry}
 pub use Rattle.fbl_answers.specs.Refusals.{of_commit}
 pub use Rattle.fbl_answers.specs.declared.answers.Receipted.{Receipted}
 pub use Rattle.fbl_answers.specs.declared.refusals.CommitRefusal.{CommitRefusal}

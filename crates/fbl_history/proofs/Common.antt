@@ -2,9 +2,9 @@
 pub use Rattle.std.proofs.Common.{Bool, List, None, Ok, Option, Some, inl, inr, zero, [], ap, append-nil, arith, cond, drop, false, get_or, length, length-append, map, not, refl, rules, slice_get, subst, suc, sym, take, take_all, true, ℕ, ◌++◌}
 pub use Rattle.fbl_law.proofs.Common.{◌&&◌, ◌+◌, ◌-◌, ◌<◌, ◌==◌, ◌∙◌, ◌∷◌, ◌≡◌, ◌≤◌, ◌⊎◌, false_from_ne_true, nat_tests, filter-append, filter_map-append, get_or_from_slice_get}
 pub use Rattle.fbl_law.proofs.Common.{slice_get-get_or, slice_get-map, after_notes-state, note_of-front, receipts-noted, At-below, At-front, At-push, map-At, take-more, one_place}
-pub use Rattle.fbl_law.proofs.Common.{Settings, Has, SendsWell, MayFollow, WellFormed, is_receipt_of, is_send_of, receipts_of, sends_of, Determinant, Event, Mark, IsCheckpoint}
-pub use Rattle.fbl_law.proofs.Common.{IsDelivery, IsGroupStart, IsRecovery, IsStrike, delivery_events, start_events, receiver, stays_by, step_of, GroupRecord, marks, member}
-pub use Rattle.fbl_law.proofs.Common.{member_checkpoint, receipts_at, IsReplayed, IsSound, received_notes, length-numbered, MemberRecord, Message, blank, logged_note, replayed_by}
+pub use Rattle.fbl_law.proofs.Common.{Settings, Has, SendsWell, MayFollow, WellFormed, is_receipt_of, is_send_of, receipts_of, sends_of, IsCheckpoint, IsDelivery, IsGroupStart}
+pub use Rattle.fbl_law.proofs.Common.{IsRecovery, IsStrike, delivery_events, start_events, receiver, stays_by, step_of, GroupRecord, marks, member, member_checkpoint, receipts_at}
+pub use Rattle.fbl_law.proofs.Common.{IsReplayed, IsSound, received_notes, length-numbered, MemberRecord, Message, blank, logged_note, replayed_by}
 pub use Rattle.std.proofs.lemmas.Iterator.Adapters.{YieldsList-from_skip, YieldsList-from_vec, items_from_extend}
 pub use Rattle.std.proofs.lemmas.Iterator.Consumers.{YieldsList-at}
 pub use Rattle.std.proofs.lemmas.List.{map-append, take_more, get_or-set_other, get_or-set_same, get_or_default, length-map, length-set, take-take}
@@ -20,12 +20,16 @@ pub use Rattle.fbl_trace.proofs.RulesLaws.{eqb-self, receipt-number, receipts-st
 pub use Rattle.fbl_trace.specs.Events.{At, mark_of, receipt_of, receipts}
 pub use Rattle.fbl_trace.specs.Fold.{Next, Progress, note_of, numbered, state_after, step_events}
 pub use Rattle.fbl_trace.specs.MemberSets.{AllBelow, Members, member_list}
-pub use Rattle.fbl_group.proofs.Common.{Outcome, strike_refusal, group_delivery_keeps, group_strike_keeps, down_or_up, up_if_none}
+pub use Rattle.fbl_trace.specs.declared.outcome.Outcome.{Outcome}
+pub use Rattle.fbl_trace.specs.declared.trace.Determinant.{Determinant}
 pub use Rattle.fbl_group.proofs.Striking.{within-below}
 pub use Rattle.fbl_group.specs.Records.{CrashLeads, StrikeLeads, TurnLeads, TurnsLead}
+pub use Rattle.fbl_group.proofs.Common.{strike_refusal, group_delivery_keeps, group_strike_keeps, down_or_up, up_if_none}
 pub use Rattle.fbl_answers.specs.declared.record.CrashRecord.{CrashRecord}
 pub use Rattle.fbl_answers.specs.declared.record.RecoveryRecord.{RecoveryRecord}
 pub use Rattle.fbl_answers.specs.declared.record.TurnRecord.{TurnRecord}
+pub use Rattle.fbl_trace.specs.declared.trace.Event.{Event}
+pub use Rattle.fbl_trace.specs.declared.trace.Mark.{Mark}
 pub use Rattle.fbl_trace.specs.declared.trace.Note.{Note}
 pub use Rattle.fbl_law.proofs.Lists.{filter-agree, filter-passes, some-at}
 pub use Rattle.fbl_law.proofs.ReplayedRecords.{fold-received, fold-replayed, log-short, logged-by, logged-noted, mark-at, receipt-at, send-at, replayed-step}

@@ -3,7 +3,7 @@ pub use Rattle.std.proofs.Common.{Bool, Decides, List, None, Option, Some, [], a
 pub use Rattle.std.proofs.Common.{length-append, length-take, map, nat_le, nat_lt, not, option_map, refl, slice_get, subst, suc, sym, take, true, zero, ℕ, ◌&&◌, ◌*◌, ◌++◌, ◌+◌}
 pub use Rattle.fbl_trace.proofs.Common.{◌-◌, ◌<◌, ◌==◌, ◌||◌, ◌↔◌, ◌∙◌, ◌∷◌, ◌≡◌, ◌≢◌, ◌≤◌, ◌⊎◌, nat_cmp, At, destination_of, determinant_of, mark_of, member_of, receipt_of}
 pub use Rattle.fbl_trace.proofs.Common.{same_determinant, send_of, start_of, starts_of, step_events, took, MayFollow, WellFormed, in_flight, is_receipt_of, is_send_of, receipts_of}
-pub use Rattle.fbl_trace.proofs.Common.{sends_of, sent_on, taken_on, Determinant, Event, Mark, Receipt, Send, Start}
+pub use Rattle.fbl_trace.proofs.Common.{sends_of, sent_on, taken_on}
 pub use Rattle.std.proofs.Math.Nat.{add-zero, zero-add}
 pub use Rattle.std.proofs.Math.Seq.{take-append-add}
 pub use Rattle.std.proofs.lemmas.Bool.{and_parts, false≢true, cases_Bool, cases_eq, cases_lt, cases_order, eq-eqb, false_from_ne_true, ne_eqb}
@@ -37,12 +37,18 @@ pub use Rattle.fbl_trace.specs.Fold.{Action, Lawful, Logged, Next, Progress, act
 pub use Rattle.fbl_trace.specs.MemberSets.{AllBelow, Members, contains-members_where, contains-union, contains-insert_other, contains-insert_same, members_where}
 pub use Rattle.fbl_trace.specs.Precedence.{Depends, Earlier, Has, Leads, Precedes, itself, step}
 pub use Rattle.fbl_trace.specs.Steps.{SendsWell}
+pub use Rattle.fbl_trace.specs.declared.trace.Determinant.{Determinant}
+pub use Rattle.fbl_trace.specs.declared.trace.Event.{Event}
+pub use Rattle.fbl_trace.specs.declared.trace.Mark.{Mark}
+pub use Rattle.fbl_trace.specs.declared.trace.Mark.TheVariants.{Receipt, Send}
+pub use Rattle.fbl_trace.specs.declared.trace.Start.{Start}
 pub use Rattle.fbl_member.proofs.Logs.{length-numbered, numbered-append}
 pub use Rattle.fbl_member.proofs.Once.{IsOnce-none}
-pub use Rattle.fbl_member.proofs.Common.{IsOnce, Entry}
+pub use Rattle.fbl_member.specs.Carried.{IsOnce}
 pub use Rattle.fbl_member.specs.Members.{MemberRecord, Message, blank, fresh, last_from, logged_beyond, logged_note, messages_from, next_determinant, progress_of, replayed_by}
 pub use Rattle.fbl_table.proofs.Adding.{added_new, fold_next, held-carried, held-gathered, not_held_learned}
 pub use Rattle.fbl_table.specs.Tables.{found, gathered, held_by, is_held, is_of_receipt, learned, noted, piggybacked}
+pub use Rattle.fbl_table.specs.declared.entry.Entry.{Entry}
 pub use Rattle.fbl_law.specs.Promises.{dump_of, held_pairs, pairs_from, pairs_of, GainsHolders, HoldsEachReceipt, IsHeldBy, LeavesRecorded, RecordsCauses, RecordsFirst, SurvivorsHold}
 pub use Rattle.fbl_law.specs.GroupLaws.{CheckpointIsRecorded, GainsTheDown, GroupCheckpointKeeps, OfRecovery, RecordedTest, RunIsSound, StaysIsRecorded, checkpoints, delivers}
 pub use Rattle.fbl_law.specs.GroupLaws.{recovers, starts, strikes}

@@ -3,7 +3,7 @@ pub use Rattle.std.proofs.Common.{Bool, List, None, Option, Some, [], add-zero, 
 pub use Rattle.std.proofs.Common.{position, refl, rules, slice_get, suc, sym, take, true, zero, ℕ, ◌&&◌, ◌++◌, ◌+◌, ◌<◌, ◌||◌, ◌∙◌, ◌∷◌, ◌≡◌, ◌≤◌}
 pub use Rattle.std.proofs.Math.Bool.{or_comm}
 pub use Rattle.std.proofs.lemmas.Bool.{eqb-true, false_from_ne_true, false≢true, or_from, or_left, or_parts, or_right}
-pub use Rattle.fbl_trace.proofs.Common.{nat_tests, list_any-append, nat_cmp_total, nat_cmp, same_determinant, same_from_contains, Determinant}
+pub use Rattle.fbl_trace.proofs.Common.{nat_tests, list_any-append, nat_cmp_total, nat_cmp, same_determinant, same_from_contains}
 pub use Rattle.std.proofs.lemmas.Fn.{filter_same}
 pub use Rattle.std.proofs.lemmas.List.{append-nil, append_assoc, drop_all, length-append, length-map, map-append, take_all, take_more}
 pub use Rattle.std.proofs.lemmas.List.Elements.{All-get_or, AllZip-push, filter-append, filter_passes, length_all_zip, same_from_all_zip}
@@ -18,6 +18,7 @@ pub use Rattle.std.specs.Vec.{vec_capacity}
 pub use Rattle.fbl_trace.proofs.Gets.{drop_next, length-filter_map, length-left}
 pub use Rattle.fbl_trace.proofs.RulesLaws.{Decides-same_determinant}
 pub use Rattle.fbl_trace.proofs.Sets.{len-within}
+pub use Rattle.fbl_trace.specs.declared.trace.Determinant.{Determinant}
 pub use Rattle.indexmap.proofs.MapLemmas.{absent_from_lookup, insert_entry-absent, or_len-absent}
 pub use Rattle.indexmap.specs.IndexMap.{insert_entry}
 pub use Rattle.indexmap.specs.Layout.{length-set_value_at, set_value_at}

@@ -7,26 +7,32 @@ pub use Rattle.std.proofs.lemmas.List.{drop-append-le, map_push, take-append-le,
 pub use Rattle.std.proofs.lemmas.List.Elements.{All-push}
 pub use Rattle.std.proofs.lemmas.List.Sums.{prefix_len-le-length}
 pub use Rattle.std.proofs.lemmas.Map.Views.{any-filter_same}
-pub use Rattle.fbl_audit.proofs.Common.{IfOk-weaker, nat_cmp_total, IsSafe, SaysUnsafe, IsLeftOrphan, UnsafeReceipt, receipts, At, receipt_of, Determinant, Mark, Receipt, Send}
-pub use Rattle.fbl_audit.proofs.Common.{member_within, DependsOnPlace, Has, WellFormed}
+pub use Rattle.fbl_audit.proofs.Common.{IfOk-weaker, nat_cmp_total, IsSafe, SaysUnsafe, IsLeftOrphan, receipts, At, receipt_of, member_within, DependsOnPlace, Has, WellFormed}
 pub use Rattle.std.proofs.lemmas.Str.{IsUtf8-append}
 pub use Rattle.std.specs.Char.{is_ascii_digit}
 pub use Rattle.std.specs.List.{All, filter, list_all, list_any, prefix_len, range_with_len, starts_with, AllZip}
-pub use Rattle.fbl_input.proofs.Common.{IsUtf8, IsFirstFault, PutsOut, RunFault, InputKind, items_of, view, Value}
+pub use Rattle.fbl_input.proofs.Common.{IsUtf8, IsFirstFault, PutsOut, items_of, view}
+pub use Rattle.fbl_audit.specs.declared.checking.UnsafeReceipt.{UnsafeReceipt}
 pub use Rattle.fbl_base.specs.Audit.{IsDump, Parts, RefusesDump, lost_determinants, parts_of}
 pub use Rattle.fbl_trace.specs.MemberSets.{AllBelow, member_list, Members}
 pub use Rattle.fbl_trace.specs.declared.fault.Breach.{Breach}
 pub use Rattle.fbl_base.specs.declared.refusal.DumpRefusal.{DumpRefusal}
+pub use Rattle.fbl_trace.specs.declared.trace.Determinant.{Determinant}
+pub use Rattle.fbl_trace.specs.declared.trace.Mark.{Mark}
+pub use Rattle.fbl_trace.specs.declared.trace.Mark.TheVariants.{Receipt, Send}
 pub use Rattle.fbl_input.proofs.Inputs.{over_input, refused}
 pub use Rattle.fbl_input.proofs.Lists.{elements_of, json_read}
 pub use Rattle.fbl_input.proofs.Outputs.{puts_front, puts_text}
 pub use Rattle.fbl_input.specs.Misfits.{IsOfParts, IsOfSettings, run_fault}
 pub use Rattle.fbl_input.specs.Shapes.{all_shaped, count_shape, field, json_of, list_of, longest, member_shape, name_of, number_within, or_fault, set_shape, value_of_input, ◌>>=◌}
+pub use Rattle.fbl_input.specs.declared.fault.RunFault.{RunFault}
 pub use Rattle.fbl_input.specs.declared.input_fault.InputFault.{InputFault}
+pub use Rattle.fbl_input.specs.declared.misfit.InputKind.{InputKind}
 pub use Rattle.serde_json.proofs.Views.{view-Array}
 pub use Rattle.serde_json.specs.Data.{Data, array, depth, items_depth}
 pub use Rattle.serde_json.specs.Read.{max_depth, of_json, read}
 pub use Rattle.serde_json.specs.Written.{compact_text, has_float, items_have_float}
+pub use Rattle.serde_json.specs.declared.value.Value.{Value}
 pub use Rattle.fbl_texts.specs.Auditing.{ArePathsFrom, IsAuditText, IsChecked, IsLossReason, IsPathFrom, IsVerdict, check_lines, unsafe_lines, verdict_of}
 pub use Rattle.fbl_texts.specs.DumpLines.{IsWritable, ReadsBack, event_data, list_data, number_data, pair_data}
 pub use Rattle.fbl_texts.specs.Dumps.{IsDumpFault, IsDumpOf, RefusesParts, event_shape, pair_shape, parts_of_data, parts_of_input}

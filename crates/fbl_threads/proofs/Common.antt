@@ -1,10 +1,14 @@
 -- The names that proofs of this crate take from outside: of the standard library, of the crates below, and of the definitions here.
 pub use Rattle.fbl_turns.proofs.Common.{Bool, List, Some, [], ap, append-nil, arith, cond, get_or-set_other, get_or-set_same, inl, inr, length, option_map, refl, slice_index, sum}
-pub use Rattle.fbl_turns.proofs.Common.{sym, ℕ, ◌++◌, ◌+◌, ◌<◌, ∥∥₁_elim, nat_tests, sum_by-replicate, Coded-set, coded_ℕ, codes, nat_cmp, Next, Members, Strike, Recovered}
-pub use Rattle.fbl_turns.proofs.Common.{CrashRecord, TurnRecord, Ticket, GroupRecord, ⊎_elim, counts_of, Keeps, struck_at, begins, goes_on, recorded, Counts, Reached, Turn}
-pub use Rattle.fbl_turns.proofs.Common.{more_at, starts, turns, commits, crashes, strikes}
+pub use Rattle.fbl_turns.proofs.Common.{sym, ℕ, ◌++◌, ◌+◌, ◌<◌, ∥∥₁_elim, nat_tests, sum_by-replicate, Coded-set, coded_ℕ, codes, nat_cmp, Next, Members, GroupRecord, ⊎_elim}
+pub use Rattle.fbl_turns.proofs.Common.{counts_of, Keeps, struck_at, begins, goes_on, recorded, Counts, Reached, Turn, more_at, starts, turns, commits, crashes, strikes}
 pub use Rattle.fbl_law.proofs.Common.{length-append, ◌≢◌, ◌==◌, ◌∙◌, ◌∷◌, ◌≡◌, ◌≤◌, ◌⊎◌, cases_eq, sum_by_push}
 pub use Rattle.fbl_trace.proofs.Gets.{At-push, get_or-same}
+pub use Rattle.fbl_trace.specs.declared.strike.Strike.{Strike}
+pub use Rattle.fbl_answers.specs.declared.answers.Recovered.{Recovered}
+pub use Rattle.fbl_answers.specs.declared.record.CrashRecord.{CrashRecord}
+pub use Rattle.fbl_answers.specs.declared.record.TurnRecord.{TurnRecord}
+pub use Rattle.fbl_trace.specs.declared.ticket.Ticket.{Ticket}
 pub use Rattle.fbl_turns.proofs.Keeping.{kept, sum-more}
 pub use Rattle.fbl_turns.proofs.Kept.{kept_by_some, still}
 pub use Rattle.fbl_turns.proofs.Recording.{forgets, listed, some_run}

@@ -1,7 +1,7 @@
 -- The names that proofs of this crate take from outside: of the standard library, of the crates below, and of the definitions here.
 pub use Rattle.std.proofs.Common.{Bool, List, None, Option, Some, [], ap, append-nil, arith, below_more, cond, eq-eqb, eqb, false, filter, find, get_or, get_or-set_other, get_or-set_same, inl, inr}
-pub use Rattle.fbl_group.proofs.Common.{not, ◌==◌, ◌||◌, ◌↔◌, ◌∙◌, ◌∷◌, ◌≡◌, ◌≤◌, ◌⊎◌, nat_tests, filter-append, nat_cmp_total, nat_cmp, Settings, Next, Has, Event, Mark, Recovers}
-pub use Rattle.fbl_group.proofs.Common.{strike_refusal, RefusesCommit, CommitRefusal, Ticket, GroupRecord, knowledge, member, Message}
+pub use Rattle.fbl_group.proofs.Common.{not, ◌==◌, ◌||◌, ◌↔◌, ◌∙◌, ◌∷◌, ◌≡◌, ◌≤◌, ◌⊎◌, nat_tests, filter-append, nat_cmp_total, nat_cmp, Settings, Next, Has, Recovers}
+pub use Rattle.fbl_group.proofs.Common.{strike_refusal, RefusesCommit, GroupRecord, knowledge, member, Message}
 pub use Rattle.std.proofs.Common.{length, length-set, map, ne_eqb, option_map, refl, rules, set, slice_index, subst, suc, sum, sym, take, true, true≢false, zero, ℕ, ◌++◌, ◌+◌, ◌<◌}
 pub use Rattle.std.proofs.Math.ListN.{replicate}
 pub use Rattle.std.proofs.Math.Logic.{∥∥₁_elim, ∥∥₁_map}
@@ -16,13 +16,17 @@ pub use Rattle.atomic_table.specs.Table.{Allows, Joins, Splits, State, keeps}
 pub use Rattle.fbl_trace.specs.MemberSets.{Members, same_from_contains}
 pub use Rattle.fbl_trace.specs.Breaches.{IsPlan, MayBeStruck, set_at}
 pub use Rattle.fbl_trace.specs.declared.strike.Strike.{Strike}
+pub use Rattle.fbl_trace.specs.declared.trace.Event.{Event}
+pub use Rattle.fbl_trace.specs.declared.trace.Mark.{Mark}
 pub use Rattle.fbl_group.proofs.Striking.{is_allowed}
 pub use Rattle.fbl_group.specs.Records.{Commits, IsPlannedCrash, IsRecoveryRecord, StrikeLeads, TurnLeads, TurnsLead}
 pub use Rattle.fbl_answers.specs.declared.answers.Recovered.{Recovered}
 pub use Rattle.fbl_answers.specs.declared.record.CrashRecord.{CrashRecord}
 pub use Rattle.fbl_answers.specs.declared.record.RecoveryRecord.{RecoveryRecord}
 pub use Rattle.fbl_answers.specs.declared.record.TurnRecord.{TurnRecord}
+pub use Rattle.fbl_answers.specs.declared.refusals.CommitRefusal.{CommitRefusal}
 pub use Rattle.fbl_answers.specs.declared.refusals.CommitRefusal.TheVariants.{Down, Full, Memory, Stale}
+pub use Rattle.fbl_trace.specs.declared.ticket.Ticket.{Ticket}
 pub use lib.ListN.{get_elem?}
 pub use mathlib.Core.Logic.{dite, ⊎_elim}
 pub use mathlib.Core.Option.{some, some-ne-none}

@@ -4,9 +4,9 @@ pub use Rattle.std.proofs.Common.{string_bytes, subst, suc, sym, true, unwrap_or
 pub use Rattle.std.proofs.lemmas.Fmt.{decimal_digit, parse-decimal}
 pub use Rattle.std.specs.Borrow.{Bor}
 pub use Rattle.std.specs.Box.{box_value}
-pub use Rattle.fbl_texts.proofs.Common.{list_any, parts_of, Parts, RunFault, IsAuditText, IsChecked, run_fault}
+pub use Rattle.fbl_texts.proofs.Common.{list_any, parts_of, Parts, IsAuditText, IsChecked, run_fault}
 pub use Rattle.std.specs.Prelude.{Box, pos}
-pub use Rattle.fbl_play.proofs.Common.{IsErrAnd, Answer, OutputFault, GroupRecord, Command}
+pub use Rattle.fbl_play.proofs.Common.{IsErrAnd, GroupRecord}
 pub use Rattle.std.specs.Str.Parse.{ExplainsUnsignedError, HasUnsignedDigitsIfOk, ParsesUnsigned}
 pub use Rattle.clap.proofs.WalkLemmas.{first_value-rows, one_text-rows, raw_values-rows}
 pub use Rattle.clap.specs.Simple.{built, entered, is_simple, names_of}
@@ -23,6 +23,7 @@ pub use Rattle.clap.specs.declared.parser.matches.SubCommand.{SubCommand}
 pub use Rattle.fbl_base.proofs.AuditLaws.{or_false}
 pub use Rattle.fbl_trace.specs.Configs.{WorkersAllowed}
 pub use Rattle.fbl_commands.specs.Steps.{is_refusal}
+pub use Rattle.fbl_commands.specs.declared.answer.Answer.{Answer}
 pub use Rattle.fbl_pictures.specs.HistoryPictures.{history_picture}
 pub use Rattle.fblrun.specs.CommandLines.{AreNames, IsRefusedFor, IsRequestOf, Names, all_given_in, given_in, is_merge, merge_line, texts_in, IsCommandLine, IsOrderAt, flag_text, is_play, is_show, order_for}
 pub use Rattle.fblrun.specs.CommandLines.{program, with_explain, with_strict, IsRequestAt, audit_line, check_line, draw_line, is_audit, is_check, is_draw}
@@ -36,10 +37,13 @@ pub use Rattle.fbl_base.specs.declared.raw_dump.RawDump.{RawDump}
 pub use Rattle.fbl_input.proofs.Outputs.{keeps_itself, puts_as, puts_text}
 pub use Rattle.fbl_input.proofs.Inputs.{over_fault}
 pub use Rattle.fbl_input.specs.Faults.{OverInput, PutsOut}
+pub use Rattle.fbl_input.specs.declared.fault.RunFault.{RunFault}
+pub use Rattle.fbl_input.specs.declared.output.OutputFault.{OutputFault}
 pub use Rattle.fbl_play.specs.Plays.{Observes, PlaysScript, Ran, next_of}
 pub use Rattle.fbl_play.proofs.Moments.{unobserved}
 pub use Rattle.fbl_play.specs.Transcripts.{Transcript, text}
 pub use Rattle.fbl_texts.specs.Scripts.{IsScriptFault, IsScriptOf, Outline, behaviour_word, outline}
+pub use Rattle.fbl_texts.specs.declared.script.Command.{Command}
 pub use Rattle.fblrun.specs.Merging.{RefusesLogMerge, RefusesMerge, RefusesOrder, merge_status}
 pub use Rattle.fblrun.specs.Orders.{DoesScript, EndsLogs, EndsMerged, IsDumpAnswer, IsLogAnswer, IsShown, PlaysWell, is_well_after}
 pub use Rattle.fblrun.specs.declared.merging.MergeFault.{MergeFault}
