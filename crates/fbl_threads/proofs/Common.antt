@@ -14,4 +14,3 @@ pub use Rattle.fbl_turns.proofs.Kept.{kept_by_some, still}
 pub use Rattle.fbl_turns.proofs.Recording.{forgets, listed, some_run}
 pub use Rattle.fbl_threads.specs.Crossing.{StrikesAsPlanned, planned_at, struck_in, struck_on}
 pub use Rattle.fbl_turns.specs.Recorded.{ReachedBy, TellsCounts, crash_undid, made_by, undone_in, undone_of}
-pub use Rattle.fbl_threads.specs.Stages.{IsOf}

@@ -1,8 +1,8 @@
 -- How far a worker is with its turn.
 use Rattle.std.specs.Prelude.{◌≡◌}
 use Rattle.atomic_table.specs.Seated.{TableId}
-use Rattle.fbl_threads.specs.declared.stage.Stage.{Stage}
-use Rattle.fbl_threads.specs.declared.stage.Stage.TheVariants.{Idle, Taken, Ended}
+use Rattle.fbl_workers.specs.declared.stage.Stage.{Stage}
+use Rattle.fbl_workers.specs.declared.stage.Stage.TheVariants.{Idle, Taken, Ended}
 
 -- the worker's pass or claim is of these claims
 abbrev pub IsOf : {S N : Type 0} → TableId → Stage S N → Type 0
