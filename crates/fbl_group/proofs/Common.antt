@@ -40,8 +40,10 @@ pub use Rattle.fbl_table.specs.declared.entry.Entry.{Entry}
 pub use Rattle.fbl_answers.specs.Refusals.{of_commit}
 pub use Rattle.fbl_answers.specs.declared.answers.Receipted.{Receipted}
 pub use Rattle.fbl_answers.specs.declared.refusals.CommitRefusal.{CommitRefusal}
-pub use Rattle.fbl_channels.proofs.Queues.{Replacing, in-channels, reads, replacing-kept, replacing-other}
-pub use Rattle.fbl_channels.specs.Channels.{AreReplaced, each, first_message, front, front_message, room_in, rows, send_of_message, taken_and_sent, with_at, with_sent}
+pub use Rattle.fbl_parts.proofs.Queues.{Replacing, in-channels, reads, replacing-kept, replacing-other}
+pub use Rattle.fbl_parts.proofs.Starting.{put-in, written-shape}
+pub use Rattle.fbl_parts.specs.Lost.{is_lost_receipt_of}
+pub use Rattle.fbl_parts.specs.Channels.{AreReplaced, each, first_message, front, front_message, room_in, rows, send_of_message, taken_and_sent, with_at, with_sent}
 pub use Rattle.fbl_group.specs.Deliveries.{Delivered, Delivers, IsDeliverRefusal, IsPlanned, MayTakeIn, TakesIn, deliver_refusal, IsCurrent, IsFresh, IsTicket, MayCommit, RefusesCommit, is_full, record_at, sends_at, take_refusal}
-pub use Rattle.fbl_group.specs.Strikes.{AreByNumber, AreReplaying, AreSentAgain, IsReady, Rounds, Tries, Recovers, messages_at, AreRecordsReplaced, is_lost_receipt_of, is_within, lost_receipts, strike_refusal}
+pub use Rattle.fbl_group.specs.Strikes.{AreByNumber, AreReplaying, AreSentAgain, IsReady, Rounds, Tries, Recovers, messages_at, AreRecordsReplaced, is_within, lost_receipts, strike_refusal}
 pub use Rattle.fbl_trace.specs.declared.ticket.Ticket.{Ticket}

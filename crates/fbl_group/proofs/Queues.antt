@@ -1,6 +1,5 @@
 -- Channels as queues: what is left of them by a start and a delivery.
-pub use Rattle.fbl_group.proofs.Common.{◌≡◌, ℕ, zero, suc, ◌+◌, ◌<◌, ◌≤◌, Bool, List, [], ◌∷◌, ◌++◌, length, map, drop, replicate, refl, sym, ap, ◌∙◌, arith, Some, slice_get, get_or, append_assoc, All, map-append, get_or_past, filter-append, Entry, Message, messages_from, between, is_on, taken_off, HasChannels, channel_in, room_in, each, with_sent, taken_and_sent, send_of_message, append-nil, get_or-replicate, length-replicate, step_events, first_message, with_at, Made, made-more, filter_map-append, Event, message_of_send, filter_map, Start, Settings, IsConfig, StartAllowed, slice_get-get_or, at_drop_more, start_events, drop_of_length-le, IsOnce-none, IsSound, group_delivery_keeps, in-channels, reads}
-use Rattle.fbl_trace.specs.declared.trace.Event.TheVariants.{Send}
+pub use Rattle.fbl_group.proofs.Common.{◌≡◌, ℕ, zero, suc, ◌+◌, ◌<◌, ◌≤◌, Bool, List, [], ◌∷◌, ◌++◌, length, map, drop, replicate, refl, sym, ap, ◌∙◌, arith, Some, slice_get, get_or, append_assoc, All, map-append, get_or_past, filter-append, Entry, Message, messages_from, between, is_on, taken_off, HasChannels, channel_in, room_in, each, with_sent, taken_and_sent, send_of_message, append-nil, get_or-replicate, length-replicate, step_events, first_message, with_at, Made, made-more, filter_map-append, Event, message_of_send, filter_map, Start, Settings, IsConfig, StartAllowed, slice_get-get_or, at_drop_more, start_events, drop_of_length-le, IsOnce-none, IsSound, group_delivery_keeps, in-channels, reads, put-in, written-shape}
 
 module _ {N : Type 0} where
   -- the first of a list that has one
@@ -20,25 +19,6 @@ pub record Turned {X : Type 0} (d : X) (Wanted : ℕ → X → Type 0) (i : ℕ)
   pub size : length xs ≡ length old
   pub done : (m : ℕ) → m < i → Wanted m (get_or xs m d)
   pub rest : (m : ℕ) → i ≤ m → get_or xs m d ≡ get_or old m d
-
-module _ {N : Type 0} where
-  -- channels that are none
-  pub none-shape : (n : ℕ) (cs : List (List (List (Message N)))) → cs ≡ replicate n (replicate n []) → HasChannels n cs
-  none-shape n cs is = grind (arith, get_or-replicate, length-replicate)
-
-  pub none-in : (n : ℕ) (cs : List (List (List (Message N)))) (q p : ℕ) → cs ≡ replicate n (replicate n []) → channel_in cs q p ≡ []
-  none-in n cs q p is = grind (arith, get_or-replicate, get_or_past, length-replicate)
-
--- one channel is written
-module _ {N : Type 0} {n : ℕ} {cs : List (List (List (Message N)))} {a b : ℕ} (x : List (Message N)) (shape : HasChannels n cs) (below_a : a < n) (below_b : b < n) where
-  pub written-shape : HasChannels n (with_at cs a b x)
-  written-shape = grind reads
-
-module _ {N : Type 0} where
-  -- a message is put at the end of its channel
-  pub put-in : {n : ℕ} {cs : List (List (List (Message N)))} {me : ℕ} (v : Message N) (q p : ℕ) → v.from ≡ me → HasChannels n cs → me < n → v.to < n
-      → channel_in (with_at cs me v.to (channel_in cs me v.to ++ v ∷ [])) q p ≡ channel_in cs q p ++ between q p (v ∷ [])
-  put-in v q p of_me shape from to = grind (reads, append-nil)
 
 -- ---- deliveries
 
@@ -92,24 +72,3 @@ module _ {N : Type 0} where
   pub sends-messages : (me before : ℕ) (carried : List Entry) (sends : List (ℕ × N)) → map send_of_message (messages_from me before carried sends) ≡ step_events me before sends
   sends-messages me before carried [] = refl
   sends-messages me before carried (s ∷ sends) = rw (sends-messages me (before + 1) carried sends) refl
-
--- ---- what a group is made of at its start
-
--- a start has a channel, and its message is at the end of it
-module _ {N : Type 0} {c : Settings N} {starts : List (Start N)} {i : ℕ} {s : Start N} {cs : List (List (List (Message N)))} {fits : N → Bool} (is : IsConfig fits c) (all : starts ≡ c.starts) (below : i < length starts)
-    (read : s ≡ get_or starts i s) (shape : HasChannels c.members cs) where
-  allowed : StartAllowed fits c.members s
-  allowed = is.starts i s (rw (← all, slice_get-get_or starts i s below, ← read) refl)
-
-  pub start-places : (s.from < length cs) × (s.to < length (get_or cs s.from []))
-  start-places = in-channels shape allowed.0 allowed.1
-
-  module _ (ssn : ℕ) {after : List (List (List (Message N)))} (put : after ≡ with_sent cs s.from (record { from = s.from; to = s.to; ssn = ssn; note = s.note; carried = [] } ∷ [])) where
-    pub start-shape : HasChannels c.members after
-    start-shape = rw put (written-shape _ shape allowed.0 allowed.1)
-
-    pub start-sent : (q p : ℕ) (events : List (Event N)) → channel_in cs q p ≡ between q p (filter_map message_of_send events)
-        → channel_in after q p ≡ between q p (filter_map message_of_send (events ++ Send s.from ssn s.to s.note ∷ []))
-    start-sent q p events was =
-        rw (put, filter_map-append message_of_send events (Send s.from ssn s.to s.note ∷ []), filter-append (is_on q p) (filter_map message_of_send events), ← was)
-        (put-in _ q p refl shape allowed.0 allowed.1)

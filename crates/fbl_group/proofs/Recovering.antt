@@ -13,14 +13,6 @@ module _ {S N : Type 0} where
   pub read_at : (outside : S) (ms : List (MemberRecord S N)) {place i : ℕ} {m : MemberRecord S N} → place ≡ i → i < length ms → m ≡ get_or ms place m → m ≡ slice_index_or ms i (blank outside)
   read_at outside ms {i = i} {m = m} is below read = grind (arith, get_or_default)
 
-  -- one that is looked up in these, which are the list: it is there, or the place is past the end
-  pub read_within : (outside : S) {ms found : List (MemberRecord S N)} {place i : ℕ} {m : MemberRecord S N} → found ≡ ms → place ≡ i → true ≡ nat_lt place (length found) → m ≡ get_or found place m
-      → m ≡ slice_index_or ms i (blank outside)
-  read_within outside same is there read = grind (arith, nat_tests, get_or_default)
-
-  pub read_past : (outside : S) {ms found : List (MemberRecord S N)} {place i : ℕ} → found ≡ ms → place ≡ i → false ≡ nat_lt place (length found) → blank outside ≡ slice_index_or ms i (blank outside)
-  read_past outside same is past = grind (arith, nat_tests, get_or_past)
-
 pub one-at-most : (b : Bool) → bool_byte b ≤ 1
 one-at-most true = omega arith
 one-at-most false = omega arith

@@ -10,7 +10,7 @@ use Rattle.fbl_answers.specs.declared.refusals.TakeRefusal.TheVariants as take
 use Rattle.fbl_answers.specs.declared.refusals.CommitRefusal.{CommitRefusal}
 use Rattle.fbl_answers.specs.declared.refusals.CommitRefusal.TheVariants as commit
 use Rattle.fbl_trace.specs.declared.ticket.Ticket.{Ticket}
-use Rattle.fbl_channels.specs.Channels.{front, front_message}
+use Rattle.fbl_parts.specs.Channels.{front, front_message}
 use Rattle.fbl_trace.specs.declared.outcome.Outcome.{Outcome}
 use Rattle.fbl_law.specs.GroupSteps.{step_of, IsDelivery}
 use Rattle.fbl_answers.specs.declared.refusals.DeliverRefusal.{DeliverRefusal}

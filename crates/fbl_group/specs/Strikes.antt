@@ -1,14 +1,12 @@
 -- Strikes, recoveries, and crashes, which are both: when they are refused, and what they leave and answer.
-use Rattle.std.specs.Prelude.{◌≡◌, ℕ, ◌<◌, ◌==◌, ◌&&◌, not, nat_lt, Bool, true, false, length, Option, Some, None, if◌then◌else◌, List, slice_index_or, ◌+◌, ◌||◌, []}
+use Rattle.std.specs.Prelude.{◌≡◌, ℕ, ◌<◌, ◌==◌, not, nat_lt, Bool, true, false, length, Option, Some, None, if◌then◌else◌, List, slice_index_or, ◌+◌, ◌||◌, []}
 use Rattle.std.specs.List.{filter, list_all}
 use Rattle.std.specs.FinSet as set
 use Rattle.fbl_trace.specs.MemberSets.{Members}
 use Rattle.fbl_trace.specs.declared.trace.Determinant.{Determinant}
-use Rattle.fbl_trace.specs.declared.trace.Event.{Event}
-use Rattle.fbl_trace.specs.Events.{determinant_of, mark_of}
 use Rattle.fbl_trace.specs.Fold.{Next}
 use Rattle.fbl_member.specs.Members.{MemberRecord, Message, blank}
-use Rattle.fbl_law.specs.Groups.{GroupRecord, marks, receipts, is_recorded, is_recorded_among, channel, channel_in, sum_below, member_checkpoint, knowledge}
+use Rattle.fbl_law.specs.Groups.{GroupRecord, marks, receipts, is_recorded, channel, channel_in, sum_below, member_checkpoint, knowledge}
 use Rattle.fbl_law.specs.GroupSteps.{IsStrike, IsRecovery, is_replayed, IsReplaying, IsWaiting, replayed_in, recovery_table, sent_again, working}
 use Rattle.fbl_answers.specs.declared.refusals.StrikeRefusal.{StrikeRefusal}
 use Rattle.fbl_answers.specs.declared.refusals.StrikeRefusal.TheVariants as strike
@@ -37,15 +35,6 @@ strike_refusal r struck =
 -- the determinants of the lost receipts, in order: those that no survivor and no checkpoint has recorded
 abbrev pub lost_receipts : {S N : Type 0} → GroupRecord S N → List Determinant
 lost_receipts r = filter (λ d. not (is_recorded r d)) (receipts (marks r))
-
--- whether there is a determinant of a member of the set, and none of these members' and checkpoints' tables has it
-abbrev pub is_unheld : {S N : Type 0} → Members → List (MemberRecord S N) → List (MemberRecord S N) → Option Determinant → Bool
-is_unheld s members checkpoints None = false
-is_unheld s members checkpoints (Some d) = set.contains s d.to && not (is_recorded_among members checkpoints d)
-
--- whether the event is a receipt of a member of the set whose determinant none of these members' and checkpoints' tables has
-abbrev pub is_lost_receipt_of : {S N : Type 0} → Members → List (MemberRecord S N) → List (MemberRecord S N) → Event N → Bool
-is_lost_receipt_of s members checkpoints event = is_unheld s members checkpoints (determinant_of (mark_of event))
 
 -- exactly the records of the members of the set are replaced, by these
 pub record AreRecordsReplaced {S N : Type 0} (outside : S) (s : Members) (by : ℕ → MemberRecord S N) (old new : List (MemberRecord S N)) : Type 0 where

@@ -2,7 +2,7 @@
 
 ghost use Rattle.std.specs.Prelude.{◌≡◌, ◌↔◌, ◌+◌, ◌<◌, ◌≤◌, IsTrue, IfOk, IfErr, IfSome, IfNone, OnOk, OnErr, None, Some};
 ghost use Rattle.fbl_member.specs.Members.{Message};
-ghost use Rattle.fbl_channels.specs.Channels.{front as front_of};
+ghost use Rattle.fbl_parts.specs.Channels.{front as front_of};
 ghost use Rattle.fbl_group.specs.Deliveries.{Delivers, IsPlanned, has_no_room, take_refusal, IsTicket, IsCurrent, MayCommit, RefusesCommit};
 
 use crate::group::Group;

@@ -1,7 +1,7 @@
 //! Deliveries.
 
 ghost use Rattle.std.specs.Prelude.{◌≡◌, ◌<◌, IfOk, IfErr, OnErr, None, vec_len};
-ghost use Rattle.fbl_channels.specs.Channels.{front_message};
+ghost use Rattle.fbl_parts.specs.Channels.{front_message};
 ghost use Rattle.fbl_group.specs.Deliveries.{deliver_refusal, IsDeliverRefusal, IsPlanned, Delivers, Delivered, MayTakeIn, TakesIn, record_at};
 ghost use Rattle.fbl_answers.specs.Refusals.{of_commit as of_commit_refusal};
 

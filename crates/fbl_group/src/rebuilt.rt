@@ -1,15 +1,12 @@
 //! The records with which members come back.
 
-ghost use Rattle.std.specs.Prelude.{◌≡◌, ◌≤◌, length, slice_index_or, vec_len};
-ghost use Rattle.std.specs.List.{filter};
-ghost use Rattle.fbl_trace.specs.Events.{mark_of};
+ghost use Rattle.std.specs.Prelude.{◌≡◌, ◌≤◌, slice_index_or, vec_len};
 ghost use Rattle.fbl_member.specs.Members.{blank};
-ghost use Rattle.fbl_law.specs.GroupSteps.{stays_by};
 ghost use Rattle.fbl_group.specs.Strikes.{AreRecordsReplaced};
 
 use fbl_member::MemberRec;
 use fbl_table::{Receipts, Table};
-use fbl_trace::{Behaviour, Event, Mark, Member, MemberSet};
+use fbl_trace::{Behaviour, Member, MemberSet};
 use std::alloc::Allocator;
 use std::mem;
 
@@ -28,36 +25,6 @@ pub(crate) struct Rebuilt<B: Behaviour, A: Allocator> {
 }
 
 impl<B: Behaviour, A: Allocator + Copy> Rebuilt<B, A> {
-    /// How many messages the member has sent, and how many it has received.
-    fn sent_and_received(&self, member: Member) -> (u32, u32)
-        ensures sent { result.0 ≡ length (slice_index_or self.now.records.items member (blank (B.next.initial 0 0))).log }
-        ensures received { result.1 ≡ (slice_index_or self.now.records.items member (blank (B.next.initial 0 0))).received }
-    {
-        match self.records.get(usize::from(member.number())) {
-            Some(record) => (record.sent(), record.received()),
-            None => (0, 0),
-        }
-    }
-
-    /// Whether the event's member is up, or has come as far again as the event.
-    fn stays(&self, event: &Event<B::Note>) -> bool
-        ensures { result ≡ stays_by self.now.down (λ p. slice_index_or self.now.records.items p (blank (B.next.initial 0 0))) (mark_of event.now) }
-    {
-        match event.mark() {
-            Mark::Send { from, ssn, .. } => !self.down.has(from)
-                || ssn <= self.sent_and_received(from).0,
-            Mark::Receipt { to, rsn, .. } => !self.down.has(to)
-                || rsn <= self.sent_and_received(to).1,
-        }
-    }
-
-    /// Drops the events that come after the replay of the members that are down.
-    pub(crate) fn cut(&self, trace: &mut Vec<Event<B::Note>, A>)
-        ensures { trace.new.items ≡ filter (λ e. stays_by self.now.down (λ p. slice_index_or self.now.records.items p (blank (B.next.initial 0 0))) (mark_of e)) trace.old.items }
-    {
-        trace.retain(|event| self.stays(event));
-    }
-
     /// Puts the records in the places of the members that are down, of `n`.
     pub(crate) fn put_back(&mut self, members: &mut Vec<MemberRec<B::State, B::Note, A>, A>, n: u8)
         requires members { vec_len members.old ≡ n }

@@ -1,9 +1,8 @@
 //! Recovery of the members that are down.
 
-ghost use Rattle.std.specs.Prelude.{◌≡◌, ℕ, ◌<◌, length, map, IfOk, IfErr, OnErr, OnOk};
+ghost use Rattle.std.specs.Prelude.{◌≡◌, ℕ, ◌<◌, length, IfOk, IfErr, OnErr, OnOk};
 ghost use Rattle.std.specs.FinSet as set;
-ghost use Rattle.fbl_trace.specs.Events.{mark_of};
-ghost use Rattle.fbl_law.specs.Groups.{knowledge, receipts};
+ghost use Rattle.fbl_law.specs.Groups.{knowledge};
 ghost use Rattle.fbl_law.specs.Promises.{GainsHolders, RecordsFirst};
 ghost use Rattle.fbl_group.specs.Strikes.{AreSentAgain, Recovers, IsReady, IsRecoverRefusal, lost_receipts};
 ghost use Rattle.fbl_group.specs.Theorem.{Restores};
@@ -11,7 +10,8 @@ ghost use Rattle.fbl_group.specs.Theorem.{Restores};
 use crate::group::Group;
 use crate::rebuilt::Rebuilt;
 use fbl_answers::{RecoverRefusal, Recovered};
-use fbl_trace::{Behaviour, Event, MemberSet};
+use fbl_parts::{Replayed, count_receipts};
+use fbl_trace::{Behaviour, MemberSet};
 use std::alloc::{AllocError, Allocator};
 
 impl<B: Behaviour, A: Allocator + Copy> Group<B, A> {
@@ -65,7 +65,11 @@ impl<B: Behaviour, A: Allocator + Copy> Group<B, A> {
         let replayed = rebuilt.replayed;
         let resent = again.messages(n) as u32;
         let before = self.receipt_count();
-        rebuilt.cut(&mut self.trace);
+        let replayed_members = Replayed::<B, A> {
+            down: rebuilt.down,
+            records: rebuilt.records.as_slice(),
+        };
+        replayed_members.cut(&mut self.trace);
         let undone = before - count_receipts(self.trace.as_slice());
         rebuilt.put_back(&mut self.members, n);
         self.channels.replace(&mut again, self.down, n);
@@ -77,12 +81,4 @@ impl<B: Behaviour, A: Allocator + Copy> Group<B, A> {
             undone: undone as u32,
         })
     }
-}
-
-/// How many receipts the trace has.
-fn count_receipts<N: Copy>(trace: &[Event<N>]) -> u64
-    ensures { result ≡ length (receipts (map mark_of trace.now)) }
-{
-    let marks = trace.iter().map(|event| event.mark());
-    marks.filter_map(|mark| mark.determinant()).count() as u64
 }

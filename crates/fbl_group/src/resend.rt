@@ -5,12 +5,12 @@ ghost use Rattle.std.specs.VecDeque.{deque_items};
 ghost use Rattle.fbl_table.specs.Tables.{piggybacked};
 ghost use Rattle.fbl_law.specs.Groups.{HasChannels};
 ghost use Rattle.fbl_law.specs.GroupSteps.{working, resent, sent_again};
-ghost use Rattle.fbl_channels.specs.Channels.{rows};
+ghost use Rattle.fbl_parts.specs.Channels.{rows};
 ghost use Rattle.fbl_group.specs.Strikes.{AreSentAgain};
 
 use crate::group::Group;
-use fbl_channels::{Channel, Channels, has_either};
 use fbl_member::{Carried, MemberRec, Wire};
+use fbl_parts::{Channel, Channels, has_either};
 use fbl_table::Table;
 use fbl_trace::{Behaviour, Member};
 use std::alloc::{AllocError, Allocator};

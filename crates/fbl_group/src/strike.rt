@@ -1,20 +1,18 @@
 //! Strikes.
 
-ghost use Rattle.std.specs.Prelude.{◌≡◌, ℕ, ◌<◌, ◌≤◌, [], IfOk, IfErr, OnOk, OnErr, None, Some, length, vec_len, count_by};
-ghost use Rattle.std.specs.List.{list_any};
-ghost use Rattle.fbl_table.specs.Tables.{is_held};
+ghost use Rattle.std.specs.Prelude.{◌≡◌, ℕ, ◌<◌, ◌≤◌, [], IfOk, IfErr, OnOk, OnErr, None, Some, vec_len};
 ghost use Rattle.fbl_member.specs.Members.{blank};
 ghost use Rattle.fbl_law.specs.Promises.{SurvivorsHold, RecordsFirst, RecordsCauses};
-ghost use Rattle.fbl_law.specs.Groups.{HasChannels, is_recorded_among as is_recorded_among_of, knowledge};
-ghost use Rattle.fbl_channels.specs.Channels.{rows, AreReplaced};
-ghost use Rattle.fbl_group.specs.Strikes.{strike_refusal, Strikes, AreRecordsReplaced, is_within, is_lost_receipt_of, lost_receipts};
+ghost use Rattle.fbl_law.specs.Groups.{HasChannels, knowledge};
+ghost use Rattle.fbl_parts.specs.Channels.{rows, AreReplaced};
+ghost use Rattle.fbl_group.specs.Strikes.{strike_refusal, Strikes, AreRecordsReplaced, is_within, lost_receipts};
 ghost use Rattle.fbl_group.specs.Theorem.{HasNoOrphan};
 
 use crate::group::Group;
 use fbl_answers::{StrikeRefusal, Struck};
-use fbl_channels::{Channels, has_either};
 use fbl_member::MemberRec;
-use fbl_trace::{Behaviour, Content, Determinant, Event, Member, MemberSet};
+use fbl_parts::{Channels, count_lost, has_either, lost_among};
+use fbl_trace::{Behaviour, Content, Determinant, Member, MemberSet};
 use std::alloc::{AllocError, Allocator};
 
 impl<B: Behaviour, A: Allocator + Copy> Group<B, A> {
@@ -51,13 +49,7 @@ impl<B: Behaviour, A: Allocator + Copy> Group<B, A> {
     pub fn lost_receipts(&self, alloc: A) -> Result<Vec<Determinant, A>, AllocError>
         ensures { IfOk result (λ v. v.items ≡ lost_receipts self.now) }
     {
-        let members = self.members.as_slice();
-        let checkpoints = self.checkpoints.as_slice();
-        let marks = self.trace.iter().map(|event| event.mark());
-        marks
-            .filter_map(|mark| mark.determinant())
-            .filter(|determinant| !is_recorded_among(members, checkpoints, determinant))
-            .collect(alloc)
+        lost_among(alloc, &self.members, &self.checkpoints, &self.trace)
     }
 
     /// Whether these members may be struck.
@@ -84,90 +76,6 @@ fn are_within(set: MemberSet, n: u8) -> bool
     ensures { result ≡ is_within set n }
 {
     set.within(n)
-}
-
-/// How many of the events are receipts of members of the set whose determinant no member's table and no checkpoint's
-/// table holds.
-fn count_lost<S: Copy, N: Content, A: Allocator + Copy>(
-    down: MemberSet,
-    members: &[MemberRec<S, N, A>],
-    checkpoints: &[MemberRec<S, N, A>],
-    trace: &[Event<N>],
-) -> u32
-    requires { length trace.now ≤ 8192 }
-    ensures { result ≡ count_by (is_lost_receipt_of down members.now checkpoints.now) trace.now }
-{
-    let mut lost = 0;
-    let mut likely = 0;
-    for event in trace {
-        if is_lost_receipt(down, members, checkpoints, *event, &mut likely) {
-            lost += 1;
-        }
-    }
-    lost
-}
-
-/// Whether the table of some of these members or checkpoints holds the determinant.
-fn is_recorded_among<S: Copy, N: Content, A: Allocator + Copy>(
-    members: &[MemberRec<S, N, A>],
-    checkpoints: &[MemberRec<S, N, A>],
-    determinant: &Determinant,
-) -> bool
-    ensures { result ≡ is_recorded_among_of members.now checkpoints.now determinant.now }
-{
-    is_held_in(members, determinant) || is_held_in(checkpoints, determinant)
-}
-
-/// Whether the event is a receipt of a member of the set whose determinant no member's table and no checkpoint's table
-/// holds. No table is looked at for a receipt of another member.
-fn is_lost_receipt<S: Copy, N: Content, A: Allocator + Copy>(
-    down: MemberSet,
-    members: &[MemberRec<S, N, A>],
-    checkpoints: &[MemberRec<S, N, A>],
-    event: Event<N>,
-    likely: &mut usize,
-) -> bool
-    ensures { result ≡ is_lost_receipt_of down members.now checkpoints.now event }
-{
-    match event.mark().determinant() {
-        Some(determinant) => {
-            down.has(determinant.to)
-                && !(is_likely_held(members, &determinant, likely)
-                    || is_held_in(checkpoints, &determinant))
-        }
-        None => false,
-    }
-}
-
-/// Whether the table of some of these records holds the determinant. The likely record's is looked at first, and where it does
-/// not hold the determinant, that of the next one is the next time: that changes no answer.
-fn is_likely_held<S: Copy, N: Content, A: Allocator + Copy>(
-    records: &[MemberRec<S, N, A>],
-    determinant: &Determinant,
-    likely: &mut usize,
-) -> bool
-    ensures { result ≡ list_any (λ m. is_held m.table determinant.now) records.now }
-{
-    match records.get(*likely) {
-        Some(record) if record.table().holds(determinant) => true,
-        _ => {
-            let next = likely.saturating_add(1);
-            *likely = if next < records.len() { next } else { 0 };
-            is_held_in(records, determinant)
-        }
-    }
-}
-
-/// Whether the table of some of these records holds the determinant.
-fn is_held_in<S: Copy, N: Content, A: Allocator + Copy>(
-    records: &[MemberRec<S, N, A>],
-    determinant: &Determinant,
-) -> bool
-    ensures { result ≡ list_any (λ m. is_held m.table determinant.now) records.now }
-{
-    records
-        .iter()
-        .any(|record| record.table().holds(determinant))
 }
 
 /// Makes the records of the members named blank, of `n`: each is in its member's first state.
