@@ -1,27 +1,15 @@
--- What is recorded of a run in several parts: dumps, or logs.
-use Rattle.std.specs.Prelude.{ℕ, ◌≡◌, ◌≢◌, ◌<◌, ◌+◌, ◌⊎◌, List, Some, flat_map, length, slice_get, slice_index, sum, take}
+-- What is recorded of a run in several parts, and dumps in parts.
+use Rattle.std.specs.Prelude.{ℕ, ◌≡◌, ◌≢◌, ◌<◌, ◌+◌, ◌⊎◌, List, Some, flat_map, slice_get, slice_index, sum, take}
 use Rattle.std.specs.List.{list_any}
 use Rattle.std.specs.FinSet as set
 use Rattle.fbl_base.specs.declared.raw_dump.RawDump.{RawDump}
 use Rattle.fbl_base.specs.Audit.{Parts}
 use Rattle.fbl_trace.specs.Configs.{IsFirstBreach}
-use Rattle.fbl_logs.specs.declared.entry.Entry.{Entry}
-use Rattle.fbl_logs.specs.declared.log.EntryOrigin.{EntryOrigin}
-use Rattle.fbl_logs.specs.declared.log.RawLog.{RawLog}
-use Rattle.fbl_logs.specs.Logs.{LogParts}
 use Rattle.fbl_order.specs.declared.parts.Group.{Group}
 use Rattle.fbl_order.specs.declared.parts.PartsFault.{PartsFault}
 use Rattle.fbl_order.specs.declared.parts.PartsFault.TheVariants.{Members, F, Memory}
 
 -- ---- what the parts say of the group
-
--- what a dump says of it
-abbrev pub dump_group : {A : Type 0} → RawDump A → Group
-dump_group part = record { members = part.members; f = part.f; strike = part.strike }
-
--- what a log says of it
-abbrev pub log_group : RawLog → Group
-log_group part = record { members = part.members; f = part.f; strike = part.strike }
 
 -- the group has the members and the f of the first one
 abbrev pub Agrees : Group → Group → Type 0
@@ -55,6 +43,10 @@ RefusesParts group_of parts fault = (fault ≡ Memory) ⊎ IsFirstOther group_of
 
 -- ---- dumps
 
+-- what a dump says of the group
+abbrev pub dump_group : {A : Type 0} → RawDump A → Group
+dump_group part = record { members = part.members; f = part.f; strike = part.strike }
+
 -- the whole has the group of the parts, and their events and pairs in their order
 pub record IsUnited {A : Type 0} (parts : List (RawDump A)) (whole : Parts) : Type 0 where
   pub group : IsUnion dump_group parts (record { members = whole.members; f = whole.f; strike = whole.strike })
@@ -64,28 +56,3 @@ pub record IsUnited {A : Type 0} (parts : List (RawDump A)) (whole : Parts) : Ty
 -- the place stands in the list that is named first, at the place that is named second
 abbrev pub IsPlaceIn : List ℕ → ℕ → ℕ × ℕ → Type 0
 IsPlaceIn lengths place at = (at.1 < slice_index lengths at.0) × (sum (take at.0 lengths) + at.1 ≡ place)
-
--- ---- logs
-
--- their entries, in their order
-abbrev pub entries_of : List RawLog → List Entry
-entries_of parts = flat_map (λ part. part.entries.items) parts
-
--- the whole has the group of the parts, and their entries
-pub record IsUnitedLog (parts : List RawLog) (whole : LogParts) : Type 0 where
-  pub group : IsUnion log_group parts (record { members = whole.members; f = whole.f; strike = whole.strike })
-  pub entries : whole.entries ≡ entries_of parts
-
--- the part and the place in it are those of the entry that stands at the place among all of them
-pub record IsOriginOf (parts : List RawLog) (place : ℕ) (origin : EntryOrigin) : Type 0 where
-  pub part : RawLog
-  pub log : slice_get parts origin.log ≡ Some part
-  pub entry : Entry
-  pub here : slice_get part.entries.items origin.place ≡ Some entry
-  pub there : slice_get (entries_of parts) place ≡ Some entry
-  pub before : length (entries_of (take origin.log parts)) + origin.place ≡ place
-
--- for each entry, at its place, where it stands in its part
-pub record AreOrigins (parts : List RawLog) (origins : List EntryOrigin) : Type 0 where
-  pub count : length origins ≡ length (entries_of parts)
-  pub each : (place : ℕ) (origin : EntryOrigin) → slice_get origins place ≡ Some origin → IsOriginOf parts place origin

@@ -3,67 +3,60 @@
 ghost use Rattle.std.specs.Prelude.{◌≡◌, ◌<◌, ◌≤◌, ℕ, length, slice_index_or};
 ghost use Rattle.fbl_order.specs.Cursors.{IsFirstFrom, IsLeastGiven};
 
-use fbl_logs::Entry;
 use fbl_trace::{Mark, Member};
 
-/// What stands in the log of a member.
-pub(crate) trait Logged {
+/// How an item of a list shows in which member's log it stands. A type of its own stands for this, so that a crate above may bring one
+/// for items of a third crate.
+pub trait Logged<T> {
     ghost use Rattle.std.specs.Prelude.{◌≡◌, ℕ};
 
-    ghost member_in: { Self → ℕ };
+    ghost member_in: { T → ℕ };
 
     /// The member.
-    fn logged_by(&self) -> Member
-        ensures { result ≡ member_in self.now };
+    fn logged_by(item: &T) -> Member
+        ensures { result ≡ member_in item.now };
 }
 
-impl Logged for Mark {
+/// The member at which an event happens.
+pub(crate) struct EventMember;
+
+impl Logged<Mark> for EventMember {
     ghost use Rattle.fbl_trace.specs.Events.{member_of};
 
     ghost member_in = { member_of };
 
-    fn logged_by(&self) -> Member {
-        self.member()
+    fn logged_by(item: &Mark) -> Member {
+        item.member()
     }
 }
 
-impl Logged for Entry {
-    ghost use Rattle.fbl_logs.specs.Entries.{entry_member};
-
-    ghost member_in = { entry_member };
-
-    fn logged_by(&self) -> Member {
-        self.member()
-    }
-}
-
-/// The place of the member's first item at `place` or later: past the last where it has none.
-pub(crate) fn next_of<T: Logged>(items: &[T], member: Member, place: usize) -> usize
+/// The place of the member's first item at `place` or later: past the last where it has none. It looks at no item behind that place.
+pub fn next_of<T, L: Logged<T>>(items: &[T], member: Member, place: usize) -> usize
     requires { place ≤ length items.now }
-    ensures { IsFirstFrom T.member_in items.now place member result }
+    ensures { IsFirstFrom L.member_in items.now place member result }
 {
     for next in place..items.len() {
-        if items[next].logged_by() == member {
+        if L::logged_by(&items[next]) == member {
             return next;
         }
     }
     items.len()
 }
 
-/// For each member's number the place of its first item: past the last where it has none.
-pub(crate) fn firsts_of<T: Logged>(items: &[T]) -> [usize; 16]
-    ensures firsts { (q : ℕ) → IsFirstFrom T.member_in items.now 0 q (slice_index_or result q (length items.now)) }
+/// For each member's number the place of its first item: past the last where it has none. The time taken is linear in the items.
+pub fn firsts_of<T, L: Logged<T>>(items: &[T]) -> [usize; 16]
+    ensures firsts { (q : ℕ) → IsFirstFrom L.member_in items.now 0 q (slice_index_or result q (length items.now)) }
     ensures room { length result ≡ 16 }
 {
     let mut firsts = [items.len(); 16];
     for place in (0..items.len()).rev() {
-        firsts[items[place].logged_by().number() as usize] = place;
+        firsts[L::logged_by(&items[place]).number() as usize] = place;
     }
     firsts
 }
 
-/// The least of the cursors before the end at which something may come.
-pub(crate) fn least_cursor<F: Fn(usize) -> bool>(
+/// The least of the cursors before the end at which something may come. It asks nothing of a cursor behind one that it found before.
+pub fn least_cursor<F: Fn(usize) -> bool>(
     cursors: [usize; 16],
     end: usize,
     may_come: F,

@@ -1,7 +1,6 @@
 //! Why the events of a run have no order.
 
 use fbl_base::DumpRefusal;
-use fbl_logs::LogBreach;
 use fbl_trace::{Breach, EventRule, Mark};
 use std::alloc::{AllocError, Allocator, Global};
 use std::convert::From;
@@ -25,8 +24,7 @@ pub enum Obstacle {
 }
 
 /// The first event of its member that comes in no part of an order.
-#[derive(Clone, Copy, Debug, Error)]
-#[error("event {place} is {event}, and {obstacle}")]
+#[derive(Clone, Copy)]
 pub struct Stuck {
     /// Its place, from 0, as the events were given.
     pub place: usize,
@@ -37,7 +35,7 @@ pub struct Stuck {
 }
 
 /// Why events, or a dump of them, are refused.
-#[derive(Drop, Debug)]
+#[derive(Drop)]
 pub enum OrderFault<A: Allocator = Global> {
     /// No order of the events obeys the rules. The first event here is the first, as they were given, that comes in no part of an
     /// order. Each waits for the next one; the last waits for one of these, so that they go round in a circle, or for none.
@@ -56,28 +54,5 @@ impl<A: Allocator> From<AllocError> for OrderFault<A> {
 
     fn from(_: AllocError) -> OrderFault<A> {
         OrderFault::Dump(DumpRefusal::Memory, Breach::Memory)
-    }
-}
-
-/// Why the entries of a log, or a log of them, are refused.
-#[derive(Drop, Debug)]
-pub enum LogOrderFault {
-    /// No order of the sends and receipts obeys the rules, for the reason that `OrderFault` has. Places are those among all entries.
-    NoOrder(Vec<Stuck>),
-    /// A log of the entries, in whichever order, is refused, for this. Places are those at which the entries were given.
-    Log(DumpRefusal, LogBreach),
-}
-
-impl From<AllocError> for LogOrderFault {
-    ghost use Rattle.std.specs.Prelude.{◌≡◌};
-    ghost use Rattle.fbl_trace.specs.declared.fault.Breach.TheVariants as breach;
-    ghost use Rattle.fbl_base.specs.declared.refusal.DumpRefusal.TheVariants.{Memory};
-    ghost use Rattle.fbl_logs.specs.declared.fault.LogBreach.TheVariants.{Trace};
-    ghost use Rattle.fbl_order.specs.declared.fault.LogOrderFault.TheVariants.{Log};
-
-    ghost from_gives = { λ _ e. e ≡ Log Memory (Trace breach.Memory) };
-
-    fn from(_: AllocError) -> LogOrderFault {
-        LogOrderFault::Log(DumpRefusal::Memory, LogBreach::Trace(Breach::Memory))
     }
 }

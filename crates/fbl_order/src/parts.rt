@@ -2,14 +2,11 @@
 
 ghost use Rattle.std.specs.Prelude.{◌≡◌, ◌<◌, ◌≤◌, ℕ, IfErr, IfOk, MatchOption, length, sum};
 ghost use Rattle.fbl_base.specs.Audit.{parts_of};
-ghost use Rattle.fbl_logs.specs.Logs.{parts_of_log};
-ghost use Rattle.fbl_order.specs.Parts.{Agrees, AgreesAt, Differs, IsFirstOther, IsUnion, RefusesParts, dump_group, log_group};
-ghost use Rattle.fbl_order.specs.Parts.{AreOrigins, IsPlaceIn, IsUnited, IsUnitedLog};
+ghost use Rattle.fbl_order.specs.Parts.{Agrees, AgreesAt, Differs, IsFirstOther, IsPlaceIn, IsUnion, IsUnited, RefusesParts, dump_group};
 
 use fbl_base::RawDump;
-use fbl_logs::{EntryOrigin, RawLog};
 use fbl_trace::MemberSet;
-use std::alloc::{AllocError, Allocator, Global};
+use std::alloc::{AllocError, Allocator};
 use std::convert::From;
 use thiserror::Error;
 
@@ -40,48 +37,37 @@ impl From<AllocError> for PartsFault {
 
 /// The group of a run: how many members it had, how many of them might be lost at once, and who is taken to be lost.
 #[derive(Clone, Copy)]
-pub(crate) struct Group {
-    members: u8,
-    f: u8,
-    strike: MemberSet,
+pub struct Group {
+    pub members: u8,
+    pub f: u8,
+    pub strike: MemberSet,
 }
 
-/// A part of what is recorded of a run.
-trait Part {
+/// How a part of what is recorded of a run shows its group.
+pub trait Grouped<P> {
     ghost use Rattle.std.specs.Prelude.{◌≡◌};
     ghost use Rattle.fbl_order.specs.declared.parts.Group.{Group};
 
-    ghost group_of: { Self → Group };
+    ghost group_of: { P → Group };
 
-    /// What it says of the group.
-    fn group(&self) -> Group
-        ensures { result ≡ group_of self.now };
+    /// What the part says of the group.
+    fn group(part: &P) -> Group
+        ensures { result ≡ group_of part.now };
 }
 
-impl<A: Allocator> Part for RawDump<A> {
+/// What a dump says of the group.
+struct DumpGroup;
+
+impl<A: Allocator> Grouped<RawDump<A>> for DumpGroup {
     ghost use Rattle.fbl_order.specs.Parts.{dump_group};
 
     ghost group_of = { dump_group };
 
-    fn group(&self) -> Group {
+    fn group(part: &RawDump<A>) -> Group {
         Group {
-            members: self.members,
-            f: self.f,
-            strike: self.strike,
-        }
-    }
-}
-
-impl Part for RawLog {
-    ghost use Rattle.fbl_order.specs.Parts.{log_group};
-
-    ghost group_of = { log_group };
-
-    fn group(&self) -> Group {
-        Group {
-            members: self.members,
-            f: self.f,
-            strike: self.strike,
+            members: part.members,
+            f: part.f,
+            strike: part.strike,
         }
     }
 }
@@ -108,13 +94,13 @@ fn difference(part: usize, first: &Group, other: &Group) -> Option<PartsFault>
 }
 
 /// The first part that differs from the first one, and how.
-fn first_other<P: Part>(parts: &[P]) -> Option<PartsFault>
+fn first_other<P, G: Grouped<P>>(parts: &[P]) -> Option<PartsFault>
     requires { 0 < length parts.now }
-    ensures { MatchOption result ((i : ℕ) → AgreesAt P.group_of parts.now i) (IsFirstOther P.group_of parts.now) }
+    ensures { MatchOption result ((i : ℕ) → AgreesAt G.group_of parts.now i) (IsFirstOther G.group_of parts.now) }
 {
-    let first = parts[0].group();
+    let first = G::group(&parts[0]);
     for place in 0..parts.len() {
-        if let Some(fault) = difference(place, &first, &parts[place].group()) {
+        if let Some(fault) = difference(place, &first, &G::group(&parts[place])) {
             return Some(fault);
         }
     }
@@ -122,20 +108,20 @@ fn first_other<P: Part>(parts: &[P]) -> Option<PartsFault>
 }
 
 /// The group of all parts: they have the same members, and the same number of them might be lost at once. Who is struck in any of them
-/// is struck.
-fn common<P: Part>(parts: &[P]) -> Result<Group, PartsFault>
+/// is struck. Nothing else of the parts is read.
+pub fn common_group<P, G: Grouped<P>>(parts: &[P]) -> Result<Group, PartsFault>
     requires { 0 < length parts.now }
-    ensures union { IfOk result (IsUnion P.group_of parts.now) }
-    ensures refused { IfErr result (IsFirstOther P.group_of parts.now) }
+    ensures union { IfOk result (IsUnion G.group_of parts.now) }
+    ensures refused { IfErr result (IsFirstOther G.group_of parts.now) }
 {
-    if let Some(fault) = first_other(parts) {
+    if let Some(fault) = first_other::<P, G>(parts) {
         return Err(fault);
     }
     let mut strike = MemberSet::empty();
     for part in parts {
-        strike = strike.union(part.group().strike);
+        strike = strike.union(G::group(part).strike);
     }
-    let Group { members, f, .. } = parts[0].group();
+    let Group { members, f, .. } = G::group(&parts[0]);
     Ok(Group { members, f, strike })
 }
 
@@ -146,7 +132,7 @@ pub fn united<A: Allocator + Copy>(alloc: A, parts: &[RawDump<A>]) -> Result<Raw
     ensures united { IfOk result (λ whole. IsUnited parts.now (parts_of whole)) }
     ensures refused { IfErr result (RefusesParts dump_group parts.now) }
 {
-    let Group { members, f, strike } = common(parts)?;
+    let Group { members, f, strike } = common_group::<RawDump<A>, DumpGroup>(parts)?;
     let mut events = Vec::new(alloc);
     let mut held = Vec::new(alloc);
     for part in parts {
@@ -160,50 +146,6 @@ pub fn united<A: Allocator + Copy>(alloc: A, parts: &[RawDump<A>]) -> Result<Raw
         held,
         strike,
     })
-}
-
-/// Several logs as one.
-#[derive(Drop)]
-pub struct UnitedLog {
-    /// Their entries one log's behind another's, and who is struck in any of them.
-    pub log: RawLog,
-    /// For each of its entries, at its place, where it stands in its own log.
-    pub origins: Vec<EntryOrigin>,
-}
-
-/// Where the entries of the logs, one log's behind another's, stand in their own.
-fn origins_of(alloc: Global, parts: &[RawLog]) -> Result<Vec<EntryOrigin>, AllocError>
-    ensures { IfOk result (λ v. AreOrigins parts.now v.items) }
-{
-    let mut origins = Vec::new(alloc);
-    for (log, part) in parts.iter().enumerate() {
-        for place in 0..part.entries.len() {
-            origins.push(EntryOrigin { log, place })?;
-        }
-    }
-    Ok(origins)
-}
-
-/// The logs as one. They have the same members, and the same number of them might be lost at once.
-pub fn united_logs(alloc: Global, parts: &[RawLog]) -> Result<UnitedLog, PartsFault>
-    requires { 0 < length parts.now }
-    ensures united { IfOk result (λ united. IsUnitedLog parts.now (parts_of_log united.log)) }
-    ensures origins { IfOk result (λ united. AreOrigins parts.now united.origins.items) }
-    ensures refused { IfErr result (RefusesParts log_group parts.now) }
-{
-    let Group { members, f, strike } = common(parts)?;
-    let mut entries = Vec::new(alloc);
-    for part in parts {
-        entries.extend_from_slice(part.entries.as_slice())?;
-    }
-    let log = RawLog {
-        members,
-        f,
-        entries,
-        strike,
-    };
-    let origins = origins_of(alloc, parts)?;
-    Ok(UnitedLog { log, origins })
 }
 
 /// Of lists of these lengths one behind another, the list that has the place, and the place in it.

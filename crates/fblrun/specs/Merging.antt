@@ -8,15 +8,16 @@ use Rattle.fbl_trace.specs.Rules.{WellFormed}
 use Rattle.fbl_order.specs.declared.fault.OrderFault.TheVariants as orders
 use Rattle.fbl_order.specs.declared.parts.PartsFault.TheVariants as parts
 use Rattle.fbl_order.specs.Faults.{RefusesUnordered}
-use Rattle.fbl_order.specs.LogFaults.{RefusesUnorderedLog}
-use Rattle.fbl_order.specs.LogOrders.{AnswersAlike, ArePlaces, IsOrderOfEntries, items_at, with_entries}
+use Rattle.fbl_log_order.specs.LogFaults.{RefusesUnorderedLog}
+use Rattle.fbl_log_order.specs.LogOrders.{AnswersAlike, ArePlaces, IsOrderOfEntries, items_at, with_entries}
 use Rattle.fbl_order.specs.Orders.{SameAnswers, with_events, IsOrder}
-use Rattle.fbl_order.specs.Parts.{AreOrigins, IsUnited, IsUnitedLog, RefusesParts, dump_group, log_group}
+use Rattle.fbl_order.specs.Parts.{IsUnited, RefusesParts, dump_group}
+use Rattle.fbl_log_order.specs.UnitedLogs.{AreOrigins, IsUnitedLog, log_group}
 use Rattle.fbl_logs.specs.Entries.{marks}
 use Rattle.fbl_logs.specs.Logs.{IsLog, LogParts}
 use Rattle.fbl_logs.specs.declared.log.EntryOrigin.{EntryOrigin}
 use Rattle.fbl_logs.specs.declared.log.RawLog.{RawLog}
-use Rattle.fbl_order.specs.declared.fault.LogOrderFault.TheVariants as log_orders
+use Rattle.fbl_log_order.specs.declared.fault.LogOrderFault.TheVariants as log_orders
 use Rattle.fblrun.specs.declared.merging.MergeFault.{MergeFault}
 use Rattle.fblrun.specs.declared.merging.MergeFault.TheVariants as faults
 use Rattle.fblrun.specs.declared.merging.MergedLog.{MergedLog}

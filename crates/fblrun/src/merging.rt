@@ -7,11 +7,9 @@ ghost use Rattle.fblrun.specs.Merging.{IsLogMergeOf, IsMergeOf, IsOrderedFrom, R
 use crate::{INPUT_FAULT, MEMORY_FAULT};
 use fbl_base::audit::Dump;
 use fbl_base::{DumpRefusal, RawDump};
+use fbl_log_order::{LogOrderFault, OrderedLog, at_places, order_log, united_logs};
 use fbl_logs::{EntryOrigin, LogBreach, RawLog, RunLog};
-use fbl_order::{
-    LogOrderFault, Obstacle, OrderFault, OrderedLog, PartsFault, Stuck, at_places, order_dump,
-    order_log, place_in_lists, united, united_logs,
-};
+use fbl_order::{Obstacle, OrderFault, PartsFault, Stuck, order_dump, place_in_lists, united};
 use fbl_texts::Recorded;
 use fbl_trace::{Breach, MemberSet, PairFault};
 use std::alloc::{AllocError, AllocFailed, Global};

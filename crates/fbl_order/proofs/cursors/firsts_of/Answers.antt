@@ -12,10 +12,10 @@ loop-place-preserved g c =
     let at : slice_get c.args.items.now place ≡ Some c.index-items-place.result = slice_get_read _ _ place _ refl within c.index-items-place.is in
     record {
       firsts =
-          in_front g.T.Logged.member_in c.args.items.now c.loop-place.firsts place c.number.result c.index-items-place.result at (sym c.logged_by.ensures
+          in_front g.L.Logged.member_in c.args.items.now c.loop-place.firsts place c.number.result c.index-items-place.result at (sym c.logged_by.ensures
           ∙ sym c.number.ensures.value)
           (omega (arith, c.loop-place.invariant.room, c.number.ensures.bound))
-          (λ q. subst (λ (start : ℕ). IsFirstFrom g.T.Logged.member_in c.args.items.now start q (get_or c.loop-place.firsts q (length c.args.items.now))) (sym more)
+          (λ q. subst (λ (start : ℕ). IsFirstFrom g.L.Logged.member_in c.args.items.now start q (get_or c.loop-place.firsts q (length c.args.items.now))) (sym more)
           (c.loop-place.invariant.firsts q));
       room = rw length-set c.loop-place.invariant.room;
     }
@@ -33,7 +33,7 @@ loop-place-init g c =
     let items = c.args.items.now in
     let n = length items in
     record {
-      firsts = λ q. subst (IsFirstFrom g.T.Logged.member_in items n q) (sym (same 16 q n))
+      firsts = λ q. subst (IsFirstFrom g.L.Logged.member_in items n q) (sym (same 16 q n))
           (record { later = omega arith; next = (omega arith, λ x at. absurd (omega (arith, slice_get_within items n x at))); skips = refl });
       room = refl;
     }

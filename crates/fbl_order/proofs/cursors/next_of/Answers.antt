@@ -15,9 +15,9 @@ returns-then-eq g c =
 
 pub loop-next-preserved : goal.loop-next-preserved
 loop-next-preserved g c =
-    let other : g.T.Logged.member_in c.index-items-next.result ≢ c.args.member =
+    let other : g.L.Logged.member_in c.index-items-next.result ≢ c.args.member =
     λ same. false≢true (sym c.if-eq.false ∙ c.eq.ensures ∙ ap (λ m. m == c.args.member) (c.logged_by.ensures ∙ same) ∙ eqb-self c.args.member) in
-    own-take_other g.T.Logged.member_in c.args.member c.args.items.now c.loop-next.next c.index-items-next.result
+    own-take_other g.L.Logged.member_in c.args.member c.args.items.now c.loop-next.next c.index-items-next.result
     (slice_get_read _ _ _ _ refl c.loop-next-test.true c.index-items-next.is) other ∙ c.loop-next.invariant
 
 pub returns : goal.returns
@@ -26,5 +26,5 @@ returns g c =
     record {
       later = c.requires;
       next = (omega arith, λ x there. absurd (omega (arith, slice_get_within c.args.items.now _ x there)));
-      skips = ap (own g.T.Logged.member_in c.args.member) (take_all _ c.args.items.now (omega arith) ∙ sym all) ∙ c.loop-next.invariant;
+      skips = ap (own g.L.Logged.member_in c.args.member) (take_all _ c.args.items.now (omega arith) ∙ sym all) ∙ c.loop-next.invariant;
     }

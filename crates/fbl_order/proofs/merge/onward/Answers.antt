@@ -1,4 +1,4 @@
-use Rattle.fbl_order.proofs.Common.{Some, Stuck, ◌≡◌, ◌∙◌, arith, ap, cases_eq, inl, inr, refl, slice_get, slice_get_read, slice_get_within, sym}
+use Rattle.fbl_order.proofs.Common.{Some, Stuck, ◌≡◌, ◌∙◌, arith, ap, cases_eq, inl, inr, refl, slice_get, slice_get_read, slice_get_within}
 use Rattle.fbl_order.proofs.merge.onward.Goals as goal
 use Rattle.fbl_order.proofs.merge.onward.Goals.{After-stuck-item}
 

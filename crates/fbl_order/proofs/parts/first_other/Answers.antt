@@ -20,7 +20,7 @@ disagrees i a b Memory differs agrees = differs
 
 pub returns-in-Some : goal.returns-in-Some
 returns-in-Some g c =
-    let of : g.row.P.Denot → Group = g.P.Part.group_of in
+    let of : g.row.P.Denot → Group = g.G.Grouped.group_of in
     let first_at = slice_get_read _ _ 0 _ refl c.requires c.index-parts-0.is in
     let part_at = slice_get_read _ _ c.loop-place.place _ refl c.loop-place-test.true c.index-parts-place.is in
     let differs : Differs c.loop-place.place (of c.index-parts-0.result) (of c.index-parts-place.result) c.in-Some.fault = rw
@@ -32,7 +32,7 @@ returns-in-Some g c =
 
 pub loop-place-preserved : goal.loop-place-preserved
 loop-place-preserved g c =
-    let of : g.row.P.Denot → Group = g.P.Part.group_of in
+    let of : g.row.P.Denot → Group = g.G.Grouped.group_of in
     let first_at = slice_get_read _ _ 0 _ refl c.requires c.index-parts-0.is in
     let part_at = slice_get_read _ _ c.loop-place.place _ refl c.loop-place-test.true c.index-parts-place.is in
     let agrees : Agrees (of c.index-parts-0.result) (of c.index-parts-place.result) = rw (← c.group-first.ensures, ← c.group.ensures) c.in_default.ensures in

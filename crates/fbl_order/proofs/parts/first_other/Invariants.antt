@@ -3,4 +3,4 @@ use Rattle.fbl_order.specs.Parts.{AgreesAt}
 use Rattle.fbl_order.proofs.parts.first_other.Given as goal
 
 abbrev pub invariant-loop-place : goal.invariant-loop-place
-invariant-loop-place g l = (k : ℕ) → k < l.place → AgreesAt g.P.Part.group_of l.parts k
+invariant-loop-place g l = (k : ℕ) → k < l.place → AgreesAt g.G.Grouped.group_of l.parts k

@@ -1,5 +1,5 @@
 use Rattle.fblrun.proofs.Common.{◌≡◌, Err, IfErr, IsErrAnd, List, LogParts, MergeFault, Ok, RawLog, RefusesLogMerge, RefusesOrder, Result, inl, parts_of_log, refl, subst, sym}
-use Rattle.fbl_order.specs.Parts.{IsUnitedLog}
+use Rattle.fbl_log_order.specs.UnitedLogs.{IsUnitedLog}
 use Rattle.fbl_order.specs.declared.parts.PartsFault.TheVariants as parts
 use Rattle.fblrun.specs.declared.merging.MergeFault.TheVariants as faults
 use Rattle.fblrun.proofs.merging.merged_log.Goals as goal

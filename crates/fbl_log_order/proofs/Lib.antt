@@ -1,0 +1,4 @@
+pub mod Common
+pub mod EventPlaces
+pub mod PlacingLaws
+pub mod EntryLaws

@@ -1,0 +1,4 @@
+pub mod LogOrders
+pub mod LogFaults
+pub mod Placings
+pub mod UnitedLogs
