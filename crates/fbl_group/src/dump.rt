@@ -2,7 +2,8 @@
 
 ghost use Rattle.std.specs.Prelude.{◌≡◌, ℕ, ◌≤◌, ◌++◌, IfOk, IfErr, OnOk, length, map};
 ghost use Rattle.std.specs.FinSet as set;
-ghost use Rattle.fbl_base.specs.Audit.{IsDumpOrphan, parts_of};
+ghost use Rattle.fbl_dumps.specs.Dumps.{parts_of};
+ghost use Rattle.fbl_base.specs.Audit.{IsDumpOrphan};
 ghost use Rattle.fbl_trace.specs.Events.{mark_of};
 ghost use Rattle.fbl_trace.specs.MemberSets.{AllBelow};
 ghost use Rattle.fbl_law.specs.Knowledge.{Includes, IsDown};

@@ -49,7 +49,7 @@ pub enum OrderFault<A: Allocator = Global> {
 impl<A: Allocator> From<AllocError> for OrderFault<A> {
     ghost use Rattle.std.specs.Prelude.{◌≡◌};
     ghost use Rattle.fbl_trace.specs.declared.fault.Breach.TheVariants as breach;
-    ghost use Rattle.fbl_base.specs.declared.refusal.DumpRefusal.TheVariants.{Memory};
+    ghost use Rattle.fbl_dumps.specs.declared.refusal.DumpRefusal.TheVariants.{Memory};
     ghost use Rattle.fbl_order.specs.declared.fault.OrderFault.TheVariants.{Dump};
 
     ghost from_gives = { λ _ e. e ≡ Dump Memory breach.Memory };
@@ -71,7 +71,7 @@ pub enum LogOrderFault {
 impl From<AllocError> for LogOrderFault {
     ghost use Rattle.std.specs.Prelude.{◌≡◌};
     ghost use Rattle.fbl_trace.specs.declared.fault.Breach.TheVariants as breach;
-    ghost use Rattle.fbl_base.specs.declared.refusal.DumpRefusal.TheVariants.{Memory};
+    ghost use Rattle.fbl_dumps.specs.declared.refusal.DumpRefusal.TheVariants.{Memory};
     ghost use Rattle.fbl_logs.specs.declared.fault.LogBreach.TheVariants.{Trace};
     ghost use Rattle.fbl_order.specs.declared.fault.LogOrderFault.TheVariants.{Log};
 

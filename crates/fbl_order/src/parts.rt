@@ -1,7 +1,7 @@
 //! What is recorded of a run in several parts, as the members of a group write one each.
 
 ghost use Rattle.std.specs.Prelude.{◌≡◌, ◌<◌, ◌≤◌, ℕ, IfErr, IfOk, MatchOption, length, sum};
-ghost use Rattle.fbl_base.specs.Audit.{parts_of};
+ghost use Rattle.fbl_dumps.specs.Dumps.{parts_of};
 ghost use Rattle.fbl_logs.specs.Logs.{parts_of_log};
 ghost use Rattle.fbl_order.specs.Parts.{Agrees, AgreesAt, Differs, IsFirstOther, IsUnion, RefusesParts, dump_group, log_group};
 ghost use Rattle.fbl_order.specs.Parts.{AreOrigins, IsPlaceIn, IsUnited, IsUnitedLog};
