@@ -2,7 +2,8 @@
 use Rattle.std.specs.Prelude.{ℕ, ◌≡◌, ◌≤◌, ◌↔◌, ◌⊎◌, true, false, List, [], ◌∷◌, max, ◌<◌}
 use Rattle.std.specs.FinSet as set
 use Rattle.fbl_trace.specs.declared.trace.Determinant.{Determinant}
-use Rattle.fbl_base.specs.Audit.{Parts, IsHeldOutside, IsDumpOrphan, IsDump, holders_of}
+use Rattle.fbl_dumps.specs.Dumps.{Parts, IsDump, holders_of}
+use Rattle.fbl_base.specs.Audit.{IsHeldOutside, IsDumpOrphan}
 use Rattle.fbl_trace.specs.Events.{receipt_of}
 use Rattle.fbl_trace.specs.MemberSets.{AllBelow, Members}
 use Rattle.fbl_trace.specs.Precedence.{Depends, Has}

@@ -1,7 +1,8 @@
 -- Why a member depends on an event: a path of steps from the one to the other.
 use Rattle.std.specs.Prelude.{ℕ, ◌≡◌, ◌<◌, List, [], ◌∷◌, Option, Some, None, length, slice_index_or}
 use Rattle.fbl_trace.specs.declared.trace.Mark.{Mark}
-use Rattle.fbl_base.specs.Audit.{Parts, IsFirstCause}
+use Rattle.fbl_dumps.specs.Dumps.{Parts}
+use Rattle.fbl_base.specs.Audit.{IsFirstCause}
 use Rattle.fbl_trace.specs.Events.{At, member_of}
 use Rattle.fbl_trace.specs.Precedence.{DependsOnPlace, IsReached, PlaceLeads, PlacePrecedes}
 

@@ -2,7 +2,7 @@
 
 ghost use Rattle.std.specs.Prelude.{◌≡◌, ◌↔◌, ℕ, true, [], IfOk, MatchOption};
 ghost use Rattle.std.specs.FinSet as set;
-ghost use Rattle.fbl_base.specs.Audit.{IsDump, holders_of};
+ghost use Rattle.fbl_dumps.specs.Dumps.{IsDump, holders_of};
 ghost use Rattle.fbl_trace.specs.Events.{receipt_of, receipts};
 ghost use Rattle.fbl_trace.specs.Precedence.{DependsOnPlace, Depends};
 ghost use Rattle.fbl_audit.specs.Checking.{IsSafe, IsSaidOf, IsUnsafe, SaysUnsafe};

@@ -2,7 +2,8 @@
 
 ghost use Rattle.std.specs.Prelude.{◌≡◌, ℕ, ◌≤◌, IfOk, IfErr};
 ghost use Rattle.std.specs.FinSet as set;
-ghost use Rattle.fbl_base.specs.Audit.{IsDumpOrphan, parts_of};
+ghost use Rattle.fbl_dumps.specs.Dumps.{parts_of};
+ghost use Rattle.fbl_base.specs.Audit.{IsDumpOrphan};
 ghost use Rattle.fbl_trace.specs.MemberSets.{AllBelow};
 ghost use Rattle.fbl_law.specs.Knowledge.{Includes, IsDown};
 ghost use Rattle.fbl_law.specs.Groups.{knowledge, IsSound};
@@ -11,8 +12,7 @@ ghost use Rattle.fbl_group.specs.Readers.{IsDumpRefusal};
 
 use crate::group::Group;
 use fbl_answers::DumpGroupRefusal;
-use fbl_base::RawDump;
-use fbl_base::audit::Dump;
+use fbl_dumps::{Dump, RawDump};
 use fbl_parts::{held_pairs, marks};
 use fbl_trace::{Behaviour, MemberSet};
 use std::alloc::{AllocError, Allocator};

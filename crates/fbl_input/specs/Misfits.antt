@@ -3,11 +3,11 @@ use Rattle.std.specs.Prelude.{◌≡◌, ℕ, ◌<◌, ◌==◌, ◌⊎◌, List
 use Rattle.std.specs.List.{AllPass}
 use Rattle.serde_json.specs.Data.{Data}
 use Rattle.serde_json.specs.Find.{get}
-use Rattle.fbl_base.specs.Audit.{Parts}
-use Rattle.fbl_base.specs.DumpBreaches.{IsDumpBreach}
+use Rattle.fbl_dumps.specs.Dumps.{Parts}
+use Rattle.fbl_dumps.specs.DumpBreaches.{IsDumpBreach}
 use Rattle.fbl_trace.specs.Breaches.{IsConfigBreach}
 use Rattle.fbl_trace.specs.declared.config.ConfigRefusal.TheVariants as config
-use Rattle.fbl_base.specs.declared.refusal.DumpRefusal.TheVariants as dump
+use Rattle.fbl_dumps.specs.declared.refusal.DumpRefusal.TheVariants as dump
 use Rattle.fbl_trace.specs.declared.trace.Note.{Note}
 use Rattle.fbl_trace.specs.Configs.{Settings}
 use Rattle.fbl_input.specs.declared.fault.Key.{Key}

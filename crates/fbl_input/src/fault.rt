@@ -4,7 +4,7 @@ ghost use Rattle.std.specs.Prelude.{◌≡◌};
 
 use crate::input_fault::InputFault;
 use crate::output::OutputFault;
-use fbl_base::DumpRefusal;
+use fbl_dumps::DumpRefusal;
 use fbl_trace::ConfigRefusal;
 use std::fmt;
 use thiserror::Error;

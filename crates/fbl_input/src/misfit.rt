@@ -4,7 +4,7 @@ ghost use Rattle.std.specs.Prelude.{◌≡◌};
 ghost use Rattle.fbl_input.specs.declared.misfit.Misfit.TheVariants.{Memory};
 
 use crate::fault::{Key, RunFault};
-use fbl_base::DumpRefusal;
+use fbl_dumps::DumpRefusal;
 use fbl_logs::LogBreach;
 use fbl_trace::{Breach, ConfigRefusal};
 use serde_json::Error as JsonError;

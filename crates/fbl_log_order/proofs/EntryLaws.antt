@@ -7,8 +7,8 @@ use Rattle.fbl_log_order.proofs.Common.{At-filter, drop, sum_by-cons, eqb-self, 
 use Rattle.fbl_logs.specs.Runs.{AlwaysSafe, Run}
 use Rattle.fbl_moments.specs.Unsafe.{IsUnsafe}
 use Rattle.fbl_trace.specs.declared.fault.Breach.{Breach}
-use Rattle.fbl_base.specs.declared.refusal.DumpRefusal.{DumpRefusal}
-use Rattle.fbl_base.specs.declared.refusal.DumpRefusal.TheVariants.{BadEvent, BadF, BadMembers, Memory}
+use Rattle.fbl_dumps.specs.declared.refusal.DumpRefusal.{DumpRefusal}
+use Rattle.fbl_dumps.specs.declared.refusal.DumpRefusal.TheVariants.{BadEvent, BadF, BadMembers, Memory}
 use Rattle.fbl_logs.specs.declared.fault.LogBreach.TheVariants.{Trace}
 use Rattle.fbl_order.specs.Faults.{RefusesGroup, RefusesOrder}
 use Rattle.fbl_order.specs.declared.fault.OrderFault.TheVariants.{Dump}

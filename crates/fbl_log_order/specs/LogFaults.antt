@@ -2,8 +2,8 @@
 use Rattle.std.specs.Prelude.{ℕ, ◌≡◌, ◌⊎◌, List, Some, length, map, slice_get, slice_index_or}
 use Rattle.fbl_trace.specs.declared.fault.EventRule.TheVariants.{TooMany}
 use Rattle.fbl_trace.specs.declared.fault.Breach.TheVariants as breach
-use Rattle.fbl_base.specs.declared.refusal.DumpRefusal.{DumpRefusal}
-use Rattle.fbl_base.specs.declared.refusal.DumpRefusal.TheVariants.{BadEvent, Memory}
+use Rattle.fbl_dumps.specs.declared.refusal.DumpRefusal.{DumpRefusal}
+use Rattle.fbl_dumps.specs.declared.refusal.DumpRefusal.TheVariants.{BadEvent, Memory}
 use Rattle.fbl_trace.specs.Configs.{FAllowed, MembersAllowed}
 use Rattle.fbl_logs.specs.declared.entry.Entry.{Entry}
 use Rattle.fbl_logs.specs.declared.entry.Entry.TheVariants.{Event}

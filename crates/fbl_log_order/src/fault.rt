@@ -1,6 +1,6 @@
 //! Why the entries of a log have no order.
 
-use fbl_base::DumpRefusal;
+use fbl_dumps::DumpRefusal;
 use fbl_logs::LogBreach;
 use fbl_order::Stuck;
 use fbl_trace::Breach;
@@ -19,7 +19,7 @@ pub enum LogOrderFault {
 impl From<AllocError> for LogOrderFault {
     ghost use Rattle.std.specs.Prelude.{◌≡◌};
     ghost use Rattle.fbl_trace.specs.declared.fault.Breach.TheVariants as breach;
-    ghost use Rattle.fbl_base.specs.declared.refusal.DumpRefusal.TheVariants.{Memory};
+    ghost use Rattle.fbl_dumps.specs.declared.refusal.DumpRefusal.TheVariants.{Memory};
     ghost use Rattle.fbl_logs.specs.declared.fault.LogBreach.TheVariants.{Trace};
     ghost use Rattle.fbl_log_order.specs.declared.fault.LogOrderFault.TheVariants.{Log};
 

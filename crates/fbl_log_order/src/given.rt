@@ -6,7 +6,7 @@ ghost use Rattle.fbl_log_order.specs.LogFaults.{breach_given, obstacle_given, pl
 ghost use Rattle.fbl_log_order.specs.declared.fault.LogOrderFault.TheVariants.{Log};
 
 use crate::fault::LogOrderFault;
-use fbl_base::DumpRefusal;
+use fbl_dumps::DumpRefusal;
 use fbl_logs::{LogBreach, RecordFault};
 use fbl_order::{Obstacle, Stuck};
 use fbl_trace::{Breach, EventFault};

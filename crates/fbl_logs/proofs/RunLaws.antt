@@ -2,7 +2,7 @@
 use Rattle.std.specs.Option.{is_some}
 use Rattle.fbl_logs.proofs.Common.{Option, None, true, false, ℕ, zero, suc, ◌≡◌, ◌<◌, ◌≤◌, ◌+◌, ◌↔◌, inl, inr, List, [], ◌∷◌, ◌++◌, length, Some, None, slice_get, refl, sym, ap, subst, ◌∙◌, arith, take, append-nil, take-more, filter_map, filter_map-append, length-append, Event, Hold, Store}
 use Rattle.fbl_logs.proofs.Common.{cases_lt, slice_get_within, Determinant, Mark, Entry, entry_member, log_of, mark_in, marks, at, DependsOn}
-use Rattle.fbl_base.specs.Audit.{IsDump}
+use Rattle.fbl_dumps.specs.Dumps.{IsDump}
 use Rattle.fbl_logs.specs.declared.clocks.Advance.{Advance}
 use Rattle.fbl_logs.specs.declared.fault.RecordRule.{RecordRule}
 use Rattle.fbl_logs.specs.declared.fault.RecordRule.TheVariants.{NotBefore, Outside, TooMany}

@@ -1,13 +1,13 @@
 -- Logs of runs, and the rules that they obey.
 use Rattle.std.specs.Prelude.{ℕ, ◌≡◌, ◌⊎◌, List, []}
-use Rattle.fbl_base.specs.Audit.{Parts, IsDump, RefusesDump}
-use Rattle.fbl_base.specs.DumpBreaches.{IsDumpBreach}
+use Rattle.fbl_dumps.specs.Dumps.{Parts, IsDump, RefusesDump}
+use Rattle.fbl_dumps.specs.DumpBreaches.{IsDumpBreach}
 use Rattle.fbl_trace.specs.Breaches.{IsEventFault}
 use Rattle.fbl_trace.specs.Configs.{FAllowed, IsFirstBreach}
 use Rattle.fbl_trace.specs.MemberSets.{AllBelow, Members}
 use Rattle.fbl_trace.specs.declared.fault.Breach.TheVariants as breach
-use Rattle.fbl_base.specs.declared.refusal.DumpRefusal.{DumpRefusal}
-use Rattle.fbl_base.specs.declared.refusal.DumpRefusal.TheVariants.{BadEvent, BadHeld}
+use Rattle.fbl_dumps.specs.declared.refusal.DumpRefusal.{DumpRefusal}
+use Rattle.fbl_dumps.specs.declared.refusal.DumpRefusal.TheVariants.{BadEvent, BadHeld}
 use Rattle.fbl_logs.specs.declared.entry.Entry.{Entry}
 use Rattle.fbl_logs.specs.declared.fault.LogBreach.{LogBreach}
 use Rattle.fbl_logs.specs.declared.fault.LogBreach.TheVariants.{Record, Trace}

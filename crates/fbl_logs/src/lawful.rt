@@ -1,8 +1,8 @@
 //! Which entries may stand in a log.
 
 ghost use Rattle.std.specs.Prelude.{◌≡◌, ◌<◌, ◌+◌, ◌≤◌, ◌↔◌, ℕ, IfOk, IfSome, MatchOption, Some, length, slice_get, take, true};
-ghost use Rattle.fbl_base.specs.Audit.{IsDump, RefusesDump};
-ghost use Rattle.fbl_base.specs.DumpBreaches.{IsDumpBreach};
+ghost use Rattle.fbl_dumps.specs.Dumps.{IsDump, RefusesDump};
+ghost use Rattle.fbl_dumps.specs.DumpBreaches.{IsDumpBreach};
 ghost use Rattle.fbl_logs.specs.Clocks.{IsAdvance, IsLawful};
 ghost use Rattle.fbl_logs.specs.Entries.{marks};
 ghost use Rattle.fbl_logs.specs.Lawful.{BreaksAt, IsEventPlace, IsFirstBad, IsKnownAt, ObeysAt, records};
@@ -13,8 +13,7 @@ use crate::entry::Entry;
 use crate::fault::{LogBreach, RecordFault, RecordRule};
 use crate::index::Index;
 use crate::log::RawLog;
-use fbl_base::audit::checked_dump;
-use fbl_base::{DumpRefusal, RawDump};
+use fbl_dumps::{DumpRefusal, RawDump, checked_dump};
 use fbl_trace::{Breach, EventFault, Mark, Outsider};
 use std::alloc::{AllocError, Global};
 

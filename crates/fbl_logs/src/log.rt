@@ -6,7 +6,7 @@ ghost use Rattle.fbl_logs.specs.Logs.{IsLog, IsLogBreach, RefusesLog, parts_of_l
 use crate::entry::Entry;
 use crate::fault::LogBreach;
 use crate::lawful::refusal;
-use fbl_base::DumpRefusal;
+use fbl_dumps::DumpRefusal;
 use fbl_trace::MemberSet;
 use std::alloc::Global;
 use std::marker::Model;

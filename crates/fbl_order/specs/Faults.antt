@@ -2,12 +2,12 @@
 use Rattle.std.specs.Prelude.{ℕ, ◌≡◌, ◌≢◌, ◌≤◌, ◌+◌, ◌-◌, ◌⊎◌, List, length, Some, map, slice_get, take, AllPairs}
 use Rattle.fbl_trace.specs.declared.fault.Breach.{Breach}
 use Rattle.fbl_trace.specs.declared.fault.Breach.TheVariants as breach
-use Rattle.fbl_base.specs.declared.refusal.DumpRefusal.{DumpRefusal}
-use Rattle.fbl_base.specs.declared.refusal.DumpRefusal.TheVariants.{BadEvent, BadF, BadMembers, Memory}
+use Rattle.fbl_dumps.specs.declared.refusal.DumpRefusal.{DumpRefusal}
+use Rattle.fbl_dumps.specs.declared.refusal.DumpRefusal.TheVariants.{BadEvent, BadF, BadMembers, Memory}
 use Rattle.fbl_trace.specs.declared.fault.EventRule.TheVariants.{TooMany, NothingInFlight}
 use Rattle.fbl_trace.specs.declared.trace.Mark.{Mark}
-use Rattle.fbl_base.specs.Audit.{Parts, RefusesDump}
-use Rattle.fbl_base.specs.DumpBreaches.{IsDumpBreach}
+use Rattle.fbl_dumps.specs.Dumps.{Parts, RefusesDump}
+use Rattle.fbl_dumps.specs.DumpBreaches.{IsDumpBreach}
 use Rattle.fbl_trace.specs.Breaches.{BreaksEvent}
 use Rattle.fbl_trace.specs.Configs.{FAllowed, IsFirstBreach, MembersAllowed}
 use Rattle.fbl_trace.specs.Events.{At, destination_of, member_of, send_of, source_of}

@@ -2,8 +2,8 @@
 use Rattle.std.specs.Prelude.{ℕ, ◌≡◌, ◌≢◌, ◌<◌, ◌+◌, ◌⊎◌, List, Some, flat_map, slice_get, slice_index, sum, take}
 use Rattle.std.specs.List.{list_any}
 use Rattle.std.specs.FinSet as set
-use Rattle.fbl_base.specs.declared.raw_dump.RawDump.{RawDump}
-use Rattle.fbl_base.specs.Audit.{Parts}
+use Rattle.fbl_dumps.specs.declared.raw_dump.RawDump.{RawDump}
+use Rattle.fbl_dumps.specs.Dumps.{Parts}
 use Rattle.fbl_trace.specs.Configs.{IsFirstBreach}
 use Rattle.fbl_order.specs.declared.parts.Group.{Group}
 use Rattle.fbl_order.specs.declared.parts.PartsFault.{PartsFault}

@@ -1,6 +1,6 @@
 //! Why the events of a run have no order.
 
-use fbl_base::DumpRefusal;
+use fbl_dumps::DumpRefusal;
 use fbl_trace::{Breach, EventRule, Mark};
 use std::alloc::{AllocError, Allocator, Global};
 use std::convert::From;
@@ -47,7 +47,7 @@ pub enum OrderFault<A: Allocator = Global> {
 impl<A: Allocator> From<AllocError> for OrderFault<A> {
     ghost use Rattle.std.specs.Prelude.{◌≡◌};
     ghost use Rattle.fbl_trace.specs.declared.fault.Breach.TheVariants as breach;
-    ghost use Rattle.fbl_base.specs.declared.refusal.DumpRefusal.TheVariants.{Memory};
+    ghost use Rattle.fbl_dumps.specs.declared.refusal.DumpRefusal.TheVariants.{Memory};
     ghost use Rattle.fbl_order.specs.declared.fault.OrderFault.TheVariants.{Dump};
 
     ghost from_gives = { λ _ e. e ≡ Dump Memory breach.Memory };

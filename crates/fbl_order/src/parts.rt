@@ -1,10 +1,10 @@
 //! What is recorded of a run in several parts, as the members of a group write one each.
 
 ghost use Rattle.std.specs.Prelude.{◌≡◌, ◌<◌, ◌≤◌, ℕ, IfErr, IfOk, MatchOption, length, sum};
-ghost use Rattle.fbl_base.specs.Audit.{parts_of};
+ghost use Rattle.fbl_dumps.specs.Dumps.{parts_of};
 ghost use Rattle.fbl_order.specs.Parts.{Agrees, AgreesAt, Differs, IsFirstOther, IsPlaceIn, IsUnion, IsUnited, RefusesParts, dump_group};
 
-use fbl_base::RawDump;
+use fbl_dumps::RawDump;
 use fbl_trace::MemberSet;
 use std::alloc::{AllocError, Allocator};
 use std::convert::From;

@@ -2,7 +2,8 @@
 use Rattle.std.specs.Prelude.{ℕ, ◌≡◌, ◌<◌, ◌⊎◌, ◌↔◌, true, List, [], ◌∷◌, ◌++◌, length, map, None, codes}
 use Rattle.std.specs.List.{range_with_len}
 use Rattle.std.specs.FinSet as set
-use Rattle.fbl_base.specs.Audit.{Parts, IsDumpOrphan, IsOrphanStart, lost_determinants}
+use Rattle.fbl_dumps.specs.Dumps.{Parts}
+use Rattle.fbl_base.specs.Audit.{IsDumpOrphan, IsOrphanStart, lost_determinants}
 use Rattle.fbl_trace.specs.Events.{receipts}
 use Rattle.fbl_trace.specs.MemberSets.{Members}
 use Rattle.fbl_audit.specs.Checking.{IsSafe, SaysUnsafe}

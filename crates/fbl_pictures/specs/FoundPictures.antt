@@ -2,7 +2,7 @@
 use Rattle.std.specs.Prelude.{ℕ, ◌≡◌, ◌-◌, ◌<◌, ◌⊎◌, true, false, List, [], ◌∷◌, ◌++◌, Option, Some, None, length, option_and_then, slice_get}
 use Rattle.std.specs.List.{range_with_len}
 use Rattle.std.specs.FinSet as set
-use Rattle.fbl_base.specs.Audit.{Parts}
+use Rattle.fbl_dumps.specs.Dumps.{Parts}
 use Rattle.fbl_trace.specs.Events.{At, receipt_of}
 use Rattle.fbl_trace.specs.MemberSets.{Members}
 use Rattle.fbl_audit.specs.Paths.{IsFirstDependent, IsPathTo, Origin}

@@ -1,7 +1,7 @@
 -- The picture of a log: of its last moment where it is safe at each, and else of the first receipt that a check of it finds, at its first
 -- moment.
 use Rattle.std.specs.Prelude.{ℕ, ◌≡◌, ◌⊎◌, List, [], ◌∷◌, Some, None, length, codes}
-use Rattle.fbl_base.specs.Audit.{Parts}
+use Rattle.fbl_dumps.specs.Dumps.{Parts}
 use Rattle.fbl_audit.specs.declared.checking.UnsafeReceipt.{UnsafeReceipt}
 use Rattle.fbl_moments.specs.declared.check.UnsafeMoment.{UnsafeMoment}
 use Rattle.fbl_logs.specs.declared.entry.Entry.{Entry}

@@ -9,7 +9,8 @@ use Rattle.fbl_trace.specs.declared.trace.Determinant.{Determinant}
 use Rattle.fbl_trace.specs.declared.trace.Mark.{Mark}
 use Rattle.fbl_trace.specs.declared.trace.Mark.TheVariants.{Send, Receipt}
 use Rattle.fbl_trace.specs.declared.trace.MessageName.{MessageName}
-use Rattle.fbl_base.specs.Audit.{Parts, is_held_outside, holders_of}
+use Rattle.fbl_dumps.specs.Dumps.{Parts, holders_of}
+use Rattle.fbl_base.specs.Audit.{is_held_outside}
 use Rattle.fbl_trace.specs.Events.{is_message, member_of, same_determinant, same_message}
 use Rattle.fbl_logs.specs.Entries.{mark_in}
 use Rattle.fbl_logs.specs.declared.entry.Entry.{Entry}

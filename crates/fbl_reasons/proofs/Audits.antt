@@ -5,7 +5,7 @@ use Rattle.fbl_reasons.proofs.Common.{Entry, Event, Hold, Store, log_of, mark_in
 use Rattle.std.specs.FinSet as set
 use Rattle.std.specs.Cmp.{nat_cmp_total}
 use Rattle.fbl_trace.proofs.Sets.{len-remove_one, some_member}
-use Rattle.fbl_base.specs.Audit.{HeldAt, IsDump}
+use Rattle.fbl_dumps.specs.Dumps.{HeldAt, IsDump}
 use Rattle.fbl_logs.specs.declared.clocks.Advance.{Advance}
 use Rattle.fbl_logs.specs.Clocks.{IsAdvance, seen}
 use Rattle.fbl_logs.specs.Entries.{receipt_in}

@@ -13,10 +13,11 @@ pub use Rattle.std.specs.Char.{is_ascii_digit}
 pub use Rattle.std.specs.List.{All, filter, list_all, list_any, prefix_len, range_with_len, starts_with, AllZip}
 pub use Rattle.fbl_input.proofs.Common.{IsUtf8, IsFirstFault, PutsOut, items_of, view}
 pub use Rattle.fbl_audit.specs.declared.checking.UnsafeReceipt.{UnsafeReceipt}
-pub use Rattle.fbl_base.specs.Audit.{IsDump, Parts, RefusesDump, lost_determinants, parts_of}
+pub use Rattle.fbl_dumps.specs.Dumps.{IsDump, Parts, RefusesDump, parts_of}
+pub use Rattle.fbl_base.specs.Audit.{lost_determinants}
 pub use Rattle.fbl_trace.specs.MemberSets.{AllBelow, member_list, Members}
 pub use Rattle.fbl_trace.specs.declared.fault.Breach.{Breach}
-pub use Rattle.fbl_base.specs.declared.refusal.DumpRefusal.{DumpRefusal}
+pub use Rattle.fbl_dumps.specs.declared.refusal.DumpRefusal.{DumpRefusal}
 pub use Rattle.fbl_trace.specs.declared.trace.Determinant.{Determinant}
 pub use Rattle.fbl_trace.specs.declared.trace.Mark.{Mark}
 pub use Rattle.fbl_trace.specs.declared.trace.Mark.TheVariants.{Receipt, Send}

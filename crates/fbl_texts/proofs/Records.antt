@@ -2,7 +2,7 @@
 use Rattle.std.proofs.Common.{◌≡◌, ℕ, ◌∙◌, ap, inr, refl, sym, subst, List, Ok, Err, Result, Bool, true, false}
 use Rattle.std.specs.Prelude.{is_some, option_and_then, if◌then◌else◌}
 use Rattle.serde_json.specs.Find.{get}
-use Rattle.fbl_base.specs.declared.refusal.DumpRefusal.TheVariants as dump
+use Rattle.fbl_dumps.specs.declared.refusal.DumpRefusal.TheVariants as dump
 use Rattle.fbl_input.specs.declared.fault.Key.TheVariants as keys
 use Rattle.fbl_input.specs.declared.misfit.InputKind.TheVariants as kinds
 use Rattle.fbl_input.specs.declared.misfit.Misfit.TheVariants as misfits

@@ -3,7 +3,7 @@ use Rattle.std.proofs.Common.{Bool, false, true, ◌≡◌, ◌<◌, ◌∙◌, 
 use Rattle.std.proofs.lemmas.Bool.{lt-ltb}
 use Rattle.std.proofs.lemmas.Option.{IfSome_then}
 use Rattle.std.specs.Result.{IsErrAnd}
-use Rattle.fbl_base.specs.declared.refusal.DumpRefusal.TheVariants as dump
+use Rattle.fbl_dumps.specs.declared.refusal.DumpRefusal.TheVariants as dump
 use Rattle.fbl_input.specs.Faults.{HasInput, IsFaultOf, IsReadFault, IsUnread}
 use Rattle.fbl_input.specs.declared.fault.RunFault.TheVariants as faults
 use Rattle.fbl_input.specs.declared.misfit.InputKind.TheVariants as kinds

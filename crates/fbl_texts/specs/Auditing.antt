@@ -6,7 +6,8 @@ use Rattle.std.specs.FinSet as set
 use Rattle.fbl_audit.specs.Checking.{IsLeftOrphan, IsSafe, SaysUnsafe}
 use Rattle.fbl_audit.specs.Paths.{IsPathTo}
 use Rattle.fbl_audit.specs.declared.checking.UnsafeReceipt.{UnsafeReceipt}
-use Rattle.fbl_base.specs.Audit.{Parts, IsDumpOrphan, lost_determinants, holders_of}
+use Rattle.fbl_dumps.specs.Dumps.{Parts, holders_of}
+use Rattle.fbl_base.specs.Audit.{IsDumpOrphan, lost_determinants}
 use Rattle.fbl_trace.specs.Events.{At, receipt_of, receipts}
 use Rattle.fbl_trace.specs.MemberSets.{Members}
 use Rattle.fbl_trace.specs.declared.trace.Determinant.{Determinant}

@@ -2,8 +2,8 @@
 use Rattle.std.specs.Prelude.{◌≡◌, ℕ, List, Option, is_some, option_and_then, Result, Ok, Err, if◌then◌else◌}
 use Rattle.serde_json.specs.Data.{Data}
 use Rattle.serde_json.specs.Find.{as_object, get}
-use Rattle.fbl_base.specs.declared.refusal.DumpRefusal.TheVariants as dump
-use Rattle.fbl_base.specs.Audit.{IsDump, parts_of}
+use Rattle.fbl_dumps.specs.declared.refusal.DumpRefusal.TheVariants as dump
+use Rattle.fbl_dumps.specs.Dumps.{IsDump, parts_of}
 use Rattle.fbl_input.specs.declared.fault.Key.TheVariants as keys
 use Rattle.fbl_input.specs.declared.fault.RunFault.{RunFault}
 use Rattle.fbl_input.specs.declared.fault.RunFault.TheVariants as faults

@@ -3,7 +3,7 @@
 ghost use Rattle.std.specs.Prelude.{◌≡◌, [], ◌∷◌, map, Ok, IfOk, IfErr, IfSome};
 ghost use Rattle.serde_json.specs.Data.{Data};
 ghost use Rattle.serde_json.specs.View.{view};
-ghost use Rattle.fbl_base.specs.Audit.{IsDump, parts_of};
+ghost use Rattle.fbl_dumps.specs.Dumps.{IsDump, parts_of};
 ghost use Rattle.fbl_input.specs.Faults.{IsUnread};
 ghost use Rattle.fbl_input.specs.Items.{event_from, pair_from, receipt_from, send_from};
 ghost use Rattle.fbl_input.specs.Misfits.{Gives, IsMisfit, IsOfShape};

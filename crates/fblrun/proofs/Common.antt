@@ -1,6 +1,7 @@
 -- The names that proofs of this crate take from outside: of the standard library, of the crates below, and of the definitions here.
 pub use Rattle.std.proofs.Common.{Bool, Err, IfErr, IfSome, List, None, Ok, Option, Result, Some, [], ap, arith, codes, decimal, drop, false, map, not, option_map, refl, rules, option_and_then}
 pub use Rattle.std.proofs.Common.{string_bytes, subst, suc, sym, true, unwrap_or, zero, ℕ, ◌&&◌, ◌+◌, ◌<◌, ◌||◌, ◌∙◌, ◌∷◌, ◌≡◌, ◌++◌, ◌⊎◌, inl, inr}
+pub use Rattle.std.proofs.Math.Bool.{or-false}
 pub use Rattle.std.proofs.lemmas.Fmt.{decimal_digit, parse-decimal}
 pub use Rattle.std.specs.Borrow.{Bor}
 pub use Rattle.std.specs.Box.{box_value}
@@ -20,7 +21,6 @@ pub use Rattle.clap.specs.declared.error.kind.ErrorKind.TheVariants.{OutOfMemory
 pub use Rattle.clap.specs.declared.parser.matches.ArgMatches.{ArgMatches}
 pub use Rattle.clap.specs.declared.parser.matches.ArgMatches.TheViews.{out-ArgMatches, out-SubCommand}
 pub use Rattle.clap.specs.declared.parser.matches.SubCommand.{SubCommand}
-pub use Rattle.fbl_base.proofs.AuditLaws.{or_false}
 pub use Rattle.fbl_trace.specs.Configs.{WorkersAllowed}
 pub use Rattle.fbl_commands.specs.Steps.{is_refusal}
 pub use Rattle.fbl_commands.specs.declared.answer.Answer.{Answer}
@@ -33,7 +33,7 @@ pub use Rattle.fblrun.specs.declared.Order.{Order}
 pub use Rattle.fblrun.specs.declared.command_line.Misuse.{Misuse}
 pub use Rattle.fblrun.specs.declared.command_line.Misuse.TheVariants.{Words}
 pub use Rattle.fblrun.specs.declared.command_line.Request.{Request}
-pub use Rattle.fbl_base.specs.declared.raw_dump.RawDump.{RawDump}
+pub use Rattle.fbl_dumps.specs.declared.raw_dump.RawDump.{RawDump}
 pub use Rattle.fbl_input.proofs.Outputs.{keeps_itself, puts_as, puts_text}
 pub use Rattle.fbl_input.proofs.Inputs.{over_fault}
 pub use Rattle.fbl_input.specs.Faults.{OverInput, PutsOut}

@@ -3,7 +3,7 @@ use Rattle.fbl_trace.specs.declared.trace.Note.{Note}
 use Rattle.fbl_order.specs.declared.parts.PartsFault.TheVariants as parts
 use Rattle.fblrun.specs.declared.merging.MergeFault.TheVariants as faults
 use Rattle.fblrun.proofs.Common.{DumpTask, EndsLogs, EndsMerged, MergeFault, RawDump, RawLog, RefusesLogMerge, RefusesMerge, inl, inr, keeps_itself, merge_status, refl, ◌⊎◌, ◌≡◌, ℕ, ◌||◌, ◌&&◌, not}
-use Rattle.fblrun.proofs.Common.{Bool, false, List, [], ◌∷◌, Option, Some, None, Result, Ok, Err, IfSome, arith, IsErrAnd, OutputFault, PutsOut, puts_as, ap, ◌∙◌, list_any, or_false, RunFault}
+use Rattle.fblrun.proofs.Common.{Bool, false, List, [], ◌∷◌, Option, Some, None, Result, Ok, Err, IfSome, arith, IsErrAnd, OutputFault, PutsOut, puts_as, ap, ◌∙◌, list_any, or-false, sym, RunFault}
 use Rattle.fblrun.proofs.Common.{Answer, is_refusal, Command, GroupRecord, Observes, PlaysScript, Ran, Transcript, Outline, PlaysWell, next_of, status_after, text, unobserved}
 
 -- what is known of what was done over an input is known of the status that it ends with
@@ -39,7 +39,7 @@ module _ {O : Type 0} (has : O → Bool) where
   counts r t old command answer new = has new ≡ (has old || is_refusal answer)
 
   keeps_refusals : (ran : List Ran) (old new : O) → Observes keeps counts ran old new → has new ≡ (has old || list_any (λ r. is_refusal r.answer) ran)
-  keeps_refusals [] old new is = ap has is ∙ or_false (has old)
+  keeps_refusals [] old new is = ap has is ∙ sym (or-false (has old))
   keeps_refusals (r ∷ ran) old new is = grind (arith, keeps_refusals ran is.1 new is.4, is.2, is.3)
 
   module _ (workers : ℕ) (strict : Bool) (s : Outline) (before after : Option (List ℕ)) (old new : O) where

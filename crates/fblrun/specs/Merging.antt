@@ -1,9 +1,9 @@
 -- What comes of several dumps, or of several logs: one of all their events, in an order.
 use Rattle.std.specs.Prelude.{◌≡◌, ℕ, List}
-use Rattle.fbl_base.specs.declared.raw_dump.RawDump.{RawDump}
-use Rattle.fbl_base.specs.declared.refusal.DumpRefusal.TheVariants as dump
+use Rattle.fbl_dumps.specs.declared.raw_dump.RawDump.{RawDump}
+use Rattle.fbl_dumps.specs.declared.refusal.DumpRefusal.TheVariants as dump
 use Rattle.fbl_trace.specs.declared.trace.Mark.{Mark}
-use Rattle.fbl_base.specs.Audit.{Parts, IsDump}
+use Rattle.fbl_dumps.specs.Dumps.{Parts, IsDump}
 use Rattle.fbl_trace.specs.Rules.{WellFormed}
 use Rattle.fbl_order.specs.declared.fault.OrderFault.TheVariants as orders
 use Rattle.fbl_order.specs.declared.parts.PartsFault.TheVariants as parts

@@ -2,8 +2,8 @@
 use Rattle.std.specs.Prelude.{◌≡◌, ℕ, ◌&&◌, ◌⊎◌, not, Bool, true, false, List, [], ◌∷◌, Option, Some, None, Result, Ok, Err, map}
 use Rattle.std.specs.Io.KnownBytes.{Keeps}
 use Rattle.std.specs.List.{list_any}
-use Rattle.fbl_base.specs.declared.raw_dump.RawDump.{RawDump}
-use Rattle.fbl_base.specs.Audit.{Parts}
+use Rattle.fbl_dumps.specs.declared.raw_dump.RawDump.{RawDump}
+use Rattle.fbl_dumps.specs.Dumps.{Parts}
 use Rattle.fbl_logs.specs.Logs.{LogParts}
 use Rattle.fbl_logs.specs.declared.log.RawLog.{RawLog}
 use Rattle.fbl_pictures.specs.DumpPictures.{IsPicture}

@@ -5,8 +5,7 @@ ghost use Rattle.fbl_logs.specs.Logs.{parts_of_log};
 ghost use Rattle.fblrun.specs.Merging.{IsLogMergeOf, IsMergeOf, IsOrderedFrom, RefusesLogMerge, RefusesMerge, RefusesOrder, merge_status};
 
 use crate::{INPUT_FAULT, MEMORY_FAULT};
-use fbl_base::audit::Dump;
-use fbl_base::{DumpRefusal, RawDump};
+use fbl_dumps::{Dump, DumpRefusal, RawDump};
 use fbl_log_order::{LogOrderFault, OrderedLog, at_places, order_log, united_logs};
 use fbl_logs::{EntryOrigin, LogBreach, RawLog, RunLog};
 use fbl_order::{Obstacle, OrderFault, PartsFault, Stuck, order_dump, place_in_lists, united};

@@ -1,5 +1,5 @@
 use Rattle.fbl_base.proofs.Common.{ap, arith, length, refl, false≢true, slice_get_read, At}
-use Rattle.fbl_base.proofs.ClockLaws.{same_event}
+use Rattle.fbl_dumps.proofs.ClockLaws.{same_event}
 use Rattle.fbl_base.proofs.AuditLaws.{causes_all, causes_more, causes_same}
 use Rattle.fbl_base.proofs.audit.causes_of.Goals as goal
 

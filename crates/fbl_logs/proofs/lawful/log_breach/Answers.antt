@@ -1,13 +1,13 @@
 use Rattle.fbl_logs.proofs.Common.{ℕ, ◌≡◌, ◌≤◌, Option, Some, None, arith, inl, length, refl, marks, slice_get_within}
 use Rattle.std.proofs.Common.{MatchOption}
 use Rattle.std.specs.Option.{unwrap_or}
-use Rattle.fbl_base.specs.Audit.{RefusesDump}
-use Rattle.fbl_base.specs.DumpBreaches.{IsDumpBreach}
+use Rattle.fbl_dumps.specs.Dumps.{RefusesDump}
+use Rattle.fbl_dumps.specs.DumpBreaches.{IsDumpBreach}
 use Rattle.fbl_trace.specs.declared.fault.Breach.{Breach}
 use Rattle.fbl_trace.specs.declared.fault.Breach.TheVariants as breach
 use Rattle.fbl_trace.specs.declared.fault.EventFault.{EventFault}
-use Rattle.fbl_base.specs.declared.refusal.DumpRefusal.{DumpRefusal}
-use Rattle.fbl_base.specs.declared.refusal.DumpRefusal.TheVariants.{BadEvent, BadHeld}
+use Rattle.fbl_dumps.specs.declared.refusal.DumpRefusal.{DumpRefusal}
+use Rattle.fbl_dumps.specs.declared.refusal.DumpRefusal.TheVariants.{BadEvent, BadHeld}
 use Rattle.fbl_logs.specs.Lawful.{IsEventPlace}
 use Rattle.fbl_logs.specs.Logs.{IsLogBreach, LogParts, RefusesLog, parts_of_log, trace_of}
 use Rattle.fbl_logs.specs.declared.fault.LogBreach.TheVariants.{Trace}

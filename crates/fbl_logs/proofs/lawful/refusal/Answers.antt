@@ -1,5 +1,5 @@
 use Rattle.fbl_logs.proofs.Common.{sym, subst, inr, refl, ℕ, List, Entry}
-use Rattle.fbl_base.specs.Audit.{IsDump}
+use Rattle.fbl_dumps.specs.Dumps.{IsDump}
 use Rattle.fbl_logs.specs.Clocks.{IsLawful}
 use Rattle.fbl_logs.specs.Lawful.{IsFirstBad, ObeysAt}
 use Rattle.fbl_logs.specs.Logs.{parts_of_log, trace_of}

@@ -1,5 +1,5 @@
 use Rattle.fbl_reasons.proofs.Common.{◌∙◌, ap, sym, subst, filter_map}
-use Rattle.fbl_base.specs.Audit.{IsDump}
+use Rattle.fbl_dumps.specs.Dumps.{IsDump}
 use Rattle.fbl_logs.specs.Entries.{marks}
 use Rattle.fbl_reasons.specs.LastMoments.{pair_in}
 use Rattle.fbl_reasons.proofs.Audits.{last_dump}

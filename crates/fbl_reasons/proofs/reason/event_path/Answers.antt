@@ -1,7 +1,7 @@
 use Rattle.fbl_reasons.proofs.Common.{ap, sym, subst, ◌≡◌, ◌∙◌, List, Mark, receipt_of, marks, slice_get_within, WellFormed}
 use Rattle.std.proofs.Common.{IfNone, IfSome}
 use Rattle.fbl_audit.specs.Paths.{IsPathTo, Origin}
-use Rattle.fbl_base.specs.Audit.{Parts}
+use Rattle.fbl_dumps.specs.Dumps.{Parts}
 use Rattle.fbl_trace.specs.Events.{At}
 use Rattle.fbl_trace.specs.Precedence.{DependsOnPlace, Has}
 use Rattle.fbl_reasons.proofs.PathLaws.{found_path, has_receipt}

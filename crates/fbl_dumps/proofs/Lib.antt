@@ -1,0 +1,3 @@
+pub mod Common
+pub mod ClockLaws
+pub mod DumpLaws

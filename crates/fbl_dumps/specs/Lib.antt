@@ -1,0 +1,3 @@
+pub mod Dumps
+pub mod Clocks
+pub mod DumpBreaches
