@@ -1,4 +1,3 @@
--- The names that proofs of this crate take from outside: of the standard library, of the crates below, and of the definitions here.
 pub use Rattle.fbl_dumps.proofs.Common.{List, None, Option, Some, [], ap, arith, drop, get_or, inl, inr, length, length-set, max, nat_tests, nat_cmp_total}
 pub use Rattle.fbl_dumps.proofs.Common.{nat_cmp, At, determinant_of, member_of, receipt_of, receipts, send_of, IsSendOf, WellFormed}
 pub use Rattle.std.proofs.Common.{append_assoc, false, refl, reverse, slice_get, suc, sym, true, zero, ℕ, ◌++◌, ◌+◌, ◌<◌, ◌↔◌, ◌∙◌, ◌∷◌, ◌≡◌, ◌≢◌, ◌≤◌, ◌⊎◌}

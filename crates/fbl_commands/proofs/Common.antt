@@ -1,4 +1,3 @@
--- The names that proofs of this crate take from outside: of the standard library, of the crates below, and of the definitions here.
 pub use Rattle.std.proofs.Common.{Err, IfErr, List, Ok, Result, [], ap, append-nil, arith, get_or, inl, inr, length, refl, string_bytes, subst}
 pub use Rattle.std.proofs.Common.{sym, take, drop, ℕ, ◌++◌, ◌+◌, ◌<◌, ◌∙◌, ◌∷◌, ◌≡◌, ◌≤◌, Bool, true, false, not, cond, suc, map, length-drop}
 pub use Rattle.fbl_group.proofs.Common.{false≢true, true_from_ne_false, filter, Next, Members, Has, itself, lost_receipts, no_orphan, up_if_none, IsStrike, GroupRecord}

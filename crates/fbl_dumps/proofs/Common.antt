@@ -1,4 +1,3 @@
--- The names that proofs of this crate take from outside: of the standard library, of the crates below, and of the definitions here.
 pub use Rattle.fbl_trace.proofs.Common.{Bool, Decides, List, None, Option, Some, [], add-one, ap, arith, cond, nat_tests, filter_map-append, nat_cmp_total, unsigned_tied, Contains}
 pub use Rattle.fbl_trace.proofs.Common.{cons_option, filter, list_any, nat_cmp, Counted, WellFormed}
 pub use Rattle.std.proofs.Common.{drop, get_or, get_or-set_other, get_or-set_same, inl, inr, length, length-append, length-set, length-take, map, refl, replicate, rules, slice_get}

@@ -1,5 +1,5 @@
--- The rules of a dump, who holds which determinants in it, and why one is refused.
-use Rattle.std.specs.Prelude.{◌≡◌, Some, slice_get, ℕ, ◌<◌, Bool, List, map, unwrap_or}
+-- The rules of a dump, who holds which determinants in it, and why one is refused: of several broken rules the first in the order given here.
+use Rattle.std.specs.Prelude.{◌≡◌, Some, slice_get, ℕ, ◌<◌, ◌≤◌, Bool, List, map, unwrap_or}
 use Rattle.std.specs.List.{list_any, filter}
 use Rattle.std.specs.Ordering.{nat_cmp}
 use Rattle.std.specs.FinSet as set
@@ -12,6 +12,12 @@ use Rattle.fbl_trace.specs.Configs.{MembersAllowed, FAllowed, IsFirstBreach}
 use Rattle.fbl_trace.specs.MemberSets.{AllBelow, Members}
 use Rattle.fbl_dumps.specs.declared.refusal.DumpRefusal.{DumpRefusal}
 use Rattle.fbl_dumps.specs.declared.refusal.DumpRefusal.TheVariants.{BadMembers, BadF, BadEvent, BadHeld, BadStrike, Memory}
+use Rattle.fbl_trace.specs.declared.fault.Breach.{Breach}
+use Rattle.fbl_trace.specs.declared.fault.Breach.TheVariants as breach
+use Rattle.fbl_trace.specs.declared.fault.PairRule.{PairRule}
+use Rattle.fbl_trace.specs.declared.fault.PairRule.TheVariants as pair_rule
+use Rattle.fbl_trace.specs.declared.fault.PairFault.{PairFault}
+use Rattle.fbl_trace.specs.Breaches.{IsEventFault, IsLeastOutside, IsOutside}
 use Rattle.fbl_dumps.specs.declared.raw_dump.RawDump.{RawDump}
 use Rattle.std.specs.HashMap as hash_map
 use Rattle.fbl_dumps.specs.declared.holders.Holders.{Holders}
@@ -69,3 +75,25 @@ holders_in found d = unwrap_or (hash_map.get same_determinant found.index d) set
 -- the index has of each determinant those that hold it
 abbrev pub AreHolders : {A : Type 0} → Parts → Holders A → Type 0
 AreHolders dump found = (d : Determinant) → holders_in found d ≡ holders_of dump d
+
+-- ---- the rule that a refused dump breaks
+
+-- the pair at the place breaks this rule in a group of n
+abbrev pub BreaksPair : ℕ → List Mark → ℕ → ℕ → Determinant → PairRule → Type 0
+BreaksPair n trace place holder d pair_rule.TooMany = 131072 ≤ place
+BreaksPair n trace place holder d (pair_rule.Outside outsider) = (place < 131072) × IsOutside n holder outsider
+BreaksPair n trace place holder d (pair_rule.NoReceipt receipt) = (place < 131072) × (holder < n) × (receipt ≡ receipt_of d) × ¬ (Has trace receipt)
+
+-- the pair at the fault's place is the fault's, and breaks its rule
+abbrev pub IsPairFault : Parts → PairFault → Type 0
+IsPairFault dump fault = (slice_get dump.held fault.place ≡ Some (fault.holder, fault.determinant)) × BreaksPair dump.members dump.events fault.place fault.holder fault.determinant fault.rule
+
+-- this is what the dump is refused for
+abbrev pub IsDumpBreach : Parts → DumpRefusal → Breach → Type 0
+IsDumpBreach dump BadMembers (breach.Members members) = members ≡ dump.members
+IsDumpBreach dump BadF (breach.F f members) = (f ≡ dump.f) × (members ≡ dump.members)
+IsDumpBreach dump (BadEvent place) (breach.Event fault) = (fault.place ≡ place) × IsEventFault dump.members dump.events fault
+IsDumpBreach dump (BadHeld place) (breach.Held fault) = (fault.place ≡ place) × IsPairFault dump fault
+IsDumpBreach dump BadStrike (breach.Strike outsider) = IsLeastOutside dump.strike dump.members outsider
+IsDumpBreach dump Memory breach.Memory = Unit {0}
+IsDumpBreach dump _ _ = ⊥

@@ -1,3 +1,2 @@
 pub mod Dumps
 pub mod Clocks
-pub mod DumpBreaches

@@ -8,8 +8,7 @@ ghost use Rattle.fbl_trace.specs.Breaches.{IsEventFault};
 ghost use Rattle.fbl_trace.specs.Configs.{IsFirstBreach};
 ghost use Rattle.fbl_trace.specs.Events.{same_determinant};
 ghost use Rattle.fbl_trace.specs.Rules.{ObeysAt, WellFormed};
-ghost use Rattle.fbl_dumps.specs.DumpBreaches.{BreaksPair, IsDumpBreach, IsPairFault};
-ghost use Rattle.fbl_dumps.specs.Dumps.{FitsPair, HeldAt, IsDump, RefusesDump, is_received, parts_of};
+ghost use Rattle.fbl_dumps.specs.Dumps.{FitsPair, HeldAt, IsDump, RefusesDump, is_received, parts_of, BreaksPair, IsDumpBreach, IsPairFault};
 
 use crate::raw_dump::RawDump;
 use crate::refusal::DumpRefusal;

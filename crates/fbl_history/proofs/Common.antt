@@ -1,10 +1,8 @@
--- The names that proofs of this crate take from outside: of the standard library, of the crates below, and of the definitions here.
 pub use Rattle.std.proofs.Common.{Bool, List, None, Ok, Option, Some, inl, inr, zero, [], ap, append-nil, arith, cond, drop, false, get_or, length, length-append, map, not, refl, rules, slice_get, subst, suc, sym, take, take_all, true, ℕ, ◌++◌}
-pub use Rattle.fbl_law.proofs.Common.{◌&&◌, ◌+◌, ◌-◌, ◌<◌, ◌==◌, ◌∙◌, ◌∷◌, ◌≡◌, ◌≤◌, ◌⊎◌, false_from_ne_true, nat_tests, filter-append, filter_map-append, get_or_from_slice_get}
-pub use Rattle.fbl_law.proofs.Common.{slice_get-get_or, slice_get-map, after_notes-state, note_of-front, receipts-noted, At-below, At-front, At-push, map-At, take-more, one_place}
-pub use Rattle.fbl_law.proofs.Common.{Settings, Has, SendsWell, MayFollow, WellFormed, is_receipt_of, is_send_of, receipts_of, sends_of, IsCheckpoint, IsDelivery, IsGroupStart}
-pub use Rattle.fbl_law.proofs.Common.{IsRecovery, IsStrike, delivery_events, start_events, receiver, stays_by, step_of, GroupRecord, marks, member, member_checkpoint, receipts_at}
-pub use Rattle.fbl_law.proofs.Common.{IsReplayed, IsSound, received_notes, length-numbered, MemberRecord, Message, blank, logged_note, replayed_by}
+pub use Rattle.fbl_law.proofs.Common.{◌&&◌, ◌+◌, ◌-◌, ◌<◌, ◌==◌, ◌∙◌, ◌∷◌, ◌≡◌, ◌≤◌, ◌⊎◌, false_from_ne_true, nat_tests, filter-append, filter_map-append, get_or_from_slice_get, slice_get-get_or, slice_get-map}
+pub use Rattle.fbl_law.proofs.Common.{after_notes-state, note_of-front, receipts-noted, At-below, At-front, At-push, map-At, take-more, one_place, Settings, Has, SendsWell, MayFollow, WellFormed, is_receipt_of}
+pub use Rattle.fbl_law.proofs.Common.{is_send_of, receipts_of, sends_of, IsCheckpoint, IsDelivery, IsGroupStart, IsRecovery, IsStrike, delivery_events, start_events, receiver, stays_by, step_of, GroupRecord, marks}
+pub use Rattle.fbl_law.proofs.Common.{member, member_checkpoint, receipts_at, IsReplayed, IsSound, received_notes, length-numbered, MemberRecord, Message, blank, logged_note, replayed_by}
 pub use Rattle.std.proofs.lemmas.Iterator.Adapters.{YieldsList-from_skip, YieldsList-from_vec, items_from_extend}
 pub use Rattle.std.proofs.lemmas.Iterator.Consumers.{YieldsList-at}
 pub use Rattle.std.proofs.lemmas.List.{map-append, take_more, get_or-set_other, get_or-set_same, get_or_default, length-map, length-set, take-take}

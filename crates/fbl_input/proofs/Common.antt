@@ -1,7 +1,5 @@
--- The names that proofs of this crate take from outside: of the standard library, of the crates below, and of the definitions here.
-pub use Rattle.std.proofs.Common.{Err, IfErr, IfSome, List, None, Ok, OnErr, OnOk, Option, Result, Some, String, [], add-one, ap, append_assoc, arith, below_more, cond, drop, drop-cons, false, get_or}
-pub use Rattle.std.proofs.Common.{inl, inr, length, length-drop, length-take, map, option_and_then, option_map, refl, slice_get, string_bytes, subst, suc, sym, take, true, vec_len, ℕ, ◌++◌, ◌+◌, ◌-◌}
-pub use Rattle.std.proofs.Common.{◌<◌, ◌∙◌, ◌∷◌, ◌≡◌, ◌≤◌, ◌⊎◌, rules}
+pub use Rattle.std.proofs.Common.{Err, IfErr, IfSome, List, None, Ok, OnErr, OnOk, Option, Result, Some, String, [], add-one, ap, append_assoc, arith, below_more, cond, drop, drop-cons, false, get_or, inl, inr, length}
+pub use Rattle.std.proofs.Common.{length-drop, length-take, map, option_and_then, option_map, refl, slice_get, string_bytes, subst, suc, sym, take, true, vec_len, ℕ, ◌++◌, ◌+◌, ◌-◌, ◌<◌, ◌∙◌, ◌∷◌, ◌≡◌, ◌≤◌, ◌⊎◌, rules}
 pub use Rattle.std.proofs.Math.Seq.{take-add}
 pub use Rattle.fbl_trace.proofs.Common.{common_steps, length-map, take_all, nat_cmp_total, nat_cmp}
 pub use Rattle.std.proofs.lemmas.Option.{slice_get-get_or, slice_get-map}

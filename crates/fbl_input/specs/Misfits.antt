@@ -3,8 +3,7 @@ use Rattle.std.specs.Prelude.{◌≡◌, ℕ, ◌<◌, ◌==◌, ◌⊎◌, List
 use Rattle.std.specs.List.{AllPass}
 use Rattle.serde_json.specs.Data.{Data}
 use Rattle.serde_json.specs.Find.{get}
-use Rattle.fbl_dumps.specs.Dumps.{Parts}
-use Rattle.fbl_dumps.specs.DumpBreaches.{IsDumpBreach}
+use Rattle.fbl_dumps.specs.Dumps.{Parts, IsDumpBreach}
 use Rattle.fbl_trace.specs.Breaches.{IsConfigBreach}
 use Rattle.fbl_trace.specs.declared.config.ConfigRefusal.TheVariants as config
 use Rattle.fbl_dumps.specs.declared.refusal.DumpRefusal.TheVariants as dump

@@ -1,9 +1,7 @@
--- The names that proofs of this crate take from outside: of the standard library, of the crates below, and of the definitions here.
 pub use Rattle.std.proofs.Common.{Bool, Decides, List, None, Option, Some, [], ap, append_assoc, arith, cond, count_by, drop, false, get_or, if◌then◌else◌, inl, inr, length}
 pub use Rattle.std.proofs.Common.{length-append, length-take, map, nat_le, nat_lt, not, option_map, refl, slice_get, subst, suc, sym, take, true, zero, ℕ, ◌&&◌, ◌*◌, ◌++◌, ◌+◌}
-pub use Rattle.fbl_trace.proofs.Common.{◌-◌, ◌<◌, ◌==◌, ◌||◌, ◌↔◌, ◌∙◌, ◌∷◌, ◌≡◌, ◌≢◌, ◌≤◌, ◌⊎◌, nat_cmp, At, destination_of, determinant_of, mark_of, member_of, receipt_of}
-pub use Rattle.fbl_trace.proofs.Common.{same_determinant, send_of, start_of, starts_of, step_events, took, MayFollow, WellFormed, in_flight, is_receipt_of, is_send_of, receipts_of}
-pub use Rattle.fbl_trace.proofs.Common.{sends_of, sent_on, taken_on}
+pub use Rattle.fbl_trace.proofs.Common.{◌-◌, ◌<◌, ◌==◌, ◌||◌, ◌↔◌, ◌∙◌, ◌∷◌, ◌≡◌, ◌≢◌, ◌≤◌, ◌⊎◌, nat_cmp, At, destination_of, determinant_of, mark_of, member_of, receipt_of, same_determinant, send_of, start_of}
+pub use Rattle.fbl_trace.proofs.Common.{starts_of, step_events, took, MayFollow, WellFormed, in_flight, is_receipt_of, is_send_of, receipts_of, sends_of, sent_on, taken_on}
 pub use Rattle.std.proofs.Math.Nat.{add-zero, zero-add}
 pub use Rattle.std.proofs.Math.Seq.{take-append-add}
 pub use Rattle.std.proofs.lemmas.Bool.{and_parts, false≢true, cases_Bool, cases_eq, cases_lt, cases_order, eq-eqb, false_from_ne_true, ne_eqb}
@@ -26,10 +24,9 @@ pub use Rattle.std.specs.Prelude.{slice_index_or, slice_set, sum_by}
 pub use Rattle.fbl_trace.proofs.LawfulLaws.{after_notes-state, lawful_deliver, note_of-front, notes_of-sent, receipts-noted, sent-note}
 pub use Rattle.fbl_trace.proofs.Gets.{Apart, At-seam, Apart-later, At-below, At-filter, At-filter_map, At-front, At-push, drop_next, filter_map-At, filter_map-agree, map-At}
 pub use Rattle.fbl_trace.proofs.Gets.{split-at, take-more, length-filter_map, length-left}
-pub use Rattle.fbl_trace.proofs.RulesLaws.{receipt-number, filter_all, in_flight-receipt, in_flight-send, sent-rises, MayFollow-last, WellFormed-front, WellFormed-keeps}
-pub use Rattle.fbl_trace.proofs.RulesLaws.{WellFormed-none, WellFormed-push, WellFormed-take, eqb-self, in_flight-sent, is_sent, receipts-step, sends-step, sent-before}
+pub use Rattle.fbl_trace.proofs.RulesLaws.{receipt-number, filter_all, in_flight-receipt, in_flight-send, sent-rises, MayFollow-last, WellFormed-front, WellFormed-keeps, WellFormed-none, WellFormed-push, WellFormed-take}
+pub use Rattle.fbl_trace.proofs.RulesLaws.{eqb-self, in_flight-sent, is_sent, receipts-step, sends-step, sent-before, is_receipt, Decides-same_determinant}
 pub use Rattle.fbl_trace.proofs.PrecedenceLaws.{one_place, one_send, Earlier-front, Has-append, Has-filter, Has-first, Has-last, Precedes-entered, Precedes-filter, Precedes-front, Precedes-within}
-pub use Rattle.fbl_trace.proofs.RulesLaws.{is_receipt, Decides-same_determinant}
 pub use Rattle.fbl_trace.proofs.Sets.{len-within, some_member, some_outside}
 pub use Rattle.fbl_dumps.specs.Dumps.{HeldAt}
 pub use Rattle.fbl_trace.specs.Configs.{IsConfig, Settings, StartAllowed}
@@ -50,15 +47,13 @@ pub use Rattle.fbl_table.proofs.Adding.{added_new, fold_next, held-carried, held
 pub use Rattle.fbl_table.specs.Tables.{found, gathered, held_by, is_held, is_of_receipt, learned, noted, piggybacked}
 pub use Rattle.fbl_table.specs.declared.entry.Entry.{Entry}
 pub use Rattle.fbl_law.specs.Promises.{dump_of, held_pairs, pairs_from, pairs_of, GainsHolders, HoldsEachReceipt, IsHeldBy, LeavesRecorded, RecordsCauses, RecordsFirst, SurvivorsHold}
-pub use Rattle.fbl_law.specs.GroupLaws.{CheckpointIsRecorded, GainsTheDown, GroupCheckpointKeeps, OfRecovery, RecordedTest, RunIsSound, StaysIsRecorded, checkpoints, delivers}
-pub use Rattle.fbl_law.specs.GroupLaws.{recovers, starts, strikes}
+pub use Rattle.fbl_law.specs.GroupLaws.{CheckpointIsRecorded, GainsTheDown, GroupCheckpointKeeps, OfRecovery, RecordedTest, RunIsSound, StaysIsRecorded, checkpoints, delivers, recovers, starts, strikes}
 pub use Rattle.fbl_law.specs.GroupSteps.{IsCheckpoint, IsDelivery, IsGroupStart, IsMadeAgain, IsRecovery, IsStrike, delivery_events, made, message_of_send, receiver, start_events, step_of, IsEventCut}
 pub use Rattle.fbl_law.specs.GroupSteps.{Stays, UpTo, between, gathered_all, is_on, recovery_table, saved_tables, taken_off, IsNextReplay, IsRebuilt, IsReplaying, IsWaiting, count_in, before_lost}
 pub use Rattle.fbl_law.specs.GroupSteps.{is_lost, is_replayed, recovered_trace, replayed_in, resent, resent_to, sent_again, stays_by, stays_in, working}
 pub use Rattle.fbl_law.specs.Groups.{GroupRecord, HasChannels, channel, is_recorded, is_recorded_among, knowledge, marks, member, member_checkpoint, messages_in_flight, receipts}
 pub use Rattle.fbl_law.specs.Groups.{sum_below, IsFold, IsReplayed, IsSound, OfSound, last_taken, receipts_at, received_notes}
-pub use Rattle.fbl_law.specs.Knowledge.{Holds, Includes, IsAlwaysHeld, IsBeforeCheckpoint, IsCheckpointKept, IsClosed, IsDown, IsDownEmpty, IsHolder, IsInFlight, IsOrphan}
-pub use Rattle.fbl_law.specs.Knowledge.{IsRecorded, IsSoundKnowledge, IsStable, IsThere, IsTrueEntry, IsUp, Knowledge, KnowsTruth, MatchesTrace, Names, NamesCauses, Owes, Store}
-pub use Rattle.fbl_law.specs.Knowledge.{checkpoint, entries, in_checkpoint, in_message, in_table, owner, send_mark, table}
+pub use Rattle.fbl_law.specs.Knowledge.{Holds, Includes, IsAlwaysHeld, IsBeforeCheckpoint, IsCheckpointKept, IsClosed, IsDown, IsDownEmpty, IsHolder, IsInFlight, IsOrphan, IsRecorded, IsSoundKnowledge, IsStable, IsThere}
+pub use Rattle.fbl_law.specs.Knowledge.{IsTrueEntry, IsUp, Knowledge, KnowsTruth, MatchesTrace, Names, NamesCauses, Owes, Store, checkpoint, entries, in_checkpoint, in_message, in_table, owner, send_mark, table}
 pub use Rattle.fbl_law.specs.StepLaws.{AnyNote, AnyState, HoldsFirst, HoldsOf, StepConserves, StepKeeps, StepLosesNone, StepMakesNone, WeighsNoLess, WeighsNoMore, WeighsTheSame}
 pub use Rattle.fbl_law.specs.StepLaws.{weight_after, weight_at_first, weight_flying, weight_of, weight_of_starts}

@@ -1,8 +1,6 @@
--- The names that proofs of this crate take from outside: of the standard library, of the crates below, and of the definitions here.
-pub use Rattle.fbl_order.proofs.Common.{List, At, At-front, At-push, ℕ, suc, [], ◌∷◌, ◌++◌, ◌+◌, ◌≡◌, ◌≤◌, ◌<◌, ◌==◌, ◌∙◌, true, false, None, Some, SameLogs, ap, append-nil}
-pub use Rattle.fbl_order.proofs.Common.{append_cancel_left, arith, cases_lt, cond, drop, filter-append, filter_map-append, inl, inr, length, length-append, member_of, nat_tests}
-pub use Rattle.fbl_order.proofs.Common.{refl, slice_get, slice_get_within, sym, take, take-append-drop, take-more, take_all, is_some, subst, IsOrder, slice_get-get_or, zero}
-pub use Rattle.fbl_order.proofs.Common.{add-one, At-filter, sum_by-cons, eqb-self, slice_get_read, rules, ◌-◌, get_or}
+pub use Rattle.fbl_order.proofs.Common.{List, At, At-front, At-push, ℕ, suc, [], ◌∷◌, ◌++◌, ◌+◌, ◌≡◌, ◌≤◌, ◌<◌, ◌==◌, ◌∙◌, true, false, None, Some, SameLogs, ap, append-nil, append_cancel_left, arith, cases_lt, cond}
+pub use Rattle.fbl_order.proofs.Common.{drop, filter-append, filter_map-append, inl, inr, length, length-append, member_of, nat_tests, refl, slice_get, slice_get_within, sym, take, take-append-drop, take-more, take_all}
+pub use Rattle.fbl_order.proofs.Common.{is_some, subst, IsOrder, slice_get-get_or, zero, add-one, At-filter, sum_by-cons, eqb-self, slice_get_read, rules, ◌-◌, get_or}
 pub use Rattle.fbl_logs.proofs.Common.{At-seam, entry_member, mark_in, marks, Logs, log_of, DependsOn, IsAt}
 pub use Rattle.std.proofs.Common.{set, Global, sum_by, map}
 pub use Rattle.std.proofs.lemmas.List.{drop_all, take-append-le, length-take-le}

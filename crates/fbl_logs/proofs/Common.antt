@@ -1,8 +1,6 @@
--- The names that proofs of this crate take from outside: of the standard library, of the crates below, and of the definitions here.
 pub use Rattle.std.proofs.Common.{Bool, List, None, Option, Some, [], add-one, ap, arith, cond, drop, false, get_or, inl, inr, length, length-append, length-take, max}
-pub use Rattle.fbl_trace.proofs.Common.{not, refl, slice_get, subst, suc, sym, take, true, zero, ℕ, ◌&&◌, ◌++◌, ◌+◌, ◌<◌, ◌==◌, ◌↔◌, ◌∙◌, ◌∷◌, ◌≡◌, ◌≢◌, ◌≤◌, ◌⊎◌, nat_tests}
-pub use Rattle.fbl_trace.proofs.Common.{append-nil, take-append-drop, take_all, filter-append, filter_map-append, slice_get_read, slice_get_within, filter_map, receipt_of, send_of}
-pub use Rattle.fbl_trace.proofs.Common.{MayFollow, WellFormed}
+pub use Rattle.fbl_trace.proofs.Common.{not, refl, slice_get, subst, suc, sym, take, true, zero, ℕ, ◌&&◌, ◌++◌, ◌+◌, ◌<◌, ◌==◌, ◌↔◌, ◌∙◌, ◌∷◌, ◌≡◌, ◌≢◌, ◌≤◌, ◌⊎◌, nat_tests, append-nil, take-append-drop, take_all}
+pub use Rattle.fbl_trace.proofs.Common.{filter-append, filter_map-append, slice_get_read, slice_get_within, filter_map, receipt_of, send_of, MayFollow, WellFormed}
 pub use Rattle.std.proofs.lemmas.Bool.{cases_eq, cases_lt, cases_order, eqb-true, false≢true}
 pub use Rattle.fbl_trace.proofs.Gets.{At-filter_map, At-front, At-push, At-seam, filter_map-At, slice_get-take, take-more}
 pub use Rattle.fbl_trace.proofs.RulesLaws.{MayFollow-last, MayFollow-new, WellFormed-front, eqb-self, in_flight-sent}

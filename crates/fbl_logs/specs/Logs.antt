@@ -1,7 +1,6 @@
 -- Logs of runs, and the rules that they obey.
 use Rattle.std.specs.Prelude.{ℕ, ◌≡◌, ◌⊎◌, List, []}
-use Rattle.fbl_dumps.specs.Dumps.{Parts, IsDump, RefusesDump}
-use Rattle.fbl_dumps.specs.DumpBreaches.{IsDumpBreach}
+use Rattle.fbl_dumps.specs.Dumps.{Parts, IsDump, RefusesDump, IsDumpBreach}
 use Rattle.fbl_trace.specs.Breaches.{IsEventFault}
 use Rattle.fbl_trace.specs.Configs.{FAllowed, IsFirstBreach}
 use Rattle.fbl_trace.specs.MemberSets.{AllBelow, Members}

@@ -1,8 +1,7 @@
 //! Which entries may stand in a log.
 
 ghost use Rattle.std.specs.Prelude.{◌≡◌, ◌<◌, ◌+◌, ◌≤◌, ◌↔◌, ℕ, IfOk, IfSome, MatchOption, Some, length, slice_get, take, true};
-ghost use Rattle.fbl_dumps.specs.Dumps.{IsDump, RefusesDump};
-ghost use Rattle.fbl_dumps.specs.DumpBreaches.{IsDumpBreach};
+ghost use Rattle.fbl_dumps.specs.Dumps.{IsDump, RefusesDump, IsDumpBreach};
 ghost use Rattle.fbl_logs.specs.Clocks.{IsAdvance, IsLawful};
 ghost use Rattle.fbl_logs.specs.Entries.{marks};
 ghost use Rattle.fbl_logs.specs.Lawful.{BreaksAt, IsEventPlace, IsFirstBad, IsKnownAt, ObeysAt, records};

@@ -1,9 +1,7 @@
--- The names that proofs of this crate take from outside: of the standard library, of the crates below, and of the definitions here.
 pub use Rattle.std.proofs.Common.{Ok, Err, MatchResult, Result, Bor, IfSome, List, None, Option, Some, [], ap, arith, cond, drop, false, if◌then◌else◌, length, map, refl, rules, slice_get, slice_set, suc, sym, true, zero}
 pub use Rattle.fbl_trace.proofs.Common.{get_or, ℕ, ◌++◌, ◌+◌, ◌-◌, ◌<◌, ◌==◌, ◌∙◌, ◌∷◌, ◌≡◌, ◌≤◌, common_steps}
 pub use Rattle.std.proofs.Math.ListN.{length-set}
-pub use Rattle.fbl_table.proofs.Common.{nat_tests, get_or_from_slice_get, slice_get-get_or, slice_get_past, slice_get_within, length-filter_map, same_determinant, is_open}
-pub use Rattle.fbl_table.proofs.Common.{piggybacked}
+pub use Rattle.fbl_table.proofs.Common.{nat_tests, get_or_from_slice_get, slice_get-get_or, slice_get_past, slice_get_within, length-filter_map, same_determinant, is_open, piggybacked}
 pub use Rattle.std.proofs.lemmas.List.{append-nil, append_assoc, drop_all, drop_more, length-append}
 pub use Rattle.std.proofs.lemmas.List.Elements.{All-pop, All-push}
 pub use Rattle.std.specs.List.{All, AllByRecursion}

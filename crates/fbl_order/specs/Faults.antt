@@ -6,8 +6,7 @@ use Rattle.fbl_dumps.specs.declared.refusal.DumpRefusal.{DumpRefusal}
 use Rattle.fbl_dumps.specs.declared.refusal.DumpRefusal.TheVariants.{BadEvent, BadF, BadMembers, Memory}
 use Rattle.fbl_trace.specs.declared.fault.EventRule.TheVariants.{TooMany, NothingInFlight}
 use Rattle.fbl_trace.specs.declared.trace.Mark.{Mark}
-use Rattle.fbl_dumps.specs.Dumps.{Parts, RefusesDump}
-use Rattle.fbl_dumps.specs.DumpBreaches.{IsDumpBreach}
+use Rattle.fbl_dumps.specs.Dumps.{Parts, RefusesDump, IsDumpBreach}
 use Rattle.fbl_trace.specs.Breaches.{BreaksEvent}
 use Rattle.fbl_trace.specs.Configs.{FAllowed, IsFirstBreach, MembersAllowed}
 use Rattle.fbl_trace.specs.Events.{At, destination_of, member_of, send_of, source_of}

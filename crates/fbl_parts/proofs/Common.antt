@@ -1,4 +1,3 @@
--- The names that proofs of this crate take from outside: of the standard library, of the crates below, and of the definitions here.
 pub use Rattle.std.proofs.Common.{All, Bool, List, Vec, [], ap, append-nil, append_assoc, arith, cond, deque_capacity, deque_items, deque_len, drop, false, get_or, inr, length, map, refl, replicate, set, slice_index_or, suc, sym, take, true, vec_capacity, vec_len, ℕ, ◌*◌, ◌++◌, ◌+◌, drop_of_length-le}
 pub use Rattle.fbl_law.proofs.Common.{◌-◌, ◌<◌, ◌||◌, ◌∙◌, ◌∷◌, ◌≡◌, ◌≤◌, ◌⊎◌, nat_tests, Members, Message}
 pub use Rattle.std.proofs.lemmas.List.{get_or-map, get_or-set_other, get_or-set_same, length-map, length-set, map-append, map-set, set-get_or, replicate_more, at_drop_more, get_or-replicate, length-take}

@@ -1,4 +1,3 @@
--- The names that proofs of this crate take from outside: of the standard library, of the crates below, and of the definitions here.
 pub use Rattle.std.proofs.Common.{List, None, Option, Some, [], ap, append-nil, arith, cond, drop, false, get_or, length, map, not, suc, sym, take, true, ℕ, ◌++◌, ◌+◌, ◌-◌, ◌<◌, ◌==◌, ◌||◌, ◌∙◌, ◌∷◌, ◌≡◌, inl, inr, refl, rules, slice_get, vec_len, zero, ◌≤◌, ◌⊎◌, ◌≢◌, subst, ◌↔◌, set, get_or-set_same, get_or-set_other, add-one, length-set, below_more}
 pub use Rattle.fbl_audit.proofs.Common.{false≢true, cases_eq, cases_lt, nat_tests, IfOk-weaker}
 pub use Rattle.std.proofs.lemmas.Grind.{common_steps}

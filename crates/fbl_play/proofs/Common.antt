@@ -1,4 +1,3 @@
--- The names that proofs of this crate take from outside: of the standard library, of the crates below, and of the definitions here.
 pub use Rattle.fbl_texts.proofs.Common.{Err, List, None, Ok, Option, Result, Some, [], ap, arith, get_or, inl, inr, length, refl, subst, sym, take, ℕ, ◌++◌, ◌+◌, ◌<◌, ◌∙◌, ◌∷◌}
 pub use Rattle.fbl_texts.proofs.Common.{◌≡◌, ◌≤◌, map_push, take_all, take_more, over_input}
 pub use Rattle.std.proofs.Math.Logic.{∥∥₁_map}

@@ -1,7 +1,6 @@
 -- An input that has the form of a dump, whether or not it obeys the rules of one, or its first fault.
 use Rattle.std.specs.Prelude.{◌≡◌, ℕ, List, Ok}
-use Rattle.fbl_dumps.specs.Dumps.{RefusesDump, parts_of}
-use Rattle.fbl_dumps.specs.DumpBreaches.{IsDumpBreach}
+use Rattle.fbl_dumps.specs.Dumps.{RefusesDump, parts_of, IsDumpBreach}
 use Rattle.fbl_trace.specs.declared.fault.Breach.{Breach}
 use Rattle.fbl_dumps.specs.declared.refusal.DumpRefusal.{DumpRefusal}
 use Rattle.fbl_input.specs.declared.fault.RunFault.{RunFault}

@@ -1,4 +1,3 @@
--- The names that proofs of this crate take from outside: of the standard library, of the crates below, and of the definitions here.
 pub use Rattle.std.proofs.Common.{Bool, Decides, List, MatchOption, None, Option, Some, [], add-one, ap, append_assoc, arith, below_more, bit_and, bit_or, cond, count_by}
 pub use Rattle.std.proofs.Common.{drop, eqb, false, get_or, inl, inr, length, length-append, length-set, length-take, map, not, refl, replicate}
 pub use Rattle.std.proofs.Common.{slice_get, suc, sym, take, subst, true, w16, zero, ℕ, ◌%◌, ◌&&◌, ◌*◌, ◌++◌, ◌+◌, ◌-◌, ◌/◌, ◌<◌, ◌==◌, ◌^◌, ◌||◌, ◌↔◌, ◌∙◌, ◌∷◌, ◌≡◌, ◌≢◌, ◌≤◌, ◌⊎◌}

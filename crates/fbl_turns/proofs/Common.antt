@@ -1,4 +1,3 @@
--- The names that proofs of this crate take from outside: of the standard library, of the crates below, and of the definitions here.
 pub use Rattle.std.proofs.Common.{Bool, List, None, Option, Some, [], ap, append-nil, arith, below_more, cond, eq-eqb, eqb, false, filter, find, get_or, get_or-set_other, get_or-set_same, inl, inr}
 pub use Rattle.fbl_group.proofs.Common.{not, ◌==◌, ◌||◌, ◌↔◌, ◌∙◌, ◌∷◌, ◌≡◌, ◌≤◌, ◌⊎◌, nat_tests, filter-append, nat_cmp_total, nat_cmp, Settings, Next, Has, Recovers}
 pub use Rattle.fbl_group.proofs.Common.{strike_refusal, RefusesCommit, GroupRecord, knowledge, member, Message}

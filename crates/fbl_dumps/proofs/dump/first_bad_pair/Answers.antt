@@ -1,5 +1,5 @@
 use Rattle.fbl_dumps.proofs.Common.{ℕ, List, arith, refl, slice_get_read, Determinant, Mark, FitsPair}
-use Rattle.fbl_dumps.specs.DumpBreaches.{BreaksPair}
+use Rattle.fbl_dumps.specs.Dumps.{BreaksPair}
 use Rattle.fbl_trace.specs.declared.fault.PairRule.{PairRule}
 use Rattle.fbl_trace.specs.declared.fault.PairRule.TheVariants as rules
 use Rattle.fbl_trace.proofs.Gets.{each_all, each_more}

@@ -1,8 +1,7 @@
 use Rattle.fbl_logs.proofs.Common.{ℕ, ◌≡◌, ◌≤◌, Option, Some, None, arith, inl, length, refl, marks, slice_get_within}
 use Rattle.std.proofs.Common.{MatchOption}
 use Rattle.std.specs.Option.{unwrap_or}
-use Rattle.fbl_dumps.specs.Dumps.{RefusesDump}
-use Rattle.fbl_dumps.specs.DumpBreaches.{IsDumpBreach}
+use Rattle.fbl_dumps.specs.Dumps.{RefusesDump, IsDumpBreach}
 use Rattle.fbl_trace.specs.declared.fault.Breach.{Breach}
 use Rattle.fbl_trace.specs.declared.fault.Breach.TheVariants as breach
 use Rattle.fbl_trace.specs.declared.fault.EventFault.{EventFault}
