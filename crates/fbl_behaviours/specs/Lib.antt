@@ -1,0 +1,4 @@
+pub mod Accounts
+pub mod Commands
+pub mod Elections
+pub mod Shards

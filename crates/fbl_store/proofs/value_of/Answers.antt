@@ -1,5 +1,0 @@
-use Rattle.std.proofs.Common.{arith}
-use Rattle.fbl_store.proofs.value_of.Goals as goal
-
-pub returns : goal.returns
-returns c = omega (arith, c.look_up.ensures.most, c.requires)
