@@ -4,11 +4,11 @@ use Rattle.fbl_logs.specs.declared.entry.Entry.{Entry}
 use Rattle.fbl_logs.specs.declared.log.EntryOrigin.{EntryOrigin}
 use Rattle.fbl_logs.specs.declared.log.RawLog.{RawLog}
 use Rattle.fbl_logs.specs.Logs.{LogParts}
-use Rattle.fbl_order.specs.declared.parts.Group.{Group}
+use Rattle.fbl_order.specs.declared.parts.RunGroup.{RunGroup}
 use Rattle.fbl_order.specs.Parts.{IsUnion}
 
 -- what a log says of the group
-abbrev pub log_group : RawLog → Group
+abbrev pub log_group : RawLog → RunGroup
 log_group part = record { members = part.members; f = part.f; strike = part.strike }
 
 -- their entries, in their order

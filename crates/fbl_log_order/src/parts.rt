@@ -6,7 +6,7 @@ ghost use Rattle.fbl_order.specs.Parts.{RefusesParts};
 ghost use Rattle.fbl_log_order.specs.UnitedLogs.{AreOrigins, IsUnitedLog, log_group};
 
 use fbl_logs::{EntryOrigin, RawLog};
-use fbl_order::{Group, Grouped, PartsFault, common_group};
+use fbl_order::{Grouped, PartsFault, RunGroup, common_group};
 use std::alloc::{AllocError, Global};
 
 /// What a log says of the group.
@@ -17,8 +17,8 @@ impl Grouped<RawLog> for LogGroup {
 
     ghost group_of = { log_group };
 
-    fn group(part: &RawLog) -> Group {
-        Group {
+    fn group(part: &RawLog) -> RunGroup {
+        RunGroup {
             members: part.members,
             f: part.f,
             strike: part.strike,
@@ -55,7 +55,7 @@ pub fn united_logs(alloc: Global, parts: &[RawLog]) -> Result<UnitedLog, PartsFa
     ensures origins { IfOk result (λ united. AreOrigins parts.now united.origins.items) }
     ensures refused { IfErr result (RefusesParts log_group parts.now) }
 {
-    let Group { members, f, strike } = common_group::<RawLog, LogGroup>(parts)?;
+    let RunGroup { members, f, strike } = common_group::<RawLog, LogGroup>(parts)?;
     let mut entries = Vec::new(alloc);
     for part in parts {
         entries.extend_from_slice(part.entries.as_slice())?;

@@ -5,46 +5,46 @@ use Rattle.std.specs.FinSet as set
 use Rattle.fbl_dumps.specs.declared.raw_dump.RawDump.{RawDump}
 use Rattle.fbl_dumps.specs.Dumps.{Parts}
 use Rattle.fbl_trace.specs.Configs.{IsFirstBreach}
-use Rattle.fbl_order.specs.declared.parts.Group.{Group}
+use Rattle.fbl_order.specs.declared.parts.RunGroup.{RunGroup}
 use Rattle.fbl_order.specs.declared.parts.PartsFault.{PartsFault}
 use Rattle.fbl_order.specs.declared.parts.PartsFault.TheVariants.{Members, F, Memory}
 
 -- ---- what the parts say of the group
 
 -- the group has the members and the f of the first one
-abbrev pub Agrees : Group → Group → Type 0
+abbrev pub Agrees : RunGroup → RunGroup → Type 0
 Agrees first group = (group.members ≡ first.members) × (group.f ≡ first.f)
 
 -- the part at the place, if there is one, agrees with the first one
-abbrev pub AgreesAt : {P : Type 0} → (P → Group) → List P → ℕ → Type 0
+abbrev pub AgreesAt : {P : Type 0} → (P → RunGroup) → List P → ℕ → Type 0
 AgreesAt {P} group_of parts i =
     (first part : P) → slice_get parts 0 ≡ Some first → slice_get parts i ≡ Some part → Agrees (group_of first) (group_of part)
 
 -- the group has what the parts agree on, and the members that some part strikes
-pub record IsUnion {P : Type 0} (group_of : P → Group) (parts : List P) (group : Group) : Type 0 where
+pub record IsUnion {P : Type 0} (group_of : P → RunGroup) (parts : List P) (group : RunGroup) : Type 0 where
   pub agree : (i : ℕ) (part : P) → slice_get parts i ≡ Some part → Agrees group (group_of part)
   pub strike : (q : ℕ) → set.contains group.strike q ≡ list_any (λ part. set.contains (group_of part).strike q) parts
 
 -- the fault has what the part at the place and the first one do not agree on
-abbrev pub Differs : ℕ → Group → Group → PartsFault → Type 0
+abbrev pub Differs : ℕ → RunGroup → RunGroup → PartsFault → Type 0
 Differs i a b (Members part first other) = (part ≡ i) × (first ≡ a.members) × (other ≡ b.members) × (other ≢ first)
 Differs i a b (F part first other) = (part ≡ i) × (b.members ≡ a.members) × (first ≡ a.f) × (other ≡ b.f) × (other ≢ first)
 Differs i a b Memory = ⊥
 
 -- the fault is of the first part that does not agree with the first one
-abbrev pub IsFirstOther : {P : Type 0} → (P → Group) → List P → PartsFault → Type 0
+abbrev pub IsFirstOther : {P : Type 0} → (P → RunGroup) → List P → PartsFault → Type 0
 IsFirstOther {P} group_of parts fault =
     (i : ℕ) × IsFirstBreach (AgreesAt group_of parts) i
     × ((first : P) × (other : P) × (slice_get parts 0 ≡ Some first) × (slice_get parts i ≡ Some other)
     × Differs i (group_of first) (group_of other) fault)
 
-abbrev pub RefusesParts : {P : Type 0} → (P → Group) → List P → PartsFault → Type 0
+abbrev pub RefusesParts : {P : Type 0} → (P → RunGroup) → List P → PartsFault → Type 0
 RefusesParts group_of parts fault = (fault ≡ Memory) ⊎ IsFirstOther group_of parts fault
 
 -- ---- dumps
 
 -- what a dump says of the group
-abbrev pub dump_group : {A : Type 0} → RawDump A → Group
+abbrev pub dump_group : {A : Type 0} → RawDump A → RunGroup
 dump_group part = record { members = part.members; f = part.f; strike = part.strike }
 
 -- the whole has the group of the parts, and their events and pairs in their order

@@ -37,7 +37,7 @@ impl From<AllocError> for PartsFault {
 
 /// The group of a run: how many members it had, how many of them might be lost at once, and who is taken to be lost.
 #[derive(Clone, Copy)]
-pub struct Group {
+pub struct RunGroup {
     pub members: u8,
     pub f: u8,
     pub strike: MemberSet,
@@ -46,12 +46,12 @@ pub struct Group {
 /// How a part of what is recorded of a run shows its group.
 pub trait Grouped<P> {
     ghost use Rattle.std.specs.Prelude.{◌≡◌};
-    ghost use Rattle.fbl_order.specs.declared.parts.Group.{Group};
+    ghost use Rattle.fbl_order.specs.declared.parts.RunGroup.{RunGroup};
 
-    ghost group_of: { P → Group };
+    ghost group_of: { P → RunGroup };
 
     /// What the part says of the group.
-    fn group(part: &P) -> Group
+    fn group(part: &P) -> RunGroup
         ensures { result ≡ group_of part.now };
 }
 
@@ -63,8 +63,8 @@ impl<A: Allocator> Grouped<RawDump<A>> for DumpGroup {
 
     ghost group_of = { dump_group };
 
-    fn group(part: &RawDump<A>) -> Group {
-        Group {
+    fn group(part: &RawDump<A>) -> RunGroup {
+        RunGroup {
             members: part.members,
             f: part.f,
             strike: part.strike,
@@ -73,7 +73,7 @@ impl<A: Allocator> Grouped<RawDump<A>> for DumpGroup {
 }
 
 /// How the part at the place differs from the first one.
-fn difference(part: usize, first: &Group, other: &Group) -> Option<PartsFault>
+fn difference(part: usize, first: &RunGroup, other: &RunGroup) -> Option<PartsFault>
     ensures { MatchOption result (Agrees first.now other.now) (Differs part first.now other.now) }
 {
     if other.members != first.members {
@@ -109,7 +109,7 @@ fn first_other<P, G: Grouped<P>>(parts: &[P]) -> Option<PartsFault>
 
 /// The group of all parts: they have the same members, and the same number of them might be lost at once. Who is struck in any of them
 /// is struck. Nothing else of the parts is read.
-pub fn common_group<P, G: Grouped<P>>(parts: &[P]) -> Result<Group, PartsFault>
+pub fn common_group<P, G: Grouped<P>>(parts: &[P]) -> Result<RunGroup, PartsFault>
     requires { 0 < length parts.now }
     ensures union { IfOk result (IsUnion G.group_of parts.now) }
     ensures refused { IfErr result (IsFirstOther G.group_of parts.now) }
@@ -121,8 +121,8 @@ pub fn common_group<P, G: Grouped<P>>(parts: &[P]) -> Result<Group, PartsFault>
     for part in parts {
         strike = strike.union(G::group(part).strike);
     }
-    let Group { members, f, .. } = G::group(&parts[0]);
-    Ok(Group { members, f, strike })
+    let RunGroup { members, f, .. } = G::group(&parts[0]);
+    Ok(RunGroup { members, f, strike })
 }
 
 /// The parts as one: their events one part's behind another's, who held what in any of them, and who is struck in any of them.
@@ -132,7 +132,7 @@ pub fn united<A: Allocator + Copy>(alloc: A, parts: &[RawDump<A>]) -> Result<Raw
     ensures united { IfOk result (λ whole. IsUnited parts.now (parts_of whole)) }
     ensures refused { IfErr result (RefusesParts dump_group parts.now) }
 {
-    let Group { members, f, strike } = common_group::<RawDump<A>, DumpGroup>(parts)?;
+    let RunGroup { members, f, strike } = common_group::<RawDump<A>, DumpGroup>(parts)?;
     let mut events = Vec::new(alloc);
     let mut held = Vec::new(alloc);
     for part in parts {
