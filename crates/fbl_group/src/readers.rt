@@ -8,6 +8,7 @@ ghost use Rattle.fbl_law.specs.Groups.{channel as channel_of, member_checkpoint,
 ghost use Rattle.std.specs.FinSet as set;
 ghost use Rattle.fbl_law.specs.StepLaws.{weight_held, weight_flying};
 ghost use Rattle.fbl_law.specs.Promises.{SurvivorsHold, RecordsFirst, RecordsCauses};
+ghost use Rattle.fbl_law.specs.CrashFree.{LooksCrashFree};
 ghost use Rattle.fbl_group.specs.Readers.{is_quiet as is_quiet_now};
 ghost use Rattle.fbl_group.specs.Theorem.{HasNoOrphan, IsRecoverable};
 
@@ -96,6 +97,15 @@ impl<B: Behaviour, A: Allocator + Copy> Group<B, A> {
     pub fn recoverable(&self)
         ensures sound { IsSound B.next self.now }
         ensures theorem { IsRecoverable B.next self.now }
+    {
+        self.promises();
+    }
+
+    /// Crashes are masked, in every group between two calls: there is a run by deliveries alone, from a start of the same
+    /// configuration, to a group with the same trace, in which each member that is up has the same state, the same counts and the
+    /// same log, and each channel between two of these has the same messages. Does nothing but promise it.
+    pub fn crash_free(&self)
+        ensures { LooksCrashFree B.next self.now }
     {
         self.promises();
     }

@@ -1,12 +1,15 @@
 -- What is left of a lawful trace is lawful, with its notes.
 use Rattle.fbl_law.proofs.Common.{◌≡◌, ℕ, zero, suc, ◌<◌, ◌≤◌, nat_lt, inl, inr, ◌⊎◌, Bool, true, false, cond, List, [], ◌∷◌, ◌++◌, length, take, map, Option, Some, slice_get, refl, sym, ap, ◌∙◌}
 use Rattle.fbl_law.proofs.Common.{arith, count_by, length-take, filter, filter_map, fold, nat_tests, filter-append, sum_by-cons, length-filter_map, length-left, Start, Event, Mark, mark_of, member_of}
-use Rattle.fbl_law.proofs.Common.{send_of, Has, Leads, Precedes, itself, step, is_receipt_of, receipts_of, sent_on, taken_on, in_flight, MayFollow, WellFormed, At-front, At-below, WellFormed-keeps}
+use Rattle.fbl_law.proofs.Common.{send_of, Has, Leads, Precedes, itself, step, is_receipt_of, sent_on, taken_on, in_flight, MayFollow, WellFormed, At-front, At-below, WellFormed-keeps}
 use Rattle.fbl_law.proofs.Common.{WellFormed-none, WellFormed-push, is_sent, in_flight-sent, last_taken, Next, note_of, Action, took, sent, action_of, actions_of, notes_of, responses, start_of}
 use Rattle.fbl_law.proofs.Common.{starts_of, Lawful, At-filter, receipts-noted, eqb-self, append-nil, filter_map-agree, Earlier-front, cases_lt, drop, drop_all, drop_next, filter_map-append}
 use Rattle.fbl_law.proofs.Common.{slice_get_within, subst, take_all, None, At-seam, take-append-drop, At}
 use Rattle.fbl_trace.specs.declared.trace.Mark.TheVariants as mark
 use Rattle.fbl_trace.specs.declared.trace.Event.TheVariants.{Send, Receipt}
+use Rattle.std.specs.Prelude.{⊤}
+use Rattle.fbl_trace.specs.Fold.{InTurns}
+use Rattle.fbl_law.proofs.Common.{◌+◌, cases_Bool, zero-add}
 use Rattle.fbl_law.proofs.Channels.{in_flight-beyond}
 use Rattle.fbl_law.proofs.Lists.{filter-At, some-at}
 use Rattle.fbl_law.proofs.ReplayedRecords.{noted-sent, sent-noted, mark-at}
@@ -53,7 +56,7 @@ module _ {N : Type 0} where
   no_receipt (suc k) (Send q' s' p' x ∷ v) whole zero p r q s below here = cc
   no_receipt (suc k) (Send q' s' p' x ∷ v) whole (suc i) p r q s below here = no_receipt k v (omega arith) i p r q s (omega arith) here
 
-  abbrev IsNote : Action N → Type 0
+  abbrev pub IsNote : Action N → Type 0
   IsNote (took note) = Unit {0}
   IsNote (sent s) = ⊥
 
@@ -106,8 +109,55 @@ take-kept keep zero xs all = refl
 take-kept keep (suc k) [] all = refl
 take-kept {X} keep (suc k) (x ∷ xs) all = rw (all 0 x (omega arith) refl) (ap (λ (ys : List X). x ∷ ys) (take-kept keep k xs (λ i y below. all (suc i) y (omega arith))))
 
+-- and what comes behind it
+drop-kept : {X : Type 0} (keep : X → Bool) (k : ℕ) (xs : List X) → ((i : ℕ) (x : X) → i < k → slice_get xs i ≡ Some x → keep x ≡ true) → drop k (filter keep xs) ≡ filter keep (drop k xs)
+drop-kept keep zero xs all = refl
+drop-kept keep (suc k) [] all = refl
+drop-kept keep (suc k) (x ∷ xs) all = rw (all 0 x (omega arith) refl) (drop-kept keep k xs (λ i y below. all (suc i) y (omega arith)))
+
+At-drop : {X : Type 0} (xs : List X) (k i : ℕ) (x : X) → slice_get (drop k xs) i ≡ Some x → slice_get xs (k + i) ≡ Some x
+At-drop xs zero i x here = rw zero-add here
+At-drop [] (suc k) i x here = absurd cc
+At-drop (y ∷ xs) (suc k) i x here = (let e : suc k + i ≡ suc (k + i) = omega arith in rw e (At-drop xs k i x here))
+
+-- turns of which each is left whole, or its first events, are turns
+module _ {N : Type 0} (keep : Event N → Bool) where
+  -- a send that is left comes after an event that is left
+  abbrev IsLeftAfter : Option ℕ → Option ℕ → List (Event N) → Type 0
+  IsLeftAfter last left [] = ⊤
+  IsLeftAfter last left (Send q k to x ∷ t) = keep (Send q k to x) ≡ true → last ≡ Some q → left ≡ Some q
+  IsLeftAfter last left (Receipt to r q k ∷ t) = ⊤
+
+  abbrev KeepsFront : List (Event N) → Type 0
+  KeepsFront t = (i q k to : ℕ) (x : N) (e : Event N) → slice_get t (suc i) ≡ Some (Send q k to x) → slice_get t i ≡ Some e → member_of (mark_of e) ≡ q → keep (Send q k to x) ≡ true → keep e ≡ true
+
+  left_next : (e : Event N) (left : Option ℕ) (t : List (Event N)) → KeepsFront (e ∷ t) → keep e ≡ false → IsLeftAfter (Some (member_of (mark_of e))) left t
+  left_next e left [] fronts gone = tt
+  left_next e left (Send q k to x ∷ t) fronts gone = λ kept own. (let same : member_of (mark_of e) ≡ q = cc in let too = fronts 0 q k to x e refl refl same kept in absurd cc)
+  left_next e left (Receipt to r q k ∷ t) fronts gone = tt
+
+  same_next : (last : Option ℕ) (t : List (Event N)) → IsLeftAfter last last t
+  same_next last [] = tt
+  same_next last (Send q k to x ∷ t) = λ kept own. own
+  same_next last (Receipt to r q k ∷ t) = tt
+
+  turns-left : (last left : Option ℕ) (t : List (Event N)) → KeepsFront t → IsLeftAfter last left t → InTurns last t → InTurns left (filter keep t)
+  turns-left last left [] fronts after turns = tt
+  turns-left last left (Send q k to x ∷ t) fronts after turns =
+      let later : KeepsFront t = λ i. fronts (suc i) in
+      elim (cases_Bool (keep (Send q k to x))) [
+        | inl is ↦ rw is (after is turns.0, turns-left (Some q) (Some q) t later (same_next (Some q) t) turns.1)
+        | inr is ↦ rw is (turns-left (Some q) left t later (left_next (Send q k to x) left t fronts is) turns.1)
+      ]
+  turns-left last left (Receipt to r q k ∷ t) fronts after turns =
+      let later : KeepsFront t = λ i. fronts (suc i) in
+      elim (cases_Bool (keep (Receipt to r q k))) [
+        | inl is ↦ rw is (turns-left (Some to) (Some to) t later (same_next (Some to) t) turns)
+        | inr is ↦ rw is (turns-left (Some to) left t later (left_next (Receipt to r q k) left t fronts is) turns)
+      ]
+
 -- a front of a run's actions that ends where a note comes next, or at their end, has the actions of a run
-front_responds : {S N : Type 0} → (next : Next S N) (p n : ℕ) (state : S) (sends : List (ℕ × N)) (notes : List N) (xs rest : List (Action N))
+pub front_responds : {S N : Type 0} → (next : Next S N) (p n : ℕ) (state : S) (sends : List (ℕ × N)) (notes : List N) (xs rest : List (Action N))
     → ((y : Action N) (ys : List (Action N)) → rest ≡ y ∷ ys → IsNote y) → xs ++ rest ≡ map sent sends ++ responses next p n state notes
     → xs ≡ map sent sends ++ responses next p n state (notes_of xs)
 front_responds next p n state [] notes [] rest ends is = refl
@@ -178,8 +228,16 @@ module _ {S N : Type 0} (next : Next S N) (n : ℕ) (starts : List (Start N)) (k
         let split = sym (filter_map-append (action_of t p) (take (stop p) t) (drop (stop p) t)) ∙ ap (filter_map (action_of t p)) (take-append-drop (stop p) t) in
         rw (same_actions p, first_actions p)
         (front_responds next p n (next.initial p n) (starts_of p starts) (notes_of (actions_of t p)) _ _ (then_note p) (split ∙ lawful.responds p));
+    turns = rw (drop-kept keeps (length starts) t starts_stay) (turns-left keeps None None (drop (length starts) t) fronts (same_next keeps None (drop (length starts) t)) lawful.turns);
   }
     where
+      fronts : KeepsFront keeps (drop (length starts) t)
+      fronts i q k to x e here before own kept =
+          let at : slice_get t (length starts + suc i) ≡ Some (Send q k to x) = At-drop t (length starts) (suc i) (Send q k to x) here in
+          let at_before : slice_get t (length starts + i) ≡ Some e = At-drop t (length starts) i e before in
+          let stays : nat_lt (length starts + suc i) (stop q) ≡ true = sym (tells (length starts + suc i) (Send q k to x) at) ∙ kept in
+          tells (length starts + i) e at_before ∙ rw own (grind (arith, nat_tests, stays))
+
       starts_stay : (i : ℕ) (e : Event N) → i < length starts → slice_get t i ≡ Some e → keeps e ≡ true
       starts_stay i e below here =
           let m = member_of (mark_of e) in

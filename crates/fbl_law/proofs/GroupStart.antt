@@ -7,6 +7,7 @@ use Rattle.fbl_law.proofs.Common.{Settings, IsConfig, StartAllowed, notes_of-sen
 use Rattle.fbl_law.proofs.Common.{IsSoundKnowledge, IsThere, NamesCauses, Store, entries, in_checkpoint, in_message, in_table}
 use Rattle.fbl_trace.specs.declared.trace.Event.TheVariants as event
 use Rattle.std.proofs.Common.{append-nil}
+use Rattle.fbl_law.proofs.Common.{drop_all}
 use Rattle.fbl_law.proofs.Channels.{fifo}
 use Rattle.fbl_law.proofs.Lists.{Contains-from_filter, Contains-place, Contains-none}
 use Rattle.fbl_law.proofs.Safe.{never_both, up_if_none, nobody_down_empty}
@@ -84,6 +85,7 @@ module _ {S N : Type 0} (next : Next S N) (config : Settings N) (r : GroupRecord
         ap (filter_map start_of) (take_all (length config.starts) events (omega (arith, length-starts [] config.starts)))
         ∙ starts_given start_of (λ s. Some s) (λ s k. refl) [] config.starts ∙ filter_map-all config.starts;
     responds = λ m. rw (ap notes_of (acted m) ∙ notes_of-sent (starts_of m config.starts), append-nil) (acted m);
+    turns = rw (drop_all (length config.starts) events (omega (arith, length-starts [] config.starts))) tt;
   }
 
   unreceived : receipts (map mark_of events) ≡ []

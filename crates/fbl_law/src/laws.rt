@@ -4,6 +4,7 @@
 ghost use Rattle.std.specs.Prelude.{◌≡◌, ℕ};
 ghost use Rattle.fbl_law.specs.Promises.{DumpHasNoOrphan, DumpObeysRules, GainsHolders, HoldsEachReceipt, LeavesRecorded, RecordsCauses, RecordsFirst};
 ghost use Rattle.fbl_law.specs.GroupLaws.{CheckpointIsRecorded, CutIsClosed, GainsTheDown, GroupCheckpointKeeps, GroupDeliveryKeeps, GroupRecoveryKeeps, GroupStartIsSound, GroupStrikeKeeps, NoSurvivorIsOrphan, OfRecovery, RebuiltIsRecovered, RecordedTest, ReplayBegins, ReplayEnds, ReplayIsRight, RunIsSound, SoundSurvivorsHold, StaysIsRecorded, UndoesLost};
+ghost use Rattle.fbl_law.specs.CrashFree.{CrashesAreMasked, CrashFreeIsRun, KeepsPasts};
 ghost use Rattle.fbl_law.specs.Groups.{knowledge, OfSound};
 ghost use Rattle.fbl_law.specs.Knowledge.{IsAlwaysHeld, IsOrphan};
 ghost use Rattle.fbl_law.specs.GroupSteps.{recovered_trace, IsEventCut, Stays};
@@ -78,4 +79,17 @@ pub fn replay_law<S, N>()
     ensures right { ReplayIsRight S N }
     ensures ends { ReplayEnds S N }
     ensures recovered { RebuiltIsRecovered S N }
+{}
+
+/// Crashes are masked. Whoever crashed, whatever was recovered and whoever is down, there is a run by deliveries alone, from a
+/// start of the same configuration, to a group with the same trace, in which each member that is up has the same state, the same
+/// counts and the same log, and each channel between two of these the same messages. The two differ only in what tables and
+/// messages know of determinants, in checkpoints and in counters.
+///
+/// Such a run is one of those that keep a group sound. And a recovery leaves each member's first events, and all those of a
+/// survivor.
+pub fn crash_free_law<S, N>()
+    ensures masked { CrashesAreMasked S N }
+    ensures run { CrashFreeIsRun S N }
+    ensures pasts { OfRecovery S N KeepsPasts }
 {}

@@ -2,9 +2,11 @@
 use Rattle.fbl_trace.proofs.Common.{refl, ◌≡◌, ℕ, List, [], ◌∷◌, ◌++◌, map, fold, Start, Next, responses, took, sent, append_assoc, append-nil, Progress, advanced, begun, after_notes, ◌≢◌, zero, suc}
 use Rattle.fbl_trace.proofs.Common.{◌+◌, ◌<◌, ◌≤◌, ◌==◌, ◌&&◌, inl, inr, true, false, cond, length, take, Some, slice_get, sym, ap, ◌∙◌, arith, filter_map, cases_eq, nat_tests, take-append-le}
 use Rattle.fbl_trace.proofs.Common.{filter_map-append, Mark, At, sends_of, is_send_of, MayFollow, WellFormed, length-append, length-take, All, map-append, length-map, sum_by-append, All-head, All-tail}
-use Rattle.fbl_trace.proofs.Common.{slice_get-map, Event, mark_of, Action, action_of, actions_of, notes_of, note_of, start_of, starts_of, step_events}
+use Rattle.fbl_trace.proofs.Common.{drop, Option, None, slice_get-map, Event, mark_of, Action, action_of, actions_of, notes_of, note_of, start_of, starts_of, step_events}
 use Rattle.fbl_trace.specs.declared.trace.Mark.TheVariants as mark
 use Rattle.fbl_trace.specs.declared.trace.Event.TheVariants.{Send, Receipt}
+use Rattle.std.proofs.lemmas.List.{drop-append-le}
+use Rattle.fbl_trace.specs.Fold.{InTurns}
 use Rattle.fbl_trace.specs.Laws.{LawfulDeliveryLaw}
 use Rattle.fbl_trace.proofs.Gets.{length-filter_map, filter_map-agree}
 use Rattle.fbl_trace.proofs.RulesLaws.{WellFormed-push, sent-before, eqb-self}
@@ -41,7 +43,7 @@ module _ {N : Type 0} where
   notes_of-sent (s ∷ sends) = notes_of-sent sends
 
   -- a step's sends are its member's
-  step-actions : (t : List (Event N)) (p m before : ℕ) (sends : List (ℕ × N)) → filter_map (action_of t m) (step_events p before sends) ≡ cond (p == m) (map sent sends) []
+  pub step-actions : (t : List (Event N)) (p m before : ℕ) (sends : List (ℕ × N)) → filter_map (action_of t m) (step_events p before sends) ≡ cond (p == m) (map sent sends) []
   step-actions t p m before [] = grind arith
   step-actions t p m before (s ∷ sends) = (let rest = step-actions t p m (before + 1) sends in grind (arith, rest))
 
@@ -58,6 +60,16 @@ module _ {N : Type 0} where
       (rw append_assoc at (sends_obey n p (before + 1) (u ++ e ∷ []) sends (WellFormed-push n u e obeys may) member more
       (All-tail (λ (x : ℕ × N). (x.0 < n) × (x.0 ≢ p)) s sends allowed) (omega (arith, room, length-append u (e ∷ [])))))
 
+  -- a receipt with its sends is a turn
+  turns_sent : (p before : ℕ) (sends : List (ℕ × N)) → InTurns (Some p) (step_events p before sends)
+  turns_sent p before [] = tt
+  turns_sent p before (s ∷ sends) = (refl, turns_sent p (before + 1) sends)
+
+  turns_more : (last : Option ℕ) (t : List (Event N)) (p rsn q s before : ℕ) (sends : List (ℕ × N)) → InTurns last t → InTurns last (t ++ Receipt p rsn q s ∷ step_events p before sends)
+  turns_more last [] p rsn q s before sends turns = turns_sent p before sends
+  turns_more last (Send q' k to x ∷ t) p rsn q s before sends turns = (turns.0, turns_more (Some q') t p rsn q s before sends turns.1)
+  turns_more last (Receipt to r q' k ∷ t) p rsn q s before sends turns = turns_more (Some to) t p rsn q s before sends turns
+
   -- a message that was sent has a note
   pub sent-note : (t : List (Event N)) (i q k p : ℕ) → At (map mark_of t) i (mark.Send q k p) → (note : N) × (note_of t q k ≡ Some note)
   sent-note [] i q k p h = cc
@@ -73,7 +85,7 @@ module _ {N : Type 0} where
       (let sent' = sent-before n (map mark_of t) obeys i to rsn from ssn (slice_get-map mark_of t i ∙ (rw at)) in sent-note t sent'.0 from ssn to sent'.2)
 
   -- what a member did stays the same as the trace grows
-  actions-append : (n : ℕ) (t new : List (Event N)) (m : ℕ) → WellFormed n (map mark_of t) → actions_of (t ++ new) m ≡ actions_of t m ++ filter_map (action_of (t ++ new) m) new
+  pub actions-append : (n : ℕ) (t new : List (Event N)) (m : ℕ) → WellFormed n (map mark_of t) → actions_of (t ++ new) m ≡ actions_of t m ++ filter_map (action_of (t ++ new) m) new
   actions-append n t new m obeys =
       filter_map-append (action_of (t ++ new) m) t new
       ∙ ap (λ xs. xs ++ filter_map (action_of (t ++ new) m) new) (filter_map-agree (action_of (t ++ new) m) (action_of t m) t agree)
@@ -113,4 +125,5 @@ module _ {S N : Type 0} where
               let kept : actions_of (t ++ new) m ≡ actions_of t m = grown m ∙ (rw (step-actions (t ++ new) p m before sends, no) (append-nil (actions_of t m))) in
               rw kept (lawful.responds m)
         ];
+        turns = rw (drop-append-le (length starts) t new begun) (turns_more None (drop (length starts) t) p rsn q s before sends lawful.turns);
       }

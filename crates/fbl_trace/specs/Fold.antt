@@ -1,6 +1,6 @@
 -- What a member does with the messages that it receives, and lawful traces. That a member's state is a function of the
 -- messages that it received, in their order, is piecewise determinism (Elnozahy, Alvisi, Wang and Johnson 2002).
-use Rattle.std.specs.Prelude.{◌≡◌, ℕ, ◌+◌, ◌==◌, ◌&&◌, List, [], ◌∷◌, ◌++◌, length, take, map, Option, Some, None, if◌then◌else◌}
+use Rattle.std.specs.Prelude.{◌≡◌, ℕ, ◌+◌, ◌==◌, ◌&&◌, List, [], ◌∷◌, ◌++◌, length, take, drop, map, Option, Some, None, if◌then◌else◌, ⊤}
 use Rattle.std.specs.List.{filter_map, fold}
 use Rattle.std.specs.Option.{option_map}
 use Rattle.fbl_trace.specs.declared.trace.Start.{Start}
@@ -96,9 +96,17 @@ abbrev pub start_of : {N : Type 0} → Event N → Option (Start N)
 start_of (Send from ssn to note) = Some (record { from = from; to = to; note = note })
 start_of (Receipt to rsn from ssn) = None
 
--- a run in which nobody crashes: it obeys the rules, begins with the starts in list order, and each member sends its
--- starts and then, after each receipt, what the behaviour answers
+-- each send comes right after an event of its sender, where `last` is the member of the event before these ones, if one counts
+abbrev pub InTurns : {N : Type 0} → Option ℕ → List (Event N) → Type 0
+InTurns last [] = ⊤
+InTurns last (Send from ssn to note ∷ rest) = (last ≡ Some from) × InTurns (Some from) rest
+InTurns last (Receipt to rsn from ssn ∷ rest) = InTurns (Some to) rest
+
+-- a run in which nobody crashes: it obeys the rules, begins with the starts in list order, each member sends its starts and
+-- then, after each receipt, what the behaviour answers, and it sends that at once: beyond the starts each send comes right after
+-- the receipt that it answers, or after another send that answers it
 pub record Lawful {S N : Type 0} (next : Next S N) (n : ℕ) (starts : List (Start N)) (trace : List (Event N)) : Type 0 where
   pub well_formed : WellFormed n (map mark_of trace)
   pub starts_first : filter_map start_of (take (length starts) trace) ≡ starts
   pub responds : (member : ℕ) → actions_of trace member ≡ map sent (starts_of member starts) ++ responses next member n (next.initial member n) (notes_of (actions_of trace member))
+  pub turns : InTurns None (drop (length starts) trace)

@@ -1,17 +1,12 @@
 -- What a drain keeps of a group's past.
-use Rattle.std.specs.Prelude.{◌≡◌, ℕ, ◌+◌, ◌==◌, false, List, length, sum, take}
+use Rattle.std.specs.Prelude.{◌≡◌, ℕ, ◌+◌, false, List, length, sum, take}
 use Rattle.fbl_trace.specs.Fold.{Next}
 use Rattle.fbl_turns.specs.Runs.{Counts, Reached}
-use Rattle.std.specs.List.{filter}
 use Rattle.fbl_trace.specs.declared.trace.Event.{Event}
-use Rattle.fbl_trace.specs.Events.{mark_of, member_of}
+pub use Rattle.fbl_law.specs.CrashFree.{events_of}
 use Rattle.fbl_law.specs.Groups.{GroupRecord}
 use Rattle.fbl_trace.specs.declared.strike.Strike.{Strike}
 use Rattle.fbl_turns.specs.Plans.{is_named}
-
--- the events of a member, in order
-abbrev pub events_of : {N : Type 0} → ℕ → List (Event N) → List (Event N)
-events_of member trace = filter (λ e. member_of (mark_of e) == member) trace
 
 -- the events begin with these ones
 abbrev pub BeginsWith : {N : Type 0} → List (Event N) → List (Event N) → Type 0
