@@ -127,7 +127,7 @@ module _ {N : Type 0} where
       rw (first, rest) refl
 
   -- channels of one shape with the same messages
-  same_channels : (n : ℕ) (xs ys : List (List (List (Message N)))) → HasChannels n xs → HasChannels n ys → ((q p : ℕ) → q < n → p < n → channel_in xs q p ≡ channel_in ys q p) → xs ≡ ys
+  pub same_channels : (n : ℕ) (xs ys : List (List (List (Message N)))) → HasChannels n xs → HasChannels n ys → ((q p : ℕ) → q < n → p < n → channel_in xs q p ≡ channel_in ys q p) → xs ≡ ys
   same_channels n xs ys of_xs of_ys same = ext_get_or [] xs ys (of_xs.senders ∙ sym of_ys.senders) (λ q below.
       let of_q : q < n = omega (arith, below, of_xs.senders) in
       ext_get_or [] _ _ (of_xs.receivers q of_q ∙ sym (of_ys.receivers q of_q)) (λ p below_p. same q p of_q (omega (arith, below_p, of_xs.receivers q of_q))))

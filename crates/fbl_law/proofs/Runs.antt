@@ -1,14 +1,17 @@
 -- What a run keeps, and strikes one after the other.
 use Rattle.fbl_law.proofs.Common.{◌≡◌, ℕ, inl, arith, ap, ◌∙◌, Determinant, Next, Members, SendsWell, GroupRecord, Knowledge, knowledge, IsSound}
 use Rattle.fbl_law.proofs.Common.{IsUp, IsStable, RunFrom, RunIsSound, checkpoints, delivers, no_step, recovers, strikes, some_member, IsRecorded, member}
-use Rattle.fbl_law.specs.GroupLaws.{HeldByMoreStays, StrikesJoin}
+use Rattle.fbl_law.specs.GroupLaws.{HeldByMoreStays, StrikeIsOne, StrikesJoin}
 use Rattle.std.specs.FinSet as set
 use Rattle.fbl_law.proofs.GroupStart.{group_start_is_sound}
 use Rattle.fbl_law.proofs.GroupDelivery.{group_delivery_keeps, delivery_keeps_stable}
 use Rattle.fbl_law.proofs.GroupRecovery.{group_recovery_keeps}
 use Rattle.fbl_law.proofs.Keeping.{group_strike_keeps, group_checkpoint_keeps, strike_keeps_stable, checkpoint_keeps_stable, was_up}
 use Rattle.fbl_law.proofs.Recovery.{recovery_keeps_stable}
-use Rattle.fbl_law.proofs.Safe.{Has-recorded, Names-held, up_if_named}
+use Rattle.fbl_law.proofs.Safe.{down_or_both_up, down_or_up, Has-recorded, Names-held, up_if_named}
+use Rattle.fbl_law.proofs.OneRecovery.{same_channels}
+use Rattle.std.proofs.lemmas.List.{ext_get_or}
+use Rattle.fbl_law.proofs.Common.{blank, channel, inr, IsStrike, sym}
 use Rattle.fbl_trace.proofs.Common.{nat_cmp_total, same_from_contains}
 
 module _ {S N : Type 0} where
@@ -80,3 +83,45 @@ strikes_join S N next old between new some others first second = record {
 
     before : (m : ℕ) → IsUp (knowledge new) m → IsUp (knowledge between) m
     before m up = was_up between.down others m (rw second.down at up)
+
+-- two strikes of the same members
+module _ {S N : Type 0} (next : Next S N) (old new other : GroupRecord S N) (struck : Members) (one : IsStrike next old new struck) (another : IsStrike next old other struck) where
+  down : other.down ≡ new.down
+  down = another.down ∙ sym one.down
+
+  also : (m : ℕ) → set.contains other.down m ≡ set.contains new.down m
+  also m = ap (λ (s : Members). set.contains s m) down
+
+  outside : other.outside ≡ new.outside
+  outside = another.outside ∙ sym one.outside
+
+  same_member : (m : ℕ) → member other m ≡ member new m
+  same_member m = elim (down_or_up new.down m) [
+    | inr up ↦ another.survivors m (also m ∙ up) ∙ sym (one.survivors m up)
+    | inl is_down ↦ another.blanks m (also m ∙ is_down) ∙ sym (one.blanks m is_down)
+  ]
+
+  same_members : other.members ≡ new.members
+  same_members = ext_get_or (blank new.outside) other.members new.members (another.size ∙ sym one.size) (λ m below. rw outside at (same_member m))
+
+  same_channel : (q p : ℕ) → channel other q p ≡ channel new q p
+  same_channel q p = elim (down_or_both_up new.down q p) [
+    | inr up ↦ another.channels q p (also q ∙ up.0) (also p ∙ up.1) ∙ sym (one.channels q p up.0 up.1)
+    | inl is_down ↦ another.emptied q p (elim is_down [ inl h ↦ inl (also q ∙ h) | inr h ↦ inr (also p ∙ h) ]) ∙ sym (one.emptied q p is_down)
+  ]
+
+  same_struck : other ≡ new
+  same_struck i = record {
+    outside = outside i;
+    config = (another.config ∙ sym one.config) i;
+    members = same_members i;
+    checkpoints = (another.checkpoints ∙ sym one.checkpoints) i;
+    channels = same_channels old.config.members other.channels new.channels another.shape one.shape (λ q p of_q of_p. same_channel q p) i;
+    trace = (another.trace ∙ sym one.trace) i;
+    down = down i;
+    receipts_ever = (another.receipts_ever ∙ sym one.receipts_ever) i;
+    undone_ever = (another.undone_ever ∙ sym one.undone_ever) i;
+  }
+
+pub strike_is_one : (S N : Type 0) → StrikeIsOne S N
+strike_is_one S N next old new other struck = same_struck next old new other struck

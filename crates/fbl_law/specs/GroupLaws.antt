@@ -78,6 +78,10 @@ StrikesJoin S N =
     (next : Next S N) (old between new : GroupRecord S N) (some others : Members)
     → IsStrike next old between some → IsStrike next between new others → IsStrike next old new (set.union some others)
 
+-- and what a strike leaves follows from the group and the members struck
+abbrev pub StrikeIsOne : Type 0 → Type 0 → Type 0
+StrikeIsOne S N = (next : Next S N) (old new other : GroupRecord S N) (struck : Members) → IsStrike next old new struck → IsStrike next old other struck → other ≡ new
+
 -- on each channel the messages received are the first of those sent, each once and in the order in which they were sent: the
 -- numbers of those sent are the numbers of those received and then of those in flight, which the channel has between members
 -- that are up

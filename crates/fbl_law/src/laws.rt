@@ -3,7 +3,7 @@
 
 ghost use Rattle.std.specs.Prelude.{◌≡◌, ℕ};
 ghost use Rattle.fbl_law.specs.Promises.{DumpHasNoOrphan, DumpObeysRules, GainsHolders, HoldsEachReceipt, LeavesRecorded, RecordsCauses, RecordsFirst};
-ghost use Rattle.fbl_law.specs.GroupLaws.{CheckpointIsRecorded, CutIsClosed, GainsTheDown, GroupCheckpointKeeps, GroupDeliveryKeeps, GroupRecoveryKeeps, GroupStartIsSound, GroupStrikeKeeps, HeldByMoreStays, IsFirstInFirstOut, NoSurvivorIsOrphan, OfRecovery, RebuiltIsRecovered, RecordedTest, RecoveryExists, RecoveryIsOne, ReplayBegins, ReplayEnds, ReplayIsRight, RunIsSound, SoundSurvivorsHold, StaysIsRecorded, StrikesJoin, UndoesLost};
+ghost use Rattle.fbl_law.specs.GroupLaws.{CheckpointIsRecorded, CutIsClosed, GainsTheDown, GroupCheckpointKeeps, GroupDeliveryKeeps, GroupRecoveryKeeps, GroupStartIsSound, GroupStrikeKeeps, HeldByMoreStays, IsFirstInFirstOut, NoSurvivorIsOrphan, OfRecovery, RebuiltIsRecovered, RecordedTest, RecoveryExists, RecoveryIsOne, ReplayBegins, ReplayEnds, ReplayIsRight, RunIsSound, SoundSurvivorsHold, StaysIsRecorded, StrikeIsOne, StrikesJoin, UndoesLost};
 ghost use Rattle.fbl_law.specs.CrashFree.{CrashesAreMasked, CrashFreeIsRun, KeepsPasts};
 ghost use Rattle.fbl_law.specs.Groups.{knowledge, OfSound};
 ghost use Rattle.fbl_law.specs.Knowledge.{IsAlwaysHeld, IsOrphan};
@@ -31,10 +31,11 @@ pub fn channel_law<S, N>()
     ensures { OfSound S N (λ r. (q p : ℕ) → IsFirstInFirstOut r q p) }
 {}
 
-/// A strike of some members and then of others is a strike of both. And whatever is struck, recovered and delivered, a receipt
+/// A strike of some members and then of others is a strike of both, and leaves what one strike of both leaves. And whatever is struck, recovered and delivered, a receipt
 /// that more than f members hold is never undone: at each moment one of them is up and holds it.
 pub fn strike_law<S, N>()
     ensures joined { StrikesJoin S N }
+    ensures only { StrikeIsOne S N }
     ensures held { HeldByMoreStays S N }
 {}
 
