@@ -19,7 +19,7 @@ pub use Rattle.fbl_trace.specs.declared.trace.Event.TheVariants.{Receipt}
 pub use Rattle.fbl_trace.specs.declared.trace.Mark.{Mark}
 pub use Rattle.fbl_trace.specs.declared.trace.Mark.TheVariants.{Send}
 pub use Rattle.fbl_trace.specs.declared.trace.Start.{Start}
-pub use Rattle.fbl_law.proofs.Lists.{sent_again-short, sum_below-agree, sum_below-none}
+pub use Rattle.fbl_law.proofs.Lists.{sent_again-short, some-at, sum_below-agree, sum_below-none}
 pub use Rattle.fbl_law.proofs.Channels.{flight_at, flight_ends}
 pub use Rattle.fbl_law.proofs.Keeping.{checkpoint_is_recorded, group_checkpoint_keeps, group_strike_keeps, recorded_test}
 pub use Rattle.fbl_law.proofs.GroupDelivery.{group_delivery_keeps, length-step_events}
@@ -27,6 +27,9 @@ pub use Rattle.fbl_law.proofs.Promises.{front_is_later, new_not_carried, new_not
 pub use Rattle.fbl_law.proofs.GroupRecovery.{cut-undone, group_recovery_gains_holders, group_recovery_keeps, recovered_trace-cut, recovery_leaves_recorded}
 pub use Rattle.fbl_law.proofs.GroupStart.{group_start_is_sound}
 pub use Rattle.fbl_law.proofs.ReplayLaws.{rebuilt_is_recovered, recovered_trace-rebuilt, replay_begins, replay_is_right, replayed_in-all, replayed_in-short, replayed_in-step, replaying-next, count_in-same, replaying-room, replaying-tables, with-table, working-log}
+pub use Rattle.fbl_law.proofs.OneRecovery.{recovery_exists, recovery_is_one}
+pub use Rattle.fbl_law.proofs.Runs.{strikes_join}
+pub use Rattle.fbl_law.proofs.Common.{cases_eq, contains-union, if◌then◌else◌, len-within}
 pub use Rattle.fbl_law.proofs.Safe.{IsRecorded-before, down_or_both_up, down_or_up, no_orphan, up_if_none}
 pub use Rattle.fbl_law.proofs.WeightKept.{flow, into, out, weight_in, weight_on}
 pub use Rattle.fbl_law.specs.Groups.{GroupRecord, HasChannels, channel, channel_in, is_recorded, knowledge, marks, member, member_checkpoint, messages_in, messages_in_flight, receipts, sum_below, IsSound, received_notes}

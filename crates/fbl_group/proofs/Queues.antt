@@ -1,5 +1,12 @@
 -- Channels as queues: what is left of them by a start and a delivery.
 pub use Rattle.fbl_group.proofs.Common.{◌≡◌, ℕ, zero, suc, ◌+◌, ◌<◌, ◌≤◌, Bool, List, [], ◌∷◌, ◌++◌, length, map, drop, replicate, refl, sym, ap, ◌∙◌, arith, Some, slice_get, get_or, append_assoc, All, map-append, get_or_past, filter-append, Entry, Message, messages_from, between, is_on, taken_off, HasChannels, channel_in, room_in, each, with_sent, taken_and_sent, send_of_message, append-nil, get_or-replicate, length-replicate, step_events, first_message, with_at, Made, made-more, filter_map-append, Event, message_of_send, filter_map, Start, Settings, IsConfig, StartAllowed, slice_get-get_or, at_drop_more, start_events, drop_of_length-le, IsOnce-none, IsSound, group_delivery_keeps, in-channels, reads, put-in, written-shape}
+use Rattle.fbl_group.proofs.Common.{◌⊎◌, inl, inr, true, false, Option, None, channel, sum_below, nat_tests, len-empty, take_refusal, deliver_refusal, is_full, step_of, Next, GroupRecord, IsDeliverRefusal, if◌then◌else◌, cases_eq, some-at}
+use Rattle.std.specs.FinSet as set
+use Rattle.fbl_answers.specs.declared.refusals.DeliverRefusal.{DeliverRefusal}
+use Rattle.fbl_answers.specs.declared.refusals.DeliverRefusal.TheVariants.{BadMember, Down, Empty, Full, Memory}
+use Rattle.fbl_answers.specs.declared.refusals.TakeRefusal.{TakeRefusal}
+use Rattle.fbl_group.specs.Deliveries.{take_or_room}
+use Rattle.fbl_group.specs.Laws.{SomeDeliveryIsOpen}
 
 module _ {N : Type 0} where
   -- the first of a list that has one
@@ -72,3 +79,46 @@ module _ {N : Type 0} where
   pub sends-messages : (me before : ℕ) (carried : List Entry) (sends : List (ℕ × N)) → map send_of_message (messages_from me before carried sends) ≡ step_events me before sends
   sends-messages me before carried [] = refl
   sends-messages me before carried (s ∷ sends) = rw (sends-messages me (before + 1) carried sends) refl
+
+-- ---- a delivery that is open
+
+-- a sum that is not 0 has a term that is not
+some-below : (n : ℕ) (count : ℕ → ℕ) → 0 < sum_below n count → (x : ℕ) × (x < n) × (0 < count x)
+some-below zero count more = absurd (omega (arith, more))
+some-below (suc n) count more = elim (cases_eq (count n) 0) [
+  | inl none ↦ let r = some-below n count (omega (arith, more, none)) in (r.0, omega (arith, r.1), r.2)
+  | inr some ↦ (n, omega arith, omega (arith, some))
+]
+
+-- where want of room may be first alone, it is the one that holds, or lack of memory is
+full_is : (first : Option DeliverRefusal) (refusal : DeliverRefusal) → first ≡ Some refusal → (first ≡ None) ⊎ (first ≡ Some Full) → refusal ≡ Full
+full_is first refusal is (inl none) = absurd cc
+full_is first refusal is (inr full) = cc
+
+full_or_memory : (first : Option DeliverRefusal) → (first ≡ None) ⊎ (first ≡ Some Full) → (refusal : DeliverRefusal) → IsDeliverRefusal first refusal → (refusal ≡ Full) ⊎ (refusal ≡ Memory)
+full_or_memory first either BadMember is = inl (full_is first BadMember is either)
+full_or_memory first either Down is = inl (full_is first Down is either)
+full_or_memory first either Empty is = inl (full_is first Empty is either)
+full_or_memory first either Full is = inl refl
+full_or_memory first either Memory is = inr refl
+
+room_only : (full : Bool) → ((if full then Some Full else None) ≡ None) ⊎ ((if full then Some Full else None) ≡ Some Full)
+room_only true = inr refl
+room_only false = inl refl
+
+module _ {S N : Type 0} (next : Next S N) (r : GroupRecord S N) where
+  -- a message that may be taken is refused only where room is wanting
+  taken_then : (message : Option (Message N)) (taken : Option TakeRefusal) (v : Message N) → message ≡ Some v → taken ≡ None
+      → (take_or_room next r message taken ≡ None) ⊎ (take_or_room next r message taken ≡ Some Full)
+  taken_then None taken v there none = absurd cc
+  taken_then (Some w) (Some refusal) v there none = absurd cc
+  taken_then (Some w) None v there none = room_only (is_full r (length (step_of next r w).sends.items))
+
+pub some_delivery_is_open : {S N : Type 0} → SomeDeliveryIsOpen S N
+some_delivery_is_open next r nobody more =
+    let from = some-below r.config.members (λ q. sum_below r.config.members (λ p. length (channel r q p))) more in
+    let to = some-below r.config.members (λ p. length (channel r from.0 p)) from.2 in
+    let first = some-at (channel r from.0 to.0) 0 to.2 in
+    let none_down : set.len r.down ≡ 0 = rw nobody (len-empty _) in
+    let untaken : take_refusal r to.0 from.0 ≡ None = grind (arith, nat_tests, to.1, from.1, first.1, none_down) in
+    (to.0, from.0, full_or_memory (deliver_refusal next r to.0 from.0) (taken_then next r (slice_get (channel r from.0 to.0) 0) (take_refusal r to.0 from.0) first.0 first.1 untaken))

@@ -5,10 +5,12 @@ pub use Rattle.fbl_group.proofs.Common.{sound_holds_each_receipt, recovery_leave
 use Rattle.std.specs.FinSet as set
 use Rattle.fbl_trace.specs.declared.trace.Event.TheVariants as event
 use Rattle.std.specs.Prelude.{Bool}
+use Rattle.fbl_group.proofs.Common.{inl, inr, contains-union, is_replayed, IsRecovery, len-within, recovery_exists, recovery_is_one, strikes_join}
 use Rattle.fbl_group.proofs.Recovering.{read_at}
 use Rattle.fbl_answers.specs.declared.answers.Recovered.{Recovered}
-use Rattle.fbl_group.specs.Strikes.{Recovers}
-use Rattle.fbl_group.specs.Theorem.{AreStruck, IsRecoverable, Restores}
+use Rattle.fbl_group.specs.Strikes.{Recovers, messages_at}
+use Rattle.fbl_group.specs.Laws.{StrikesAreOne}
+use Rattle.fbl_group.specs.Theorem.{AreStruck, HasOneRecovery, IsRecoverable, Restores}
 use Rattle.fbl_group.specs.Theorem.AreStruck.{nobody, and_these}
 
 -- the test of who is below n
@@ -114,13 +116,70 @@ module _ {S N : Type 0} (next : Next S N) where
   restores old new answer sound recovers = record {
     nobody_down = recovers.recovery.rest.nobody_down;
     survivors = recovers.recovery.rest.survivors;
+    channels = recovers.recovery.rest.channels;
+    config = recovers.recovery.rest.config;
+    trace = recovers.recovery.trace;
     folds = recovers.recovery.folds;
     left = recovery_leaves_recorded S N next old new recovers.recovery sound;
   }
+
+  -- there is one recovery of a sound group
+  has_one_recovery : (old : GroupRecord S N) → IsSound next old → HasOneRecovery next old
+  has_one_recovery old sound =
+      let there = recovery_exists S N next old sound in
+      let replayed = λ (new : GroupRecord S N). length (filter (is_replayed old) (receipts (marks new))) in
+      let one = λ (other : GroupRecord S N) (is : IsRecovery next old other). recovery_is_one S N next old there.0 other sound there.1 is in
+      record {
+        new = there.0;
+        answer = record { replayed = replayed there.0; resent = messages_at old.down there.0; undone = length (lost_receipts old) };
+        recovers = record { recovery = there.1; replayed = refl; resent = refl; undone = omega (arith, cut-undone sound there.1.trace) };
+        only = λ other said recovers. (
+          one other recovers.recovery,
+          λ i. record {
+            replayed = (recovers.replayed ∙ ap replayed (one other recovers.recovery)) i;
+            resent = (recovers.resent ∙ ap (messages_at old.down) (one other recovers.recovery)) i;
+            undone = undone said recovers i;
+          },
+        );
+      }
+    where
+      undone : {other : GroupRecord S N} (said : Recovered) → Recovers next old other said → said.undone ≡ length (lost_receipts old)
+      undone said recovers = omega (arith, cut-undone sound recovers.recovery.trace, recovers.undone)
 
   pub sound_is_recoverable : (r : GroupRecord S N) → IsSound next r → IsRecoverable next r
   sound_is_recoverable r sound = record {
     held = sound_holds_each_receipt S N next r sound;
     no_orphan = λ struck among. no_orphan struck.config.f (knowledge struck) (struck_is_sound r sound struck among).causes.closed;
+    one_recovery = λ struck among. has_one_recovery struck (struck_is_sound r sound struck among);
     recovery = λ struck new answer among. restores struck new answer (struck_is_sound r sound struck among);
   }
+
+-- ---- several strikes are one
+
+module _ {S N : Type 0} (next : Next S N) where
+  -- a strike that is allowed and then another are allowed together
+  allowed_together : (first old last : GroupRecord S N) (some others : Members) → strike_refusal first some ≡ None → IsStrike next first old some → strike_refusal old others ≡ None
+      → IsStrike next old last others → strike_refusal first (set.union some others) ≡ None
+  allowed_together first old last some others allowed strike allowed_then strike_then =
+      let both = strikes_join S N next first old last some others strike strike_then in
+      let below : AllBelow (set.union some others) first.config.members = λ q among. elim ((contains-union some others q).0 among) [
+        | inl in_some ↦ within-below some first.config.members (grind (arith, nat_tests)) q in_some
+        | inr in_others ↦ within-below others first.config.members (rw strike.config at (inside old others allowed_then)) q in_others
+      ] in
+      let more = len-within (set.len some) some (set.union some others) refl (λ q among. (contains-union some others q).1 (inl among)) in
+      let nonempty : set.len some ≢ 0 = grind (arith, nat_tests) in
+      is_allowed (set.union some others) {r = first} refl refl below (λ none. nonempty (omega (arith, more, none))) both.down
+      (rw strike_then.down (rw strike.config at (few old others allowed_then)))
+    where
+      inside : (r : GroupRecord S N) (s : Members) → strike_refusal r s ≡ None → is_within s r.config.members ≡ true
+      inside r s allowed = grind (arith, nat_tests)
+
+      few : (r : GroupRecord S N) (s : Members) → strike_refusal r s ≡ None → set.len (set.union r.down s) ≤ r.config.f
+      few r s allowed = grind (arith, nat_tests)
+
+pub strikes_are_one : {S N : Type 0} → StrikesAreOne S N
+strikes_are_one next first last nobody = inl refl
+strikes_are_one next first last (and_these {old} {new} {struck} {answer} before allowed strikes) = elim (strikes_are_one next first old before) [
+  | inl same ↦ inr (struck, answer, rw same at allowed, rw same at strikes)
+  | inr one ↦ inr (set.union one.0 struck, answer, allowed_together next first old last one.0 struck one.2 one.3.0 allowed strikes.0, (strikes_join _ _ next first old last one.0 struck one.3.0 strikes.0, strikes.1))
+]

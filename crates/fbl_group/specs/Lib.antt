@@ -4,3 +4,4 @@ pub mod Readers
 pub mod Checkpoints
 pub mod Theorem
 pub mod Records
+pub mod Laws

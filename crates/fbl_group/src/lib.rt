@@ -8,6 +8,7 @@ mod crash;
 mod deliver;
 mod dump;
 mod group;
+pub mod laws;
 mod readers;
 mod rebuilt;
 mod recover;

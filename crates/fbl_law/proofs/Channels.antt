@@ -5,6 +5,8 @@ use Rattle.fbl_law.proofs.Common.{last_taken, append-nil, Send, Receipt, Apart, 
 use Rattle.fbl_law.proofs.Common.{receipts_of, map-At, WellFormed-front, in_flight-sent, Message, Knowledge, IsSoundKnowledge, send_mark, IsInFlight, IsUp, between, taken_off, drop-map, ◌==◌, ◌&&◌}
 use Rattle.fbl_law.proofs.Common.{◌⊎◌, inl, inr, subst, Contains, Event, mark_of, Next, Progress, Logged, Lawful, note_of, At-filter, Entry, last_from, GroupRecord, member, channel, marks, IsFold}
 use Rattle.fbl_law.proofs.Common.{IsMadeAgain, resent_to, logged_beyond, resent, get_or, get_or_past, HasChannels, destination_of, cases_lt}
+use Rattle.fbl_law.proofs.Common.{OfSound}
+use Rattle.fbl_law.specs.GroupLaws.{IsFirstInFirstOut}
 use Rattle.fbl_trace.specs.declared.trace.Event.TheVariants as event
 use Rattle.fbl_law.proofs.Lists.{filter-passes, Contains-at, Contains-place, Contains-changed, Contains-none}
 use Rattle.fbl_law.proofs.Receipts.{MayFollow-seam}
@@ -177,3 +179,16 @@ made-again-if r q p obeys shape inside = elim (cases_lt q r.config.members) [
           notes = λ v among. absurd (Contains-none v (rw none at among));
           carried = λ v among. absurd (Contains-none v (rw none at among));
         }
+
+-- messages with these numbers, by their sends
+numbers_of : {N : Type 0} → (q p : ℕ) (vs : List (Message N)) (ssns : List ℕ) → map send_mark vs ≡ map (λ ssn. Send q ssn p) ssns → map (λ v. v.ssn) vs ≡ ssns
+numbers_of q p [] [] is = refl
+numbers_of q p [] (ssn ∷ ssns) is = absurd cc
+numbers_of q p (v ∷ vs) [] is = absurd cc
+numbers_of q p (v ∷ vs) (ssn ∷ ssns) is = (let rest = numbers_of q p vs ssns (cc) in cc)
+
+pub first_in_first_out : (S N : Type 0) → OfSound S N (λ r. (q p : ℕ) → IsFirstInFirstOut r q p)
+first_in_first_out S N next r sound q p = record {
+  received = fifo r.config.members (marks r) q p sound.lawful.well_formed;
+  others = λ up_q up_p. numbers_of q p (channel r q p) (in_flight (marks r) q p) (sound.causes.channels q p up_q up_p);
+}

@@ -1,12 +1,12 @@
 -- A delivery keeps a group sound.
-use Rattle.fbl_law.proofs.Common.{◌≡◌, ◌≢◌, ℕ, suc, ◌+◌, ◌<◌, ◌≤◌, ◌==◌, cond, List, [], ◌∷◌, ◌++◌, length, map, inl, inr, Some, slice_get, refl, sym, ap, ◌∙◌, arith, length-append, length-map}
+use Rattle.fbl_law.proofs.Common.{◌≡◌, ◌≢◌, ℕ, suc, ◌+◌, ◌<◌, ◌≤◌, ◌==◌, List, [], ◌∷◌, ◌++◌, length, map, inl, inr, Some, slice_get, refl, sym, ap, ◌∙◌, arith, length-append, length-map}
 use Rattle.fbl_law.proofs.Common.{filter_map, cases_eq, map-append, length-set, get_or-set_same, get_or-set_other, filter-append, filter_map-append, All, Contains-append_cases, Determinant, Event}
 use Rattle.fbl_law.proofs.Common.{mark_of, determinant_of, receipt_of, Next, Lawful, note_of, At-front, eqb-self, piggybacked, Message, receipts_of, MemberRecord, blank, IsInFlight, IsUp}
 use Rattle.fbl_law.proofs.Common.{next_determinant, is_on, between, taken_off, GroupRecord, member, member_checkpoint, channel, marks, knowledge, receipts, IsFold, IsReplayed, IsSound, receipts_at}
 use Rattle.fbl_law.proofs.Common.{step_events, lawful_deliver, Has-append, Precedes-within, Precedes-entered, At-seam, contains-union, note_of-front, IsDelivery, sends_of, messages_from, step_of}
 use Rattle.fbl_law.proofs.Common.{receiver, made, delivery_events, SendsWell, nat_tests, IsOnce, ◌⊎◌, subst, zero, ◌&&◌, Contains, cases_Bool, contains-insert_same, Mark, member_of, send_of, Has}
 use Rattle.fbl_law.proofs.Common.{Precedes, Has-last, Entry, Includes, Store, in_table, in_message, in_checkpoint, owner, IsThere, Owes, send_mark, Names, Holds, IsHolder, IsTrueEntry, NamesCauses}
-use Rattle.fbl_law.proofs.Common.{IsSoundKnowledge, learned, Precedes-front, ◌↔◌, held_by, All-contains, All-push, map-At, Send, WellFormed, fresh}
+use Rattle.fbl_law.proofs.Common.{IsSoundKnowledge, IsStable, learned, Precedes-front, ◌↔◌, held_by, All-contains, All-push, map-At, Send, WellFormed, fresh}
 use Rattle.std.specs.FinSet as sets
 use Rattle.fbl_trace.specs.declared.trace.Event.TheVariants as event
 use Rattle.std.proofs.Common.{append-nil}
@@ -16,7 +16,7 @@ use Rattle.fbl_law.proofs.Channels.{front_may_follow, flight_sent, channel-deliv
 use Rattle.fbl_law.proofs.ReplayedRecords.{sent-noted, replayed-kept, replayed-step, fold-replayed, fold-received, replayed-fold, log-short}
 use Rattle.fbl_law.proofs.Promises.{up_state, received_counted, log_counted, receipt_is_new, new_not_held, new_not_carried}
 use Rattle.fbl_law.proofs.Receipts.{disjoint, added-later, length-receipts_at}
-use Rattle.fbl_law.proofs.Keeping.{KeepsKnowledge, IsSoundAt, NamesCauses-kept, IsTrueEntry-kept, sound_kept, sound_passed, checkpoint_kept, sound_after}
+use Rattle.fbl_law.proofs.Keeping.{IsStable-kept, KeepsKnowledge, IsSoundAt, NamesCauses-kept, IsTrueEntry-kept, sound_kept, sound_passed, checkpoint_kept, sound_after}
 
 module _ {N : Type 0} where
   pub length-step_events : (p before : ℕ) (sends : List (ℕ × N)) → length (step_events p before sends) ≡ length sends
@@ -147,6 +147,9 @@ module _ {S N : Type 0} (next : Next S N) (old new : GroupRecord S N) (v : Messa
     left = λ b there recorded. rw trace_now (there.0, At-front (marks old) added_marks there.0 b there.1);
     paths = λ there path. Precedes-within (marks old) added_marks apart there (rw trace_now at path);
   }
+
+  pub delivery_keeps_stable : (d : Determinant) → IsStable f (knowledge old) d → IsStable f (knowledge new) d
+  delivery_keeps_stable = IsStable-kept keeps sound.causes
 
   -- the new table's entries are true
   abbrev IsGood : Entry → Type 0

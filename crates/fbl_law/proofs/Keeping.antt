@@ -56,7 +56,7 @@ module _ {S N : Type 0} {n f : ℕ} {old new : Knowledge S N} (keeps : KeepsKnow
   IsHolder-kept d m recorded holder = elim (down_or_up new.down m) [ inl down ↦ inr (down, recorded) | inr up ↦ inl (keeps.held d m up holder) ]
 
   -- of more than f holders one is up
-  IsStable-kept : (d : Determinant) → IsStable f old d → IsStable f new d
+  pub IsStable-kept : (d : Determinant) → IsStable f old d → IsStable f new d
   IsStable-kept d stable =
       let one = some_outside stable.0 new.down (omega (arith, keeps.down.few, stable.1)) in
       let recorded : IsRecorded new d = inl (one.0, keeps.held d one.0 one.2 (stable.2 one.0 one.1)) in
@@ -129,6 +129,9 @@ module _ {S N : Type 0} (next : Next S N) (old new : GroupRecord S N) (struck : 
       left = λ b there recorded. rw s.trace there;
       paths = λ there path. rw s.trace at path;
     }
+
+    pub strike_keeps_stable : (d : Determinant) → IsStable old.config.f (knowledge old) d → IsStable old.config.f (knowledge new) d
+    strike_keeps_stable = IsStable-kept keeps sound.causes
 
     same : (k : Store N) → IsThere (knowledge new) k → IsSameStore (knowledge old) (knowledge new) k
     same k there = search (arith, up, table_still)
@@ -213,6 +216,11 @@ module _ {S N : Type 0} (next : Next S N) (old new : GroupRecord S N) (p : ℕ) 
 
   IsSound-checkpoint : IsSound next now
   IsSound-checkpoint = search (arith, length-set, sound_after, keeps_knowledge, good, kept, still, saved_now)
+
+pub checkpoint_keeps_stable : {S N : Type 0} → (next : Next S N) (old new : GroupRecord S N) (p : ℕ) → IsCheckpoint old new p → IsSound next old
+    → (d : Determinant) → IsStable old.config.f (knowledge old) d → IsStable new.config.f (knowledge new) d
+checkpoint_keeps_stable next old new p s sound d stable =
+    subst (λ (r : GroupRecord _ _). IsStable r.config.f (knowledge r) d) (sym s.saved) (IsStable-kept (keeps_knowledge next old new p s sound) sound.causes d stable)
 
 pub group_checkpoint_keeps : (S N : Type 0) → GroupCheckpointKeeps S N
 group_checkpoint_keeps S N next old new p s sound = subst (IsSound next) (sym s.saved) (IsSound-checkpoint next old new p s sound)

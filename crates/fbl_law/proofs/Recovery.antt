@@ -1,13 +1,13 @@
 -- A recovery keeps knowledge sound.
 use Rattle.fbl_law.proofs.Common.{one_place, List, ◌≡◌, ℕ, ◌↔◌, Bool, true, inl, inr, refl, sym, ap, ◌∙◌, Some, filter, Determinant, Mark, member_of, send_of, receipt_of, Has, Earlier, Precedes}
 use Rattle.fbl_law.proofs.Common.{itself, step, WellFormed, sent_on, taken_on, Has-first, Knowledge, Store, in_table, in_message, in_checkpoint, IsThere, table, IsDown, IsUp, Names, Holds, IsRecorded}
-use Rattle.fbl_law.proofs.Common.{IsHolder, IsClosed, IsSoundKnowledge, NamesCauses, Stays, Send, Receipt, Has-filter, Precedes-filter, nat_tests, arith, Event, GainsHolders, GroupRecord, IsEventCut}
+use Rattle.fbl_law.proofs.Common.{IsHolder, IsClosed, IsSoundKnowledge, IsStable, NamesCauses, Stays, Send, Receipt, Has-filter, Precedes-filter, nat_tests, arith, Event, GainsHolders, GroupRecord, IsEventCut}
 use Rattle.fbl_law.proofs.Common.{IsRecovery, IsSound, MemberRecord, Next, StaysIsRecorded, knowledge, map, mark_of, marks, recovery_table}
 use Rattle.fbl_law.proofs.CutLawful.{KeepsCauses, Has-before, WellFormed-kept, map-kept, marks-filter}
 use Rattle.fbl_law.proofs.Lists.{filter-passes, filter-At}
 use Rattle.fbl_law.proofs.Safe.{entries_gathered, gathered_recorded, recorded_gathered, down_or_up, down_or_both_up, never_both, nobody_down_empty, up_if_none, IsRecorded-depended}
 use Rattle.fbl_law.proofs.Safe.{IsRecorded-before, Has-recorded}
-use Rattle.fbl_law.proofs.Keeping.{KeepsKnowledge, IsSoundAt, sound_kept, sound_passed, checkpoint_kept, sound_after}
+use Rattle.fbl_law.proofs.Keeping.{IsStable-kept, KeepsKnowledge, IsSoundAt, sound_kept, sound_passed, checkpoint_kept, sound_after}
 
 -- an event with a send of its own is a receipt
 receives : (e b : Mark) → send_of e ≡ Some b → (d : Determinant) × (e ≡ receipt_of d)
@@ -140,6 +140,9 @@ module _ {S N : Type 0} (next : Next S N) (old new : GroupRecord S N) (recovery 
     left = left_if sound cut;
     paths = λ there path. Precedes-filter cut.0 (marks old) (rw (cut-marks sound cut) at path);
   }
+
+  pub recovery_keeps_stable : (d : Determinant) → IsStable old.config.f (knowledge old) d → IsStable old.config.f (knowledge new) d
+  recovery_keeps_stable = IsStable-kept keeps sound.causes
 
   -- the table of a member that was down has each receipt of the cut
   has_all : (m : ℕ) (b : Mark) → IsDown (knowledge old) m → NamesCauses old.config.f (knowledge new) (table (knowledge new) m) b

@@ -1,7 +1,7 @@
 -- What tables name, also after they have learned or are gathered, and what a closed record promises.
 use Rattle.fbl_law.proofs.Common.{List, ◌≡◌, ℕ, false, [], inl, inr, ◌⊎◌, arith, subst, refl, nat_cmp, Contains, cases_Bool, Members, Determinant, Mark, Has, Precedes, Depends, member_of, receipt_of}
 use Rattle.fbl_law.proofs.Common.{some_member, IsTrueEntry, in_table, in_checkpoint, IsHolder, Includes, Knowledge, table, checkpoint, IsUp, IsDown, Names, IsRecorded, IsStable, KnowsTruth}
-use Rattle.fbl_law.proofs.Common.{IsBeforeCheckpoint, IsClosed, IsDownEmpty, Message, Entry, IsOrphan, RecordsCauses, ◌<◌, ◌||◌, length, get_or, true, ◌∷◌, map, sym, ◌∙◌, nat_le, false_from_ne_true}
+use Rattle.fbl_law.proofs.Common.{IsBeforeCheckpoint, IsClosed, IsDownEmpty, Message, Entry, IsOrphan, RecordsCauses, ◌<◌, ◌||◌, length, get_or, true, ◌∷◌, map, sym, ◌∙◌, nat_le}
 use Rattle.fbl_law.proofs.Common.{cases_eq, get_or_past, Any-from_list_any, same_determinant, contains-insert_other, Decides-same_determinant, MemberRecord, blank, is_held, gathered, learned}
 use Rattle.fbl_law.proofs.Common.{piggybacked, ◌↔◌, All, All-head, All-tail, leb_tells, list_any-append, list_any-from_Any, All-cons, All-contains_itself, All-map, All-weaker, held-carried}
 use Rattle.fbl_law.proofs.Common.{held-gathered, held_by, noted, Decides, Decides-like, Decides-or, ◌≤◌, and_parts, cases_lt, members_where, contains-members_where, contains-union, list_any}

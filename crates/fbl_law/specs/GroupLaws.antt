@@ -1,20 +1,21 @@
 -- The laws of a group's record, for the functions that state them: what keeps it sound, what family-based logging promises of it
 -- between any two calls (always no orphans: Alvisi and Marzullo 1998), and what a recovery leaves.
-use Rattle.std.specs.Prelude.{ℕ, ◌≤◌, ◌≡◌, ◌<◌, ◌↔◌, true, length, ◌+◌, ◌⊎◌, not, List, map, slice_index_or, slice_set, Some}
-use Rattle.std.specs.List.{filter}
+use Rattle.std.specs.Prelude.{ℕ, ◌≤◌, ◌≡◌, ◌<◌, ◌↔◌, true, length, ◌+◌, ◌⊎◌, not, List, ◌++◌, map, slice_index_or, slice_set, Some}
+use Rattle.std.specs.List.{filter, filter_map}
 use Rattle.std.specs.FinSet as set
 use Rattle.fbl_trace.specs.Configs.{Settings, IsConfig}
 use Rattle.fbl_trace.specs.Fold.{Next}
 use Rattle.fbl_trace.specs.MemberSets.{AllBelow, Members}
 use Rattle.fbl_member.specs.Members.{Message, MemberRecord, blank, logged_note, replayed_by}
-use Rattle.fbl_law.specs.Groups.{GroupRecord, member_checkpoint, marks, knowledge, is_recorded, receipts, receipts_at, IsSound, OfSound}
+use Rattle.fbl_law.specs.Groups.{GroupRecord, channel, member_checkpoint, marks, knowledge, is_recorded, receipts, receipts_at, IsSound, OfSound}
 use Rattle.fbl_law.specs.GroupSteps.{IsGroupStart, IsDelivery, IsStrike, IsCheckpoint, IsRecovery, Stays, recovery_table, recovered_trace, working, IsReplaying, IsWaiting, IsRebuilt}
 use Rattle.fbl_trace.specs.declared.trace.Determinant.{Determinant}
 use Rattle.fbl_trace.specs.Events.{receipt_of, mark_of}
 use Rattle.fbl_trace.specs.Precedence.{Has, Precedes}
+use Rattle.fbl_trace.specs.Rules.{in_flight, sent_on, taken_on}
 use Rattle.fbl_trace.specs.Steps.{SendsWell}
-use Rattle.fbl_law.specs.Knowledge.{IsRecorded, Includes, IsDown, IsOrphan, Holds}
-use Rattle.fbl_law.specs.Promises.{SurvivorsHold}
+use Rattle.fbl_law.specs.Knowledge.{IsRecorded, Includes, IsDown, IsUp, IsOrphan, Holds}
+use Rattle.fbl_law.specs.Promises.{IsHeldByMore, SurvivorsHold}
 use Rattle.fbl_trace.specs.declared.trace.Mark.{Mark}
 use Rattle.fbl_table.specs.Tables.{found}
 
@@ -48,18 +49,45 @@ GroupRecoveryKeeps S N =
     (next : Next S N) (old new : GroupRecord S N)
     → IsRecovery next old new → IsSound next old → IsSound next new
 
--- from a start of a group a run of deliveries, of strikes after which at most f members are down, of checkpoints, and of recoveries
-pub data Run {S N : Type 0} (next : Next S N) (config : Settings N) : GroupRecord S N → Type 0 where
-  starts : {new : GroupRecord S N} → IsGroupStart next config new → Run next config new
-  delivers : {old new : GroupRecord S N} {v : Message N} → Run next config old → IsDelivery next old new v → Run next config new
+-- a run from one group to another: of deliveries, of strikes after which at most f members are down, of checkpoints, and of recoveries
+pub data RunFrom {S N : Type 0} (next : Next S N) (first : GroupRecord S N) : GroupRecord S N → Type 0 where
+  no_step : RunFrom next first first
+  delivers : {old new : GroupRecord S N} {v : Message N} → RunFrom next first old → IsDelivery next old new v → RunFrom next first new
   strikes : {old new : GroupRecord S N} {struck : Members}
-      → Run next config old → IsStrike next old new struck → AllBelow struck old.config.members → set.len new.down ≤ old.config.f → Run next config new
-  checkpoints : {old new : GroupRecord S N} {p : ℕ} → Run next config old → IsCheckpoint old new p → Run next config new
-  recovers : {old new : GroupRecord S N} → Run next config old → IsRecovery next old new → Run next config new
+      → RunFrom next first old → IsStrike next old new struck → AllBelow struck old.config.members → set.len new.down ≤ old.config.f → RunFrom next first new
+  checkpoints : {old new : GroupRecord S N} {p : ℕ} → RunFrom next first old → IsCheckpoint old new p → RunFrom next first new
+  recovers : {old new : GroupRecord S N} → RunFrom next first old → IsRecovery next old new → RunFrom next first new
+
+-- a run from a start of a group
+abbrev pub Run : {S N : Type 0} → Next S N → Settings N → GroupRecord S N → Type 0
+Run {S} {N} next config r = (first : GroupRecord S N) × IsGroupStart next config first × RunFrom next first r
 
 -- so a group is sound after every run
 abbrev pub RunIsSound : Type 0 → Type 0 → Type 0
 RunIsSound S N = (next : Next S N) (config : Settings N) (r : GroupRecord S N) → SendsWell next → IsConfig next.allowed config → Run next config r → IsSound next r
+
+-- a receipt that more than f members hold is never undone, whatever is struck, recovered and delivered later
+abbrev pub HeldByMoreStays : Type 0 → Type 0 → Type 0
+HeldByMoreStays S N =
+    (next : Next S N) (old new : GroupRecord S N) (d : Determinant)
+    → SendsWell next → IsSound next old → IsHeldByMore old d → RunFrom next old new → Has (marks new) (receipt_of d)
+
+-- a strike of some members and then of others is a strike of both
+abbrev pub StrikesJoin : Type 0 → Type 0 → Type 0
+StrikesJoin S N =
+    (next : Next S N) (old between new : GroupRecord S N) (some others : Members)
+    → IsStrike next old between some → IsStrike next between new others → IsStrike next old new (set.union some others)
+
+-- and what a strike leaves follows from the group and the members struck
+abbrev pub StrikeIsOne : Type 0 → Type 0 → Type 0
+StrikeIsOne S N = (next : Next S N) (old new other : GroupRecord S N) (struck : Members) → IsStrike next old new struck → IsStrike next old other struck → other ≡ new
+
+-- on each channel the messages received are the first of those sent, each once and in the order in which they were sent: the
+-- numbers of those sent are the numbers of those received and then of those in flight, which the channel has between members
+-- that are up
+pub record IsFirstInFirstOut {S N : Type 0} (r : GroupRecord S N) (q p : ℕ) : Type 0 where
+  pub received : filter_map (sent_on q p) (marks r) ≡ filter_map (taken_on q p) (marks r) ++ in_flight (marks r) q p
+  pub others : IsUp (knowledge r) q → IsUp (knowledge r) p → map (λ v. v.ssn) (channel r q p) ≡ in_flight (marks r) q p
 
 -- in a sound group the test of who has recorded a receipt is right
 abbrev pub RecordedTest : Type 0 → Type 0 → Type 0
@@ -101,6 +129,14 @@ GainsTheDown old new =
 abbrev pub UndoesLost : {S N : Type 0} → GroupRecord S N → GroupRecord S N → Type 0
 UndoesLost old new =
     length (receipts (marks new)) + length (filter (λ d. not (is_recorded old d)) (receipts (marks old))) ≡ length (receipts (marks old))
+
+-- of each sound group there is a recovery
+abbrev pub RecoveryExists : Type 0 → Type 0 → Type 0
+RecoveryExists S N = (next : Next S N) (old : GroupRecord S N) → IsSound next old → (new : GroupRecord S N) × IsRecovery next old new
+
+-- and only one
+abbrev pub RecoveryIsOne : Type 0 → Type 0 → Type 0
+RecoveryIsOne S N = (next : Next S N) (old new other : GroupRecord S N) → IsSound next old → IsRecovery next old new → IsRecovery next old other → other ≡ new
 
 -- an event of a sound group stays exactly where each receipt that precedes it is recorded
 abbrev pub StaysIsRecorded : Type 0 → Type 0 → Type 0

@@ -3,7 +3,7 @@
 
 ghost use Rattle.std.specs.Prelude.{◌≡◌, ℕ};
 ghost use Rattle.fbl_law.specs.Promises.{DumpHasNoOrphan, DumpObeysRules, GainsHolders, HoldsEachReceipt, LeavesRecorded, RecordsCauses, RecordsFirst};
-ghost use Rattle.fbl_law.specs.GroupLaws.{CheckpointIsRecorded, CutIsClosed, GainsTheDown, GroupCheckpointKeeps, GroupDeliveryKeeps, GroupRecoveryKeeps, GroupStartIsSound, GroupStrikeKeeps, NoSurvivorIsOrphan, OfRecovery, RebuiltIsRecovered, RecordedTest, ReplayBegins, ReplayEnds, ReplayIsRight, RunIsSound, SoundSurvivorsHold, StaysIsRecorded, UndoesLost};
+ghost use Rattle.fbl_law.specs.GroupLaws.{CheckpointIsRecorded, CutIsClosed, GainsTheDown, GroupCheckpointKeeps, GroupDeliveryKeeps, GroupRecoveryKeeps, GroupStartIsSound, GroupStrikeKeeps, HeldByMoreStays, IsFirstInFirstOut, NoSurvivorIsOrphan, OfRecovery, RebuiltIsRecovered, RecordedTest, RecoveryExists, RecoveryIsOne, ReplayBegins, ReplayEnds, ReplayIsRight, RunIsSound, SoundSurvivorsHold, StaysIsRecorded, StrikeIsOne, StrikesJoin, UndoesLost};
 ghost use Rattle.fbl_law.specs.CrashFree.{CrashesAreMasked, CrashFreeIsRun, KeepsPasts};
 ghost use Rattle.fbl_law.specs.Groups.{knowledge, OfSound};
 ghost use Rattle.fbl_law.specs.Knowledge.{IsAlwaysHeld, IsOrphan};
@@ -23,6 +23,20 @@ pub fn sound_law<S, N>()
     ensures checkpoint { GroupCheckpointKeeps S N }
     ensures recovery { GroupRecoveryKeeps S N }
     ensures run { RunIsSound S N }
+{}
+
+/// On each channel of a sound group the messages received are the first of those sent, each once and in the order in which they
+/// were sent; the channel has the others in that order, where its ends are up.
+pub fn channel_law<S, N>()
+    ensures { OfSound S N (λ r. (q p : ℕ) → IsFirstInFirstOut r q p) }
+{}
+
+/// A strike of some members and then of others is a strike of both, and leaves what one strike of both leaves. And whatever is struck, recovered and delivered, a receipt
+/// that more than f members hold is never undone: at each moment one of them is up and holds it.
+pub fn strike_law<S, N>()
+    ensures joined { StrikesJoin S N }
+    ensures only { StrikeIsOne S N }
+    ensures held { HeldByMoreStays S N }
 {}
 
 /// In a sound group a receipt is recorded exactly where some member's table or some checkpoint's has its determinant; the
@@ -70,6 +84,12 @@ pub fn recovery_law<S, N>()
     ensures one { OfRecovery S N (λ old new. new.trace ≡ recovered_trace old) }
     ensures stays { StaysIsRecorded S N }
     ensures closed { CutIsClosed S N }
+{}
+
+/// Of each sound group there is a recovery, and only one: what a recovery leaves follows from the group.
+pub fn one_recovery_law<S, N>()
+    ensures exists { RecoveryExists S N }
+    ensures only { RecoveryIsOne S N }
 {}
 
 /// Replay begins at the checkpoints; that of what the gathered tables find, with the notes of the senders' logs, is right
