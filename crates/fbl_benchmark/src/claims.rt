@@ -19,7 +19,7 @@ const MEMBERS: u8 = 16;
 pub fn time_claims<W: Wait>(rt: &HostRuntime, waits: &W) -> Result<()> {
     let (claims, pass) = Claims::new(rt.alloc(), MEMBERS)?;
     let start = Instant::now(rt)?;
-    let won = claim_often(&claims, pass);
+    let won = claim_often(claims, pass);
     let taken = microseconds_since(rt, start)?;
     println!(rt; "claims: won {won}")?;
     print_rate(rt, "claims", "claims and releases", COUNT, taken)?;
@@ -27,9 +27,9 @@ pub fn time_claims<W: Wait>(rt: &HostRuntime, waits: &W) -> Result<()> {
 }
 
 /// Claims and releases member 0, and answers how often the claim was won.
-fn claim_often(claims: &Claims, pass: Pass) -> u32
-    requires pass { pass ≡ claims.now }
-    requires member { 0 < claims.now.words }
+fn claim_often(claims: Claims, pass: Pass) -> u32
+    requires pass { pass ≡ claims }
+    requires member { 0 < claims.words }
 {
     let mut pass = pass;
     let mut won: u32 = 0;
@@ -42,6 +42,7 @@ fn claim_often(claims: &Claims, pass: Pass) -> u32
             Err(back) => back,
         };
     }
+    claims.close(pass);
     won
 }
 

@@ -102,11 +102,15 @@ IsRunAnswer plan made undone now (Err drain.Memory) answer = ⊥
 IsRunAnswer plan made undone now (Err refusal) answer =
     (reason : Reason) × IsRunReason plan now refusal reason × IsRefused (codes "run") (drain_name refusal) reason answer
 
+-- how many turns each worker of a run may take
+abbrev pub turns_each : ℕ
+turns_each = 1000000
+
 -- a run with this plan by this many workers may lead from old to new, and answer this: it follows by an answer of the workers' drain,
 -- whose turns are recorded
 abbrev pub RunStep : Next ℕ Note → ℕ → List Strike → GroupRecord ℕ Note → GroupRecord ℕ Note → Answer → Type 0
 RunStep next workers plan old new answer =
-    (recorded : Result (Recorded ℕ Note) DrainRefusal) × RecordedDrains next workers plan old new recorded
+    (recorded : Result (Recorded ℕ Note) DrainRefusal) × RecordedDrains next workers turns_each plan old new recorded
     × IsRunAnswer plan old.receipts_ever old.undone_ever new recorded answer
 
 -- a command, with this many workers, may lead from old to new, and answer this

@@ -18,6 +18,6 @@ pub use Rattle.fbl_threads.specs.Drains.{RecordedDrains}
 pub use Rattle.fbl_threads.specs.declared.draining.DrainRefusal.{DrainRefusal}
 pub use Rattle.fbl_threads.specs.declared.draining.Recorded.{Recorded}
 pub use Rattle.fbl_play.specs.Plays.{Along, IsPlay, IsRun, IsRunOne, IsStopped, Moment, Observes, PlaysUnobserved, Ran, Runs, next_of}
-pub use Rattle.fbl_commands.specs.Steps.{Step}
+pub use Rattle.fbl_commands.specs.Steps.{Step, turns_each}
 pub use Rattle.fbl_play.specs.Transcripts.{IsAdded, IsBegun, IsLedOn, IsOfGroup, Transcript}
 pub use Rattle.fbl_commands.specs.declared.answer.Answer.{Answer}

@@ -1,7 +1,7 @@
 -- A history of a run stays one of its group.
 use Rattle.fbl_trace.specs.declared.trace.Note.{Note}
 use Rattle.fbl_play.proofs.Common.{◌≡◌, ℕ, List, [], ◌∷◌, ◌++◌, inl, inr, None, Ok, Err, Option, Result, Some, sym, subst, ap, ◌∙◌, ∥∥₁_map, Answer, Column, Command, GroupRecord, IsSound, Members, Next, Settings, Strike}
-use Rattle.fbl_play.proofs.Common.{DrainRefusal, IsAdded, IsBegun, IsGroupStart, IsHistoryOf, IsLedOn, IsLedTo, IsOfGroup, Recorded, RecordedDrains, SendsWell, Step, Transcript, begins_at_start, follows_checkpoint}
+use Rattle.fbl_play.proofs.Common.{DrainRefusal, IsAdded, IsBegun, IsGroupStart, IsHistoryOf, IsLedOn, IsLedTo, IsOfGroup, Recorded, RecordedDrains, turns_each, SendsWell, Step, Transcript, begins_at_start, follows_checkpoint}
 use Rattle.fbl_play.proofs.Common.{follows_delivery, follows_recovery, follows_strike, history_led, turns_lead}
 use Rattle.fbl_answers.specs.declared.refusals.CheckpointRefusal.{CheckpointRefusal}
 use Rattle.fbl_answers.specs.declared.refusals.DeliverRefusal.{DeliverRefusal}
@@ -29,7 +29,7 @@ begun_told next config r _ _ start is = absurd is
 
 module _ (next : Next ℕ Note) (workers : ℕ) (old new : GroupRecord ℕ Note) where
   -- the turns of a run lead from the group before it
-  run-led : (plan : List Strike) (drained : Result (Recorded ℕ Note) DrainRefusal) (recorded : Recorded ℕ Note) (made undone a b c d : ℕ) → RecordedDrains next workers plan old new drained
+  run-led : (plan : List Strike) (drained : Result (Recorded ℕ Note) DrainRefusal) (recorded : Recorded ℕ Note) (made undone a b c d : ℕ) → RecordedDrains next workers turns_each plan old new drained
       → IsRunAnswer plan made undone new drained (answers.Run recorded a b c d) → (columns : List Column) → IsSound next old → IsHistoryOf next old columns → ∥ IsLedTo next columns recorded.turns.items new ∥₁
   run-led plan (Ok given) recorded made undone a b c d drains is columns sound told =
       let same : recorded ≡ given = (let both : answers.Run recorded a b c d ≡ answers.Run given made new.receipts_ever undone new.undone_ever = is.1 in cc) in
@@ -98,7 +98,7 @@ module _ (next : Next ℕ Note) (workers : ℕ) (old new : GroupRecord ℕ Note)
     recovered (answers.Recovery members counts undone) (is, recovers, _) goes = follows_recovery next old new members columns after sound recovers.recovery goes told
     recovered _ is goes = absurd is
 
-    run : (plan : List Strike) (drained : Result (Recorded ℕ Note) DrainRefusal) (answer : Answer) → RecordedDrains next workers plan old new drained
+    run : (plan : List Strike) (drained : Result (Recorded ℕ Note) DrainRefusal) (answer : Answer) → RecordedDrains next workers turns_each plan old new drained
         → IsRunAnswer plan old.receipts_ever old.undone_ever new drained answer → GoesOn next new answer columns after → IsHistoryOf next new after
     run plan (Ok given) answer drains (memory, is) goes =
         let led : ∥ IsLedTo next columns given.turns.items new ∥₁ =

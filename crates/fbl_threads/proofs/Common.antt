@@ -10,6 +10,6 @@ pub use Rattle.fbl_answers.specs.declared.record.TurnRecord.{TurnRecord}
 pub use Rattle.fbl_trace.specs.declared.ticket.Ticket.{Ticket}
 pub use Rattle.fbl_turns.proofs.Keeping.{kept, sum-more}
 pub use Rattle.fbl_turns.proofs.Kept.{kept_by_some, still}
-pub use Rattle.fbl_turns.proofs.Recording.{forgets, listed, some_run}
+pub use Rattle.fbl_turns.proofs.Recording.{forgets, kept_if, listed, opens, some_run}
 pub use Rattle.fbl_threads.specs.Crossing.{StrikesAsPlanned, planned_at, struck_in, struck_on}
 pub use Rattle.fbl_turns.specs.Recorded.{ReachedBy, TellsCounts, crash_undid, made_by, undone_in, undone_of}

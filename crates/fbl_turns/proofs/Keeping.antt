@@ -104,6 +104,19 @@ module _ {S N : Type 0} where
   one_turn {w = w} start old new before after below (strikes between _ s commit at strike) k = struck strike.1.1.0 (delivered w below commit.1.1.2.delivery k)
   one_turn start old new before after below refused k = k
 
+  -- a turn makes one receipt at most
+  pub one_at_most : {next : Next S N} {plan : List Strike} {w : ℕ} {ticket : Ticket S N} {old new : GroupRecord S N} {before after : Counts} {ends : Bool}
+      → Turn next plan w ticket old before new after ends → (old.receipts_ever ≤ new.receipts_ever) × (new.receipts_ever ≤ old.receipts_ever + 1)
+  one_at_most (commits _ commit none) = let d = commit.1.1.2.delivery.receipts_ever in (omega (arith, d), omega (arith, d))
+  one_at_most (crashes between _ s back commit at crash) =
+      let d = commit.1.1.2.delivery.receipts_ever in
+      let struck = crash.1.1.1.0.receipts_ever in
+      let recovered = crash.1.1.2.recovery.rest.receipts_ever in (omega (arith, d, struck, recovered), omega (arith, d, struck, recovered))
+  one_at_most (strikes between _ s commit at strike) =
+      let d = commit.1.1.2.delivery.receipts_ever in
+      let struck = strike.1.1.0.receipts_ever in (omega (arith, d, struck), omega (arith, d, struck))
+  one_at_most refused = (omega arith, omega arith)
+
   pub kept : TurnsKeep S N
   kept next plan workers start new counts starts = record {
     config = refl;

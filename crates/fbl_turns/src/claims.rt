@@ -104,8 +104,8 @@ impl<A: Allocator> Model for Claims<A> {
     ghost invariant = { λ c. (c.table.shared.key ≡ c.table.shared.table_id.words) × (2 ≤ c.table.shared.table_id.words) × (c.table.shared.table_id.words ≤ 16) };
 }
 
-/// A seat whose view holds no member, of the claims that contracts see.
-#[derive(Drop)]
+/// A seat whose view holds no member, of the claims that contracts see. It is not dropped: it is joined to another, and the last
+/// one goes with its claims (`Claims::close`).
 pub struct Pass {
     seat: Seat<(), View>,
 }
@@ -168,6 +168,13 @@ impl<A: Allocator> Claims<A> {
         Pass { seat }
     }
 
+    /// Takes the last pass, which all others have been joined to. It is one of these claims.
+    pub fn close(self, pass: Pass)
+        requires { pass ≡ self }
+    {
+        pass.abandon();
+    }
+
     /// Claims the member where its word is 0, which one compare-exchange decides. Else the pass comes back. The pass is one of
     /// these claims, and the member has a word there.
     pub fn try_claim(&self, pass: Pass, member: Member) -> Result<Claim, Pass>
@@ -214,6 +221,13 @@ impl<A: Allocator> Claims<A> {
             self.table.shared.load::<Look>(&mut one.seat, 0);
             unreachable!()
         }
+    }
+}
+
+impl Pass {
+    /// Nobody uses the pass any more.
+    pub(crate) fn abandon(self) {
+        let Pass { seat: _ } = self;
     }
 }
 

@@ -1,6 +1,6 @@
 //! What workers have done.
 
-ghost use Rattle.std.specs.Prelude.{◌≡◌, ◌+◌, ◌^◌, ◌<◌, ◌≤◌, slice_index};
+ghost use Rattle.std.specs.Prelude.{◌≡◌, ◌+◌, ◌^◌, ◌<◌, ◌≤◌, true, slice_index};
 ghost use Rattle.std.proofs.Math.ListN.{replicate};
 ghost use Rattle.arrayvec.specs.ArrayVec.{array_vec_len};
 ghost use Rattle.fbl_turns.specs.Counted.{counts_of};
@@ -15,7 +15,8 @@ pub struct Drained {
     pub by_worker: ArrayVec<u64, 8>,
     /// How many receipts were undone by the recoveries that each worker ran.
     pub undone_by_worker: ArrayVec<u64, 8>,
-    /// How many workers were started. One for which no thread can be had takes no turn.
+    /// How many workers were started. One for which no thread can be had takes no turn. Where nothing was in flight none is needed,
+    /// and all count as started.
     pub started: u8,
     /// Whether nothing is in flight and nobody is down in the group that comes back.
     pub quiet: bool,
@@ -26,6 +27,19 @@ pub struct Drained {
 }
 
 impl Drained {
+    /// What this many workers do where nothing is in flight.
+    pub fn of_nothing(workers: u8) -> Drained
+        requires { workers ≤ 8 }
+        ensures counts { counts_of result ≡ nothing_done workers }
+        ensures rest { (result.started ≡ workers) × (result.quiet ≡ true) }
+    {
+        Drained {
+            started: workers,
+            quiet: true,
+            ..Drained::nothing(workers)
+        }
+    }
+
     /// Nothing yet, of this many workers.
     pub(crate) fn nothing(workers: u8) -> Drained
         requires { workers ≤ 8 }

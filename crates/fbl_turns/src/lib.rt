@@ -4,10 +4,11 @@
 mod claims;
 mod counted;
 mod counted_group;
+mod joined;
 mod origin;
 mod plan;
 mod recorder;
-mod returned;
+mod worker;
 
 pub use claims::{
     Claim, ClaimRefusal, Claims, Exclusive, Gain, GiveBack, Nothing, Pass, one_holder,
@@ -15,6 +16,7 @@ pub use claims::{
 };
 pub use counted::Drained;
 pub use counted_group::CountedGroup;
+pub use joined::{Joined, Unstarted};
 pub use origin::{Origin, Workers};
 pub use recorder::{Records, no_records};
-pub use returned::{Joined, Returned};
+pub use worker::{Claiming, Ended, Idle, Taken};

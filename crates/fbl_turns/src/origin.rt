@@ -1,13 +1,17 @@
 //! Where a drain begins, under which plan, and which workers it has.
 
 use std::marker::Brand;
+use std::sync::ledger::Ledger;
 
-/// How many workers a drain has, and which claims their passes are of. Each call picks them.
-pub trait Workers {
+/// How many workers a drain has, how many turns each may take, and which claims their passes are of. Each call picks them. The
+/// ledger counts the drain's receipts, and has a part for each worker.
+pub trait Workers: Ledger {
     ghost use Rattle.std.specs.Prelude.{ℕ};
     ghost use Rattle.atomic_table.specs.Seated.{TableId};
 
     ghost workers: { ℕ };
+
+    ghost turns: { ℕ };
 
     ghost claims: { TableId };
 }
@@ -16,6 +20,8 @@ impl Workers for Brand {
     ghost use Rattle.fbl_turns.specs.Origins.{no_claims};
 
     ghost workers = { 0 };
+
+    ghost turns = { 0 };
 
     ghost claims = { no_claims };
 }

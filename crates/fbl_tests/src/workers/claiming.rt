@@ -36,13 +36,16 @@ fn a_member_is_claimed_by_one_pass_at_a_time(rt: HostRuntime) -> Result<(), Fail
         Err(_) => panic!(rt; "member 2 is free again"),
     };
     let a = claims.release(a_has_two);
-    drop(claims.join(a, b));
+    let last = claims.join(a, b);
+    claims.close(last);
     Ok(())
 }
 
 /// The gate refuses each request in turn.
 #[test]
 fn without_memory(rt: HostRuntime) {
-    let made = Claims::new(rt.alloc(), 3);
-    assert!(rt; made.is_ok() || matches!(made, Err(ClaimRefusal::Memory)));
+    match Claims::new(rt.alloc(), 3) {
+        Ok((claims, pass)) => claims.close(pass),
+        Err(refusal) => assert!(rt; refusal == ClaimRefusal::Memory),
+    }
 }

@@ -12,11 +12,11 @@ returns-clause-step g c =
     )) c.run_answer-answer.ensures.step
 
 -- a refused plan has a bad entry, and the group is as it was
-plan_refused : (next : Next ℕ Note) (workers : ℕ) (plan : List Strike) (old new : GroupRecord ℕ Note) (drained : Result (Recorded ℕ Note) DrainRefusal)
-    → RecordedDrains next workers plan old new drained → IfErr drained (IsPlanRefused plan new.config)
-plan_refused next workers plan old new (Ok drained) h = tt
-plan_refused next workers plan old new (Err (drain.BadPlan place)) h = rw h.1.1 h.1.0.1
-plan_refused next workers plan old new (Err refusal) h = tt
+plan_refused : (next : Next ℕ Note) (workers turns : ℕ) (plan : List Strike) (old new : GroupRecord ℕ Note) (drained : Result (Recorded ℕ Note) DrainRefusal)
+    → RecordedDrains next workers turns plan old new drained → IfErr drained (IsPlanRefused plan new.config)
+plan_refused next workers turns plan old new (Ok drained) h = tt
+plan_refused next workers turns plan old new (Err (drain.BadPlan place)) h = rw h.1.1 h.1.0.1
+plan_refused next workers turns plan old new (Err refusal) h = tt
 
 pub run_answer-answer-requires : goal.run_answer-answer-requires
-run_answer-answer-requires g c = plan_refused g.B.Behaviour.next c.args.workers _ c.args.group c.drain_recorded-group.result.0 c.drain_recorded-group.result.1 c.drain_recorded-group.ensures
+run_answer-answer-requires g c = plan_refused g.B.Behaviour.next c.args.workers _ _ c.args.group c.drain_recorded-group.result.0 c.drain_recorded-group.result.1 c.drain_recorded-group.ensures

@@ -1,4 +1,4 @@
 use Rattle.fbl_threads.proofs.scope.+run_workers.Given as goal
 
 abbrev pub decreases-run_workers : goal.decreases-run_workers
-decreases-run_workers g l = l.workers
+decreases-run_workers g l = l.unstarted.workers
