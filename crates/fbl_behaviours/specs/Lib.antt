@@ -1,4 +1,5 @@
 pub mod Accounts
 pub mod Commands
+pub mod Commits
 pub mod Elections
 pub mod Shards

@@ -5,9 +5,11 @@
 mod account;
 mod candidate;
 mod command;
+mod party;
 mod shard;
 
 pub use account::Account;
 pub use candidate::{Candidate, Standing};
 pub use command::Command;
+pub use party::{Party, Stand, Word};
 pub use shard::Shard;

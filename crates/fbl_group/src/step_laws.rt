@@ -1,12 +1,14 @@
 //! What the laws of a behaviour's step say of a group. Each of these calls does nothing but promise.
 
 ghost use Rattle.fbl_law.specs.StepLaws.{HoldsOf, WeighsNoMore, WeighsNoLess, WeighsTheSame};
+ghost use Rattle.fbl_plain.specs.Plain.{IsUpheld};
 
 use crate::group::Group;
 use fbl_law::step_laws::{
     Conserving, Keeping, LosingNone, MakingNone, conserved_law, kept_law, none_lost_law,
     none_made_law,
 };
+use fbl_plain::{Upholding, upheld_law};
 use std::alloc::Allocator;
 
 impl<B: Conserving, A: Allocator + Copy> Group<B, A> {
@@ -47,5 +49,16 @@ impl<B: LosingNone, A: Allocator + Copy> Group<B, A> {
     {
         self.recoverable();
         none_lost_law::<B>();
+    }
+}
+
+impl<B: Upholding, A: Allocator + Copy> Group<B, A> {
+    /// The law of plain networks holds of the states and of what is in flight where nobody is down, and whoever is down of a plain
+    /// group that has the same survivors, with the same in flight between them.
+    pub fn upheld(&self)
+        ensures { IsUpheld self.now (B.law self.now.config) }
+    {
+        self.recoverable();
+        upheld_law::<B>();
     }
 }

@@ -3,7 +3,7 @@ use Rattle.fbl_law.proofs.Common.{◌≡◌, ℕ, zero, suc, ◌+◌, ◌<◌, �
 use Rattle.fbl_law.proofs.Common.{filter, filter_map, nat_tests, append-nil, append_assoc, filter_map-append, map-append, length-append, take-append-drop, cases_eq, false, Bool, IsFold, after_notes, received_notes, last_taken, ◌≢◌, slice_get-map, option_map, map-At, eqb-self}
 use Rattle.fbl_law.proofs.Common.{Start, Event, Mark, mark_of, member_of, Next, Action, took, sent, Lawful, MayFollow, WellFormed, sends_of, sends-step, step_events, start_of, starts_of}
 use Rattle.fbl_law.proofs.Common.{action_of, actions_of, notes_of, notes_of-sent, note_of, note_of-front, responses, receipts-noted, length-filter_map, length-take, in_flight, Send, Receipt, start_events}
-use Rattle.fbl_law.proofs.Common.{Message, MemberRecord, GroupRecord, Settings, IsConfig, IsSound, IsUp, knowledge, marks, member, channel, progress_of, send_mark, delivery_events, step_of, SendsWell, IsDelivery}
+use Rattle.fbl_law.proofs.Common.{Message, MemberRecord, GroupRecord, Settings, IsConfig, IsSound, IsUp, knowledge, marks, member, blank, cases_lt, get_or_past, channel, progress_of, send_mark, delivery_events, step_of, SendsWell, IsDelivery}
 use Rattle.fbl_law.proofs.Common.{OfRecovery, no_step, delivers, cases_Bool, Stays, UpTo, one_place, receipt_of, ◌↔◌}
 use Rattle.std.specs.FinSet as set
 use Rattle.std.proofs.lemmas.List.{append_cancel_left}
@@ -190,11 +190,11 @@ module _ {S N : Type 0} (next : Next S N) (well : SendsWell next) (g : GroupReco
 module _ {S N : Type 0} (next : Next S N) (well : SendsWell next) (c : Settings N) (is : IsConfig next.allowed c)
     (t : List (Event N)) (lawful : Lawful next c.members c.starts t) (fits : length t ≤ c.limit) where
   -- a run by deliveries alone makes the trace
-  abbrev pub IsMade : Type 0
-  IsMade = (g : GroupRecord S N) × CrashFree next c g × (g.trace ≡ t)
+  abbrev pub IsMade : S → Type 0
+  IsMade outside = (g : GroupRecord S N) × CrashFree next c g × (g.trace ≡ t) × (g.outside ≡ outside)
 
-  along : (k : ℕ) (rest : List (Event N)) (g : GroupRecord S N) → length rest ≤ k → CrashFree next c g → t ≡ g.trace ++ rest → InTurns None rest → IsMade
-  along k [] g few run split turns = (g, run, sym (split ∙ append-nil g.trace))
+  along : (k : ℕ) (rest : List (Event N)) (g : GroupRecord S N) → length rest ≤ k → CrashFree next c g → t ≡ g.trace ++ rest → InTurns None rest → IsMade g.outside
+  along k [] g few run split turns = (g, run, sym (split ∙ append-nil g.trace), refl)
   along k (event.Send q ssn p x ∷ rest) g few run split turns = absurd cc
   along zero (event.Receipt p rsn q s ∷ rest) g few run split turns = absurd (omega arith)
   along (suc k) (event.Receipt p rsn q s ∷ rest) g few run split turns =
@@ -216,7 +216,7 @@ module _ {S N : Type 0} (next : Next S N) (well : SendsWell next) (c : Settings 
       let more = moves next well g sound nobody t its_lawful its_room v rsn rest its_split its_turns its_front in
       along k more.1.0 (delivered next g v) (omega (arith, more.1.3, few)) (goes_on run more.0) more.1.1 more.1.2
 
-  pub lawful_is_made : S → IsMade
+  pub lawful_is_made : (outside : S) → IsMade outside
   lawful_is_made outside =
       let begins_so : take (length c.starts) t ≡ start_events [] c.starts = starts_are c.members [] c.starts t lawful.well_formed lawful.starts_first in
       along (length (drop (length c.starts) t)) (drop (length c.starts) t) (started next outside c) (omega arith) (begins (started_is next outside c is))
@@ -250,19 +250,25 @@ module _ {S N : Type 0} where
   same_records x y far last = ap (λ p. record_of p x.last []) far ∙ ap (λ l. record_of (progress_of y) l []) last
 
   -- sound groups of one configuration with one trace, in the second of which nobody is down
-  pub same_looks : (next : Next S N) (r other : GroupRecord S N) → IsSound next r → IsSound next other → other.config ≡ r.config → other.down ≡ set.empty → other.trace ≡ r.trace → LooksLike r other
-  same_looks next r other sound its_sound config nobody trace = record { config = sym config; trace = sym trace; members = members; channels = channels } where
+  pub same_looks : (next : Next S N) (r other : GroupRecord S N) → IsSound next r → IsSound next other → other.config ≡ r.config → other.down ≡ set.empty → other.trace ≡ r.trace → other.outside ≡ r.outside → LooksLike r other
+  same_looks next r other sound its_sound config nobody trace outside = record { config = sym config; trace = sym trace; members = members; channels = channels } where
     up : (m : ℕ) → IsUp (knowledge other) m
     up = up_if_none nobody
 
-    members : (m : ℕ) → m < r.config.members → IsUp (knowledge r) m → without_table (member r m) ≡ without_table (member other m)
-    members m below up_m =
+    among : (m : ℕ) → m < r.config.members → IsUp (knowledge r) m → without_table (member r m) ≡ without_table (member other m)
+    among m below up_m =
         let of_r = sound.folds m below up_m in
         let of_other : IsFold next other m = its_sound.folds m (rw config below) (up m) in
         let far : progress_of (member other m) ≡ after_notes next m r.config.members r.config.starts (received_notes r.trace m) = rw (config, trace) at of_other.progress in
         same_records (member r m) (member other m) (of_r.progress ∙ sym far)
         (same_number_lists (member r m).last (member other m).last (of_r.places ∙ sym of_other.places)
         (λ q within. (let few : q < 16 = omega (arith, within, of_r.places) in of_r.last q few ∙ ap (λ (u : List (Event N)). last_taken (map mark_of u) q m) (sym trace) ∙ sym (of_other.last q few))))
+
+    members : (m : ℕ) → IsUp (knowledge r) m → without_table (member r m) ≡ without_table (member other m)
+    members m up_m = elim (cases_lt m r.config.members) [
+      | inl below ↦ among m below up_m
+      | inr past ↦ rw (get_or_past r.members m (blank r.outside) (omega (arith, sound.members, past)), get_or_past other.members m (blank other.outside) (omega (arith, its_sound.members, ap (λ c. c.members) config, past)), outside) refl
+    ]
 
     channels : (q p : ℕ) → IsUp (knowledge r) q → IsUp (knowledge r) p → map without_carried (channel r q p) ≡ map without_carried (channel other q p)
     channels q p up_q up_p =
@@ -278,7 +284,7 @@ crashes_are_masked S N next r well sound =
     record {
       other = made.0;
       run = run;
-      looks = same_looks next r made.0 sound (free_sound next well sound.config run) (free_config next well sound.config run) (free_nobody next well sound.config run) made.2;
+      looks = same_looks next r made.0 sound (free_sound next well sound.config run) (free_config next well sound.config run) (free_nobody next well sound.config run) made.2 made.3;
     }
 
 pub crash_free_is_run : (S N : Type 0) → CrashFreeIsRun S N

@@ -94,10 +94,10 @@ module _ {S N : Type 0} (next : Next S N) (old new : GroupRecord S N) (v : Messa
   marks_split : marks new ≡ marks old ++ map mark_of added
   marks_split = rw s.trace (map-append mark_of old.trace added)
 
-  receiver_now : member new v.to ≡ receiver next old v
+  pub receiver_now : member new v.to ≡ receiver next old v
   receiver_now = rw s.members (get_or-set_same old.members v.to (receiver next old v) (blank new.outside) (omega (arith, s.to_member, sound.members)))
 
-  other_now : (m : ℕ) → m ≢ v.to → member new m ≡ member old m
+  pub other_now : (m : ℕ) → m ≢ v.to → member new m ≡ member old m
   other_now m other = rw (s.members, s.outside) (get_or-set_other old.members v.to m (receiver next old v) (blank old.outside) other)
 
   abbrev own : Determinant
@@ -256,7 +256,7 @@ module _ {S N : Type 0} (next : Next S N) (old new : GroupRecord S N) (v : Messa
   knows : IsSoundKnowledge n f (knowledge new)
   knows = sound_after keeps sound.causes good (λ m. checkpoint_kept keeps sound.causes m (rw (s.checkpoints, s.outside) refl))
 
-  receipts_now : receipts (marks new) ≡ receipts (marks old) ++ own ∷ []
+  pub receipts_now : receipts (marks new) ≡ receipts (marks old) ++ own ∷ []
   receipts_now = rw (marks_split, filter_map-append determinant_of (marks old) (map mark_of added), no_receipts v.to (length was.log) sends) refl
 
   -- who has replayed its first receipts of the trace before has replayed them of the new one

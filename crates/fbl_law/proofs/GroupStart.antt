@@ -23,7 +23,7 @@ module _ {N : Type 0} where
   send_of done s = event.Send s.from (sends_of (map mark_of done) s.from + 1) s.to s.note
 
   -- what a map that drops receipts gives of the starts' events
-  starts_given : {Y : Type 0} (g : Event N → Option Y) (h : Start N → Option Y) → ((s : Start N) (k : ℕ) → g (event.Send s.from k s.to s.note) ≡ h s)
+  pub starts_given : {Y : Type 0} (g : Event N → Option Y) (h : Start N → Option Y) → ((s : Start N) (k : ℕ) → g (event.Send s.from k s.to s.note) ≡ h s)
       → (done : List (Event N)) (ss : List (Start N)) → filter_map g (start_events done ss) ≡ filter_map g done ++ filter_map h ss
   starts_given g h is done [] = sym (append-nil (filter_map g done))
   starts_given g h is done (s ∷ ss) = search (arith, filter_map-append, append_assoc, starts_given g h is (done ++ send_of done s ∷ []) ss)
@@ -33,7 +33,7 @@ module _ {N : Type 0} where
   filter_map-all (s ∷ ss) = ap (λ ys. s ∷ ys) (filter_map-all ss)
 
   -- the starts are no receipts
-  no_receipts : (done : List (Event N)) (ss : List (Start N)) → receipts (map mark_of (start_events done ss)) ≡ receipts (map mark_of done)
+  pub no_receipts : (done : List (Event N)) (ss : List (Start N)) → receipts (map mark_of (start_events done ss)) ≡ receipts (map mark_of done)
   no_receipts done [] = refl
   no_receipts done (s ∷ ss) = no_receipts (done ++ send_of done s ∷ []) ss ∙ rw (map-append, filter_map-append, append-nil) refl
 

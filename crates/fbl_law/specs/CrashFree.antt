@@ -1,7 +1,7 @@
 -- Crash transparency: whatever was struck and recovered, a group looks as it would after a run in which nobody crashed. That a
 -- system's state is consistent where it may occur in a failure-free run is the intuition of Elnozahy and others (2002); here there
 -- is such a run.
-use Rattle.std.specs.Prelude.{◌≡◌, ℕ, ◌<◌, ◌==◌, List, [], ◌++◌, map}
+use Rattle.std.specs.Prelude.{◌≡◌, ℕ, ◌==◌, List, [], ◌++◌, map}
 use Rattle.std.specs.List.{filter}
 use Rattle.fbl_trace.specs.declared.trace.Event.{Event}
 use Rattle.fbl_trace.specs.Configs.{Settings}
@@ -33,7 +33,7 @@ without_carried v = record v { carried = [] }
 pub record LooksLike {S N : Type 0} (r other : GroupRecord S N) : Type 0 where
   pub config : r.config ≡ other.config
   pub trace : r.trace ≡ other.trace
-  pub members : (m : ℕ) → m < r.config.members → IsUp (knowledge r) m → without_table (member r m) ≡ without_table (member other m)
+  pub members : (m : ℕ) → IsUp (knowledge r) m → without_table (member r m) ≡ without_table (member other m)
   pub channels : (q p : ℕ) → IsUp (knowledge r) q → IsUp (knowledge r) p → map without_carried (channel r q p) ≡ map without_carried (channel other q p)
 
 -- the group looks as after a run in which nobody crashed: such a run leads from a start of the same configuration to a group that
