@@ -143,7 +143,7 @@ module _ {S N : Type 0} (next : Next S N) (old new other : GroupRecord S N) (sou
   outside = another.rest.outside ∙ sym one.rest.outside
 
   looks : LooksLike new other
-  looks = same_looks next new other (group_recovery_keeps next old new one sound) (group_recovery_keeps next old other another sound) config another.rest.nobody_down trace
+  looks = same_looks next new other (group_recovery_keeps next old new one sound) (group_recovery_keeps next old other another sound) config another.rest.nobody_down trace outside
 
   up : (m : ℕ) → IsUp (knowledge new) m
   up = up_if_none one.rest.nobody_down
@@ -152,7 +152,7 @@ module _ {S N : Type 0} (next : Next S N) (old new other : GroupRecord S N) (sou
   same_member m below = elim (down_or_up old.down m) [
     | inr was_up ↦ another.rest.survivors m was_up ∙ sym (one.rest.survivors m was_up)
     | inl down ↦
-        let but = looks.members m (rw one.rest.config below) (up m) in
+        let but = looks.members m (up m) in
         let table = another.gathered m below down ∙ sym (one.gathered m below down) in
         λ i. record (sym but i) { table = table i }
   ]
