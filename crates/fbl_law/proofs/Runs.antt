@@ -8,10 +8,10 @@ use Rattle.fbl_law.proofs.GroupDelivery.{group_delivery_keeps, delivery_keeps_st
 use Rattle.fbl_law.proofs.GroupRecovery.{group_recovery_keeps}
 use Rattle.fbl_law.proofs.Keeping.{group_strike_keeps, group_checkpoint_keeps, strike_keeps_stable, checkpoint_keeps_stable, was_up}
 use Rattle.fbl_law.proofs.Recovery.{recovery_keeps_stable}
-use Rattle.fbl_law.proofs.Safe.{down_or_both_up, down_or_up, Has-recorded, Names-held, up_if_named}
+use Rattle.fbl_law.proofs.Safe.{down_or_both_up, down_or_up, Has-recorded, held-Names, Names-held, never_both, up_if_named, up_if_none}
 use Rattle.fbl_law.proofs.OneRecovery.{same_channels}
 use Rattle.std.proofs.lemmas.List.{ext_get_or}
-use Rattle.fbl_law.proofs.Common.{blank, channel, inr, IsStrike, sym}
+use Rattle.fbl_law.proofs.Common.{blank, channel, inr, IsHeldBy, IsHolder, IsStrike, sym}
 use Rattle.fbl_trace.proofs.Common.{nat_cmp_total, same_from_contains}
 
 module _ {S N : Type 0} where
@@ -52,8 +52,13 @@ held_by_more_stays S N next old new d well sound held run =
           let named = Names-held (member old m).table d (held.2 m among) in
           inl (up_if_named old.config.f (knowledge old) sound.causes.down m d named, named),
     ) in
-    Has-recorded (knowledge new) (run_keeps next old new well sound run).causes.truth d
-    (stable-recorded new.config.f (knowledge new) d (stable_kept next old new d well sound stable run))
+    let kept = stable_kept next old new d well sound stable run in
+    let recorded = stable-recorded new.config.f (knowledge new) d kept in
+    (Has-recorded (knowledge new) (run_keeps next old new well sound run).causes.truth d recorded, λ nobody. (kept.0, kept.1, λ m among. still m nobody (kept.2 m among)))
+  where
+    still : (m : ℕ) → new.down ≡ set.empty → IsHolder (knowledge new) d m → IsHeldBy new d m
+    still m nobody (inl holds) = held-Names (member new m).table d holds.1
+    still m nobody (inr down) = never_both new.down m down.0 (up_if_none nobody m)
 
 pub strikes_join : (S N : Type 0) → StrikesJoin S N
 strikes_join S N next old between new some others first second = record {

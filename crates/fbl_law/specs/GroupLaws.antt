@@ -66,11 +66,12 @@ Run {S} {N} next config r = (first : GroupRecord S N) × IsGroupStart next confi
 abbrev pub RunIsSound : Type 0 → Type 0 → Type 0
 RunIsSound S N = (next : Next S N) (config : Settings N) (r : GroupRecord S N) → SendsWell next → IsConfig next.allowed config → Run next config r → IsSound next r
 
--- a receipt that more than f members hold is never undone, whatever is struck, recovered and delivered later
+-- a receipt that more than f members hold is never undone, whatever is struck, recovered and delivered later; and whenever nobody is
+-- down, more than f members hold it
 abbrev pub HeldByMoreStays : Type 0 → Type 0 → Type 0
 HeldByMoreStays S N =
     (next : Next S N) (old new : GroupRecord S N) (d : Determinant)
-    → SendsWell next → IsSound next old → IsHeldByMore old d → RunFrom next old new → Has (marks new) (receipt_of d)
+    → SendsWell next → IsSound next old → IsHeldByMore old d → RunFrom next old new → Has (marks new) (receipt_of d) × (new.down ≡ set.empty → IsHeldByMore new d)
 
 -- a strike of some members and then of others is a strike of both
 abbrev pub StrikesJoin : Type 0 → Type 0 → Type 0
