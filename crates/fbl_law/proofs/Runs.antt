@@ -1,6 +1,6 @@
 -- What a run keeps, and strikes one after the other.
 use Rattle.fbl_law.proofs.Common.{◌≡◌, ℕ, inl, arith, ap, ◌∙◌, Determinant, Next, Members, SendsWell, GroupRecord, Knowledge, knowledge, IsSound}
-use Rattle.fbl_law.proofs.Common.{IsUp, IsStable, RunFrom, RunIsSound, checkpoints, delivers, no_step, recovers, strikes, some_member, IsRecorded, member}
+use Rattle.fbl_law.proofs.Common.{IsUp, IsStable, RunFrom, RunIsSound, checkpoints, delivers, starts, recovers, strikes, some_member, IsRecorded, member}
 use Rattle.fbl_law.specs.GroupLaws.{HeldByMoreStays, StrikeIsOne, StrikesJoin}
 use Rattle.std.specs.FinSet as set
 use Rattle.fbl_law.proofs.GroupStart.{group_start_is_sound}
@@ -17,7 +17,7 @@ use Rattle.fbl_trace.proofs.Common.{nat_cmp_total, same_from_contains}
 module _ {S N : Type 0} where
   -- what every run keeps
   run_keeps : (next : Next S N) (first r : GroupRecord S N) → SendsWell next → IsSound next first → RunFrom next first r → IsSound next r
-  run_keeps next first r well sound no_step = sound
+  run_keeps next first r well sound starts = sound
   run_keeps next first r well sound (delivers {old = old} {v = v} run s) = group_delivery_keeps next old r v well s (run_keeps next first old well sound run)
   run_keeps next first r well sound (strikes {old = old} {struck = struck} run s within few) = group_strike_keeps next old r struck s within few (run_keeps next first old well sound run)
   run_keeps next first r well sound (checkpoints {old = old} {p = p} run s) = group_checkpoint_keeps S N next old r p s (run_keeps next first old well sound run)
@@ -29,7 +29,7 @@ module _ {S N : Type 0} where
   -- a receipt with more than f holders keeps as many
   stable_kept : (next : Next S N) (first r : GroupRecord S N) (d : Determinant) → SendsWell next → IsSound next first → IsStable first.config.f (knowledge first) d → RunFrom next first r
       → IsStable r.config.f (knowledge r) d
-  stable_kept next first r d well sound stable no_step = stable
+  stable_kept next first r d well sound stable starts = stable
   stable_kept next first r d well sound stable (delivers {old = old} {v = v} run s) =
       rw s.config (delivery_keeps_stable next old r v well s (run_keeps next first old well sound run) d (stable_kept next first old d well sound stable run))
   stable_kept next first r d well sound stable (strikes {old = old} {struck = struck} run s within few) =

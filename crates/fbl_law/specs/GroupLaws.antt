@@ -51,7 +51,7 @@ GroupRecoveryKeeps S N =
 
 -- a run from one group to another: of deliveries, of strikes after which at most f members are down, of checkpoints, and of recoveries
 pub data RunFrom {S N : Type 0} (next : Next S N) (first : GroupRecord S N) : GroupRecord S N → Type 0 where
-  no_step : RunFrom next first first
+  starts : RunFrom next first first
   delivers : {old new : GroupRecord S N} {v : Message N} → RunFrom next first old → IsDelivery next old new v → RunFrom next first new
   strikes : {old new : GroupRecord S N} {struck : Members}
       → RunFrom next first old → IsStrike next old new struck → AllBelow struck old.config.members → set.len new.down ≤ old.config.f → RunFrom next first new
