@@ -92,8 +92,9 @@ impl<B: Behaviour, A: Allocator + Copy> Group<B, A> {
     }
 
     /// The theorem, of every group between two calls: where nobody is down, each receipt of the trace is held by more than f members
-    /// or by every member whose state depends on it, and whoever is struck then, nobody is an orphan. Does nothing but promise it,
-    /// and that the group is sound.
+    /// or by every member whose state depends on it; whoever is struck then, nobody is an orphan, and there is exactly one recovery,
+    /// which leaves the survivors untouched and puts each other member at the fold of its recorded receipts. Does nothing but
+    /// promise it, and that the group is sound.
     pub fn recoverable(&self)
         ensures sound { IsSound B.next self.now }
         ensures theorem { IsRecoverable B.next self.now }

@@ -47,7 +47,7 @@ pub use Rattle.fbl_table.proofs.Adding.{added_new, fold_next, held-carried, held
 pub use Rattle.fbl_table.specs.Tables.{found, gathered, held_by, is_held, is_of_receipt, learned, noted, piggybacked}
 pub use Rattle.fbl_table.specs.declared.entry.Entry.{Entry}
 pub use Rattle.fbl_law.specs.Promises.{dump_of, held_pairs, pairs_from, pairs_of, GainsHolders, HoldsEachReceipt, IsHeldBy, LeavesRecorded, RecordsCauses, RecordsFirst, SurvivorsHold}
-pub use Rattle.fbl_law.specs.GroupLaws.{CheckpointIsRecorded, GainsTheDown, GroupCheckpointKeeps, OfRecovery, RecordedTest, RunIsSound, RunFrom, StaysIsRecorded, checkpoints, delivers, no_step, recovers, strikes}
+pub use Rattle.fbl_law.specs.GroupLaws.{CheckpointIsRecorded, GainsTheDown, GroupCheckpointKeeps, OfRecovery, RecordedTest, RunFrom, RunIsSound, StaysIsRecorded, checkpoints, delivers, recovers, starts, strikes}
 pub use Rattle.fbl_law.specs.GroupSteps.{IsCheckpoint, IsDelivery, IsGroupStart, IsMadeAgain, IsRecovery, IsStrike, delivery_events, made, message_of_send, receiver, start_events, step_of, IsEventCut}
 pub use Rattle.fbl_law.specs.GroupSteps.{Stays, UpTo, between, gathered_all, is_on, recovery_table, saved_tables, taken_off, IsNextReplay, IsRebuilt, IsReplaying, IsWaiting, count_in, before_lost}
 pub use Rattle.fbl_law.specs.GroupSteps.{is_lost, is_replayed, recovered_trace, replayed_in, resent, resent_to, sent_again, stays_by, stays_in, working}

@@ -4,7 +4,7 @@ use Rattle.fbl_law.proofs.Common.{filter, filter_map, nat_tests, append-nil, app
 use Rattle.fbl_law.proofs.Common.{Start, Event, Mark, mark_of, member_of, Next, Action, took, sent, Lawful, MayFollow, WellFormed, sends_of, sends-step, step_events, start_of, starts_of}
 use Rattle.fbl_law.proofs.Common.{action_of, actions_of, notes_of, notes_of-sent, note_of, note_of-front, responses, receipts-noted, length-filter_map, length-take, in_flight, Send, Receipt, start_events}
 use Rattle.fbl_law.proofs.Common.{Message, MemberRecord, GroupRecord, Settings, IsConfig, IsSound, IsUp, knowledge, marks, member, blank, cases_lt, get_or_past, channel, progress_of, send_mark, delivery_events, step_of, SendsWell, IsDelivery}
-use Rattle.fbl_law.proofs.Common.{OfRecovery, no_step, delivers, cases_Bool, Stays, UpTo, one_place, receipt_of, ◌↔◌}
+use Rattle.fbl_law.proofs.Common.{OfRecovery, starts, delivers, cases_Bool, Stays, UpTo, one_place, receipt_of, ◌↔◌}
 use Rattle.std.specs.FinSet as set
 use Rattle.std.proofs.lemmas.List.{append_cancel_left}
 use Rattle.std.proofs.lemmas.Grind.{same_number_lists}
@@ -226,7 +226,7 @@ module _ {S N : Type 0} (next : Next S N) (well : SendsWell next) (c : Settings 
 
 module _ {N : Type 0} where
   -- messages with the same names, and the notes that these have
-  same_messages : (note : ℕ → ℕ → Option N) (xs ys : List (Message N)) → map send_mark xs ≡ map send_mark ys
+  pub same_messages : (note : ℕ → ℕ → Option N) (xs ys : List (Message N)) → map send_mark xs ≡ map send_mark ys
       → ((i : ℕ) (v : Message N) → slice_get xs i ≡ Some v → note v.from v.ssn ≡ Some v.note) → ((i : ℕ) (v : Message N) → slice_get ys i ≡ Some v → note v.from v.ssn ≡ Some v.note)
       → map without_carried xs ≡ map without_carried ys
   same_messages note [] [] is of_xs of_ys = refl
@@ -288,7 +288,7 @@ crashes_are_masked S N next r well sound =
     }
 
 pub crash_free_is_run : (S N : Type 0) → CrashFreeIsRun S N
-crash_free_is_run S N next c r (begins is) = (r, is, no_step)
+crash_free_is_run S N next c r (begins is) = (r, is, starts)
 crash_free_is_run S N next c r (goes_on {old = old} run one) = (let before = crash_free_is_run S N next c old run in (before.0, before.1, delivers before.2 one))
 
 -- what passes a test is all left by another test that each of it passes

@@ -2,20 +2,22 @@
 use Rattle.fbl_law.proofs.Common.{◌≡◌, ℕ, ◌+◌, ◌<◌, ◌||◌, ◌&&◌, nat_lt, not, inl, inr, cond, ◌⊎◌, List, [], ◌∷◌, length, map, filter, refl, sym, ap, ◌∙◌, arith, nat_tests, cases_lt, get_or_past}
 use Rattle.fbl_law.proofs.Common.{Event, mark_of, Next, Lawful, after_notes, received_notes, last_taken, Message, MemberRecord, blank, progress_of, Entry, piggybacked, Contains}
 use Rattle.fbl_law.proofs.Common.{GroupRecord, HasChannels, channel, member, marks, knowledge, receipts, is_recorded, IsFold, IsSound, IsUp, IsDown, IsRecovery, IsMadeAgain, recovered_trace, recovery_table, resent_to}
+use Rattle.fbl_law.proofs.Common.{Send, in_flight, note_of}
 use Rattle.fbl_law.specs.GroupLaws.{RecoveryExists, RecoveryIsOne}
 use Rattle.fbl_law.specs.Groups.{channel_in}
-use Rattle.fbl_law.specs.CrashFree.{LooksLike, without_carried}
+use Rattle.fbl_law.specs.CrashFree.{without_carried}
 use Rattle.fbl_member.specs.Members.{record_of}
 use Rattle.std.specs.FinSet as set
 use Rattle.std.specs.List.{range_with_len}
 use Rattle.std.proofs.lemmas.List.{ext_get_or}
 use Rattle.std.proofs.lemmas.List.FromFn.{get_or-map-range_with_len, length-map-range_with_len}
-use Rattle.fbl_law.proofs.Lists.{Contains-here, Contains-there}
-use Rattle.fbl_law.proofs.Safe.{down_or_up, down_or_both_up, up_if_none}
+use Rattle.fbl_law.proofs.Lists.{Contains-at, Contains-here, Contains-there}
+use Rattle.fbl_law.proofs.Safe.{down_or_up, down_or_both_up}
 use Rattle.fbl_law.proofs.Channels.{made-again, made-again-if}
 use Rattle.fbl_law.proofs.Deliveries.{rows_of, rows-shape, rows-at, channel-outside}
-use Rattle.fbl_law.proofs.GroupRecovery.{recovered_trace-cut, recovered_lawful, cut-one, cut-undone, folds-all, group_recovery_keeps}
-use Rattle.fbl_law.proofs.CrashFree.{same_looks}
+use Rattle.fbl_law.proofs.GroupRecovery.{recovered_trace-cut, recovered_lawful, cut-one, cut-undone, folds-all}
+use Rattle.fbl_law.proofs.CrashFree.{same_messages}
+use Rattle.std.proofs.lemmas.Grind.{same_number_lists}
 
 -- ---- there is one
 
@@ -142,19 +144,22 @@ module _ {S N : Type 0} (next : Next S N) (old new other : GroupRecord S N) (sou
   outside : other.outside ≡ new.outside
   outside = another.rest.outside ∙ sym one.rest.outside
 
-  looks : LooksLike new other
-  looks = same_looks next new other (group_recovery_keeps next old new one sound) (group_recovery_keeps next old other another sound) config another.rest.nobody_down trace outside
-
-  up : (m : ℕ) → IsUp (knowledge new) m
-  up = up_if_none one.rest.nobody_down
+  -- a member that was down is at the fold of the same receipts, with the gathered table
+  rebuilt_member : (m : ℕ) → m < old.config.members → IsDown (knowledge old) m → member other m ≡ member new m
+  rebuilt_member m below down =
+      let of_other = another.folds m below down in
+      let of_new = one.folds m below down in
+      let far : progress_of (member other m) ≡ progress_of (member new m) = (rw (config, trace) at of_other.progress) ∙ sym of_new.progress in
+      let numbers = same_number_lists (member other m).last (member new m).last (of_other.places ∙ sym of_new.places) (λ q within.
+      let few : q < 16 = omega (arith, within, of_other.places) in
+      of_other.last q few ∙ ap (λ (t : List (Event N)). last_taken (map mark_of t) q m) trace ∙ sym (of_new.last q few)) in
+      let table = another.gathered m below down ∙ sym (one.gathered m below down) in
+      λ i. record { state = (far i).state; received = (far i).received; last = numbers i; log = (far i).log; table = table i }
 
   same_member : (m : ℕ) → m < old.config.members → member other m ≡ member new m
   same_member m below = elim (down_or_up old.down m) [
     | inr was_up ↦ another.rest.survivors m was_up ∙ sym (one.rest.survivors m was_up)
-    | inl down ↦
-        let but = looks.members m (up m) in
-        let table = another.gathered m below down ∙ sym (one.gathered m below down) in
-        λ i. record (sym but i) { table = table i }
+    | inl down ↦ rebuilt_member m below down
   ]
 
   same_members : other.members ≡ new.members
@@ -165,8 +170,13 @@ module _ {S N : Type 0} (next : Next S N) (old new other : GroupRecord S N) (sou
   same_channel q p of_q of_p = elim (down_or_both_up old.down q p) [
     | inr were_up ↦ another.rest.channels q p were_up.0 were_up.1 ∙ sym (one.rest.channels q p were_up.0 were_up.1)
     | inl down ↦
-        same_carried (piggybacked new.config.f (member new q).table) (channel other q p) (channel new q p) (sym (looks.channels q p (up q) (up p)))
-        (λ v among. rw (config, same_member q of_q) at ((another.made_again q p down).carried v among)) (one.made_again q p down).carried
+        let of_other = another.made_again q p down in
+        let of_new = one.made_again q p down in
+        let marks_same = of_other.sends ∙ ap (λ (t : List (Event N)). map (λ ssn. Send q ssn p) (in_flight (map mark_of t) q p)) trace ∙ sym of_new.sends in
+        let but = same_messages (note_of new.trace) (channel other q p) (channel new q p) marks_same
+        (λ i v here. rw trace at (of_other.notes v (Contains-at (channel other q p) i v here))) (λ i v here. of_new.notes v (Contains-at (channel new q p) i v here)) in
+        same_carried (piggybacked new.config.f (member new q).table) (channel other q p) (channel new q p) but
+        (λ v among. rw (config, same_member q of_q) at (of_other.carried v among)) of_new.carried
   ]
 
   undone : other.undone_ever ≡ new.undone_ever

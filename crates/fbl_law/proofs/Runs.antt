@@ -1,6 +1,6 @@
 -- What a run keeps, and strikes one after the other.
 use Rattle.fbl_law.proofs.Common.{◌≡◌, ℕ, inl, arith, ap, ◌∙◌, Determinant, Next, Members, SendsWell, GroupRecord, Knowledge, knowledge, IsSound}
-use Rattle.fbl_law.proofs.Common.{IsUp, IsStable, RunFrom, RunIsSound, checkpoints, delivers, no_step, recovers, strikes, some_member, IsRecorded, member}
+use Rattle.fbl_law.proofs.Common.{IsUp, IsStable, RunFrom, RunIsSound, checkpoints, delivers, starts, recovers, strikes, some_member, IsRecorded, member}
 use Rattle.fbl_law.specs.GroupLaws.{HeldByMoreStays, StrikeIsOne, StrikesJoin}
 use Rattle.std.specs.FinSet as set
 use Rattle.fbl_law.proofs.GroupStart.{group_start_is_sound}
@@ -8,16 +8,16 @@ use Rattle.fbl_law.proofs.GroupDelivery.{group_delivery_keeps, delivery_keeps_st
 use Rattle.fbl_law.proofs.GroupRecovery.{group_recovery_keeps}
 use Rattle.fbl_law.proofs.Keeping.{group_strike_keeps, group_checkpoint_keeps, strike_keeps_stable, checkpoint_keeps_stable, was_up}
 use Rattle.fbl_law.proofs.Recovery.{recovery_keeps_stable}
-use Rattle.fbl_law.proofs.Safe.{down_or_both_up, down_or_up, Has-recorded, Names-held, up_if_named}
+use Rattle.fbl_law.proofs.Safe.{down_or_both_up, down_or_up, Has-recorded, held-Names, Names-held, never_both, up_if_named, up_if_none}
 use Rattle.fbl_law.proofs.OneRecovery.{same_channels}
 use Rattle.std.proofs.lemmas.List.{ext_get_or}
-use Rattle.fbl_law.proofs.Common.{blank, channel, inr, IsStrike, sym}
+use Rattle.fbl_law.proofs.Common.{blank, channel, inr, IsHeldBy, IsHolder, IsStrike, sym}
 use Rattle.fbl_trace.proofs.Common.{nat_cmp_total, same_from_contains}
 
 module _ {S N : Type 0} where
   -- what every run keeps
   run_keeps : (next : Next S N) (first r : GroupRecord S N) → SendsWell next → IsSound next first → RunFrom next first r → IsSound next r
-  run_keeps next first r well sound no_step = sound
+  run_keeps next first r well sound starts = sound
   run_keeps next first r well sound (delivers {old = old} {v = v} run s) = group_delivery_keeps next old r v well s (run_keeps next first old well sound run)
   run_keeps next first r well sound (strikes {old = old} {struck = struck} run s within few) = group_strike_keeps next old r struck s within few (run_keeps next first old well sound run)
   run_keeps next first r well sound (checkpoints {old = old} {p = p} run s) = group_checkpoint_keeps S N next old r p s (run_keeps next first old well sound run)
@@ -29,7 +29,7 @@ module _ {S N : Type 0} where
   -- a receipt with more than f holders keeps as many
   stable_kept : (next : Next S N) (first r : GroupRecord S N) (d : Determinant) → SendsWell next → IsSound next first → IsStable first.config.f (knowledge first) d → RunFrom next first r
       → IsStable r.config.f (knowledge r) d
-  stable_kept next first r d well sound stable no_step = stable
+  stable_kept next first r d well sound stable starts = stable
   stable_kept next first r d well sound stable (delivers {old = old} {v = v} run s) =
       rw s.config (delivery_keeps_stable next old r v well s (run_keeps next first old well sound run) d (stable_kept next first old d well sound stable run))
   stable_kept next first r d well sound stable (strikes {old = old} {struck = struck} run s within few) =
@@ -52,8 +52,13 @@ held_by_more_stays S N next old new d well sound held run =
           let named = Names-held (member old m).table d (held.2 m among) in
           inl (up_if_named old.config.f (knowledge old) sound.causes.down m d named, named),
     ) in
-    Has-recorded (knowledge new) (run_keeps next old new well sound run).causes.truth d
-    (stable-recorded new.config.f (knowledge new) d (stable_kept next old new d well sound stable run))
+    let kept = stable_kept next old new d well sound stable run in
+    let recorded = stable-recorded new.config.f (knowledge new) d kept in
+    (Has-recorded (knowledge new) (run_keeps next old new well sound run).causes.truth d recorded, λ nobody. (kept.0, kept.1, λ m among. still m nobody (kept.2 m among)))
+  where
+    still : (m : ℕ) → new.down ≡ set.empty → IsHolder (knowledge new) d m → IsHeldBy new d m
+    still m nobody (inl holds) = held-Names (member new m).table d holds.1
+    still m nobody (inr down) = never_both new.down m down.0 (up_if_none nobody m)
 
 pub strikes_join : (S N : Type 0) → StrikesJoin S N
 strikes_join S N next old between new some others first second = record {

@@ -51,7 +51,7 @@ GroupRecoveryKeeps S N =
 
 -- a run from one group to another: of deliveries, of strikes after which at most f members are down, of checkpoints, and of recoveries
 pub data RunFrom {S N : Type 0} (next : Next S N) (first : GroupRecord S N) : GroupRecord S N → Type 0 where
-  no_step : RunFrom next first first
+  starts : RunFrom next first first
   delivers : {old new : GroupRecord S N} {v : Message N} → RunFrom next first old → IsDelivery next old new v → RunFrom next first new
   strikes : {old new : GroupRecord S N} {struck : Members}
       → RunFrom next first old → IsStrike next old new struck → AllBelow struck old.config.members → set.len new.down ≤ old.config.f → RunFrom next first new
@@ -66,11 +66,12 @@ Run {S} {N} next config r = (first : GroupRecord S N) × IsGroupStart next confi
 abbrev pub RunIsSound : Type 0 → Type 0 → Type 0
 RunIsSound S N = (next : Next S N) (config : Settings N) (r : GroupRecord S N) → SendsWell next → IsConfig next.allowed config → Run next config r → IsSound next r
 
--- a receipt that more than f members hold is never undone, whatever is struck, recovered and delivered later
+-- a receipt that more than f members hold is never undone, whatever is struck, recovered and delivered later; and whenever nobody is
+-- down, more than f members hold it
 abbrev pub HeldByMoreStays : Type 0 → Type 0 → Type 0
 HeldByMoreStays S N =
     (next : Next S N) (old new : GroupRecord S N) (d : Determinant)
-    → SendsWell next → IsSound next old → IsHeldByMore old d → RunFrom next old new → Has (marks new) (receipt_of d)
+    → SendsWell next → IsSound next old → IsHeldByMore old d → RunFrom next old new → Has (marks new) (receipt_of d) × (new.down ≡ set.empty → IsHeldByMore new d)
 
 -- a strike of some members and then of others is a strike of both
 abbrev pub StrikesJoin : Type 0 → Type 0 → Type 0

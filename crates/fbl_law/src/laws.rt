@@ -31,8 +31,9 @@ pub fn channel_law<S, N>()
     ensures { OfSound S N (λ r. (q p : ℕ) → IsFirstInFirstOut r q p) }
 {}
 
-/// A strike of some members and then of others is a strike of both, and leaves what one strike of both leaves. And whatever is struck, recovered and delivered, a receipt
-/// that more than f members hold is never undone: at each moment one of them is up and holds it.
+/// A strike of some members and then of others is a strike of both, and leaves what one strike of both leaves. And whatever is
+/// struck, recovered and delivered, a receipt that more than f members hold is never undone: at each moment one of them is up and
+/// holds it, and once nobody is down more than f do.
 pub fn strike_law<S, N>()
     ensures joined { StrikesJoin S N }
     ensures only { StrikeIsOne S N }
