@@ -73,17 +73,17 @@ pub record IsEndOfChain (n : ℕ) (events run : List Mark) (first : ℕ) (found 
   pub end : found ≡ drop number chain
 
 -- no order obeys the rules, since the first of the events that no part of an order has waits in vain, for these in the end
-pub record ShowsNoOrder (n : ℕ) (events : List Mark) (end : List Stuck) : Type 0 where
+pub record ShowsNoOrder (n : ℕ) (events : List Mark) (found : List Stuck) : Type 0 where
   pub none : HasNoOrder n events
   pub run : List Mark
   pub furthest : IsFurthest n events run
   pub place : ℕ
   pub first : IsFirstBreach (CanCome n events) place
-  pub waits : IsEndOfChain n events run place end
+  pub waits : IsEndOfChain n events run place found
 
 -- the events have no order, because of these, or since they are too many; or memory ran out
 abbrev pub RefusesOrder : {A : Type 0} → ℕ → List Mark → OrderFault A → Type 0
-RefusesOrder n events (NoOrder end) = ShowsNoOrder n events end.items
+RefusesOrder n events (NoOrder found) = ShowsNoOrder n events found.items
 RefusesOrder n events (Dump (BadEvent place) (breach.Event fault)) =
     HasNoOrder n events × (place ≡ 8192) × (fault.place ≡ place) × At events place fault.event × (fault.rule ≡ TooMany)
 RefusesOrder n events (Dump Memory breach.Memory) = Unit {0}
