@@ -112,8 +112,8 @@ def is_order(members, events, ordered):
     return logs_of(members, events) == logs_of(members, ordered) and all(may_come(event, ordered[:place]) for place, event in enumerate(ordered))
 
 
-def first_that_never_comes(members, events):
-    """The place of the first event that stands in no part of an order, by a search through all of them; None where there is none."""
+def reached_in(members, events):
+    """How many of each member's events stand in the parts of orders that go furthest, by a search through all parts of orders."""
     logs = logs_of(members, events)
     seen, waiting, reached = set(), [((0,) * members, [])], [0] * members
     while waiting:
@@ -126,12 +126,41 @@ def first_that_never_comes(members, events):
             log = logs[member]
             if fronts[member] < len(log) and may_come(log[fronts[member]], before):
                 waiting.append(((*fronts[:member], fronts[member] + 1, *fronts[member + 1:]), [*before, log[fronts[member]]]))
-    passed = [0] * members
+    return reached
+
+
+def next_places(events, reached):
+    """For each member of which not all events come, the place of the first that doesn't."""
+    places, passed = {}, [0] * len(reached)
     for place, event in enumerate(events):
-        if passed[event[1]] >= reached[event[1]]:
-            return place
+        if passed[event[1]] == reached[event[1]]:
+            places.setdefault(event[1], place)
         passed[event[1]] += 1
-    return None
+    return places
+
+
+def awaited(events, reached, places, event):
+    """The place of the event for which this one waits, the next of its member; None where it waits for none."""
+    run = [other for member, log in enumerate(logs_of(len(reached), events)) for other in log[:reached[member]]]
+    is_due = event[2] == sum(other[:2] == event[:2] for other in run) + 1
+    taken = [other for other in run if channel_of(other) == channel_of(event)]
+    in_flight = sum(map(is_send, taken)) - sum(not is_send(other) for other in taken)
+    if is_send(event) or not is_due or in_flight:
+        return None
+    send = ["send", event[3], event[4], event[1]]
+    return places[event[3]] if send in events and send not in run else None
+
+
+def bad_event(members, events):
+    """The place of the event because of which the events have no order, by a search through all parts of orders; None where they have
+    one. Of a circle it is the event to which the search comes first."""
+    reached = reached_in(members, events)
+    places = next_places(events, reached)
+    come, place = [], min(places.values(), default=None)
+    while place is not None and place not in come:
+        come.append(place)
+        place = awaited(events, reached, places, events[place])
+    return come[-1] if come and place is None else place
 
 
 def events_of(parts):
@@ -197,27 +226,28 @@ def damaged(source, events):
     return events
 
 
-def line_of_fault(parts, paths, place):
-    """The line of the fault of the event at this place of all, by its file where there are several."""
+def fault_of(parts, paths, place):
+    """The line of the fault of the event at this place of all, by its file where there are several, and how its explanation begins."""
     file = 0
     while place >= len(parts[file]["events"]):
         place -= len(parts[file]["events"])
         file += 1
-    name = f' in "{paths[file]}"' if len(paths) > 1 else ""
-    return f"fault: BadEvent {place}{name}\n"
+    event = json.dumps(parts[file]["events"][place], separators=(",", ":"))
+    before, behind = (f' in "{paths[file]}"', f' of "{paths[file]}"') if len(paths) > 1 else ("", "")
+    return f"fault: BadEvent {place}{before}\nevent {place}{behind} is {event}, and comes in no order: "
 
 
 def judge_damaged(case):
     """Whether the merge has the fault that a search through all orders finds, or an order."""
     number, whole, parts = case
     members, given = whole["members"], events_of(parts)
-    place = first_that_never_comes(members, given)
+    place = bad_event(members, given)
     with files_of(texts_of(parts)) as paths:
-        ran = run(["merge", *paths])
+        ran = run(["merge", "--explain", *paths])
         if place is None:
             is_well = ran.status == 0 and is_order(members, given, json.loads(ran.text)["events"])
         else:
-            is_well = ran == (2, "", line_of_fault(parts, paths, place))
+            is_well = ran[:2] == (2, "") and ran.fault.startswith(fault_of(parts, paths, place)) and ran.fault.count("\n") == 2
     return [(is_well, f"damaged run {number}, {parts}: {ran}")]
 
 
@@ -231,7 +261,7 @@ def try_damaged_logs(tally):
         whole["held"] = []
         cases.append(Cut(number, whole, cut(source, whole, source.choice([1, 2, 3]))))
     note_each(tally, judge_damaged, cases)
-    refused = sum(first_that_never_comes(case.whole["members"], events_of(case.parts)) is not None for case in cases)
+    refused = sum(bad_event(case.whole["members"], events_of(case.parts)) is not None for case in cases)
     tally.note(refused > DAMAGED_RUNS // 3, f"of the damaged runs {refused} alone have no order")
 
 
@@ -252,7 +282,7 @@ def try_mutated_logs(tally):
 def try_logs_without_memory(refuser, _, tally):
     """Of several files the whole is written, or their fault, or nothing where a request for memory is refused."""
     logs = [EXAMPLES / "logs" / f"member-{member}.json" for member in range(3)]
-    late = [EXAMPLES / "logs/member-0-send-last.json", *logs[1:]]
+    late = [EXAMPLES / "wrong/member-0-send-last.json", *logs[1:]]
     moments = [EXAMPLES / "moments" / f"member-{member}.json" for member in range(3)]
     for words in (["merge", *logs], ["audit", *logs], ["check", "--explain", *logs], ["draw", *logs], ["merge", *late], ["merge", "--explain", *late],
                   ["merge", *moments], ["audit", "--explain", *moments], ["check", "--explain", *moments], ["draw", *moments],

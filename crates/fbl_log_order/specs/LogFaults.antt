@@ -50,17 +50,17 @@ pub record AreEventPlaces (entries : List Entry) (places : List ℕ) : Type 0 wh
   pub count : length places ≡ length (marks entries)
   pub each : (event place : ℕ) → slice_get places event ≡ Some place → IsEventPlace entries event place
 
--- the sends and receipts have no order, for this reason
-pub record ShowsNoOrderAmong (n : ℕ) (entries : List Entry) (chain : List Stuck) : Type 0 where
+-- the sends and receipts have no order, because of these
+pub record ShowsNoOrderAmong (n : ℕ) (entries : List Entry) (found : List Stuck) : Type 0 where
   pub places : List ℕ
   pub are_places : AreEventPlaces entries places
   pub own : List Stuck
   pub shows : ShowsNoOrder n (marks entries) own
-  pub given : chain ≡ map (stuck_given places) own
+  pub given : found ≡ map (stuck_given places) own
 
--- the sends and receipts among the entries have no order, for the reason of the chain, or since they are too many; or memory ran out
+-- the sends and receipts among the entries have no order, because of these, or since they are too many; or memory ran out
 abbrev pub RefusesAmong : ℕ → List Entry → LogOrderFault → Type 0
-RefusesAmong n entries (NoOrder chain) = ShowsNoOrderAmong n entries chain.items
+RefusesAmong n entries (NoOrder found) = ShowsNoOrderAmong n entries found.items
 RefusesAmong n entries (Log (BadEvent place) (Trace (breach.Event fault))) =
     HasNoOrder n (marks entries) × IsEventPlace entries 8192 place
     × (fault.place ≡ place) × (slice_get entries place ≡ Some (Event fault.event)) × (fault.rule ≡ TooMany)

@@ -44,7 +44,7 @@ pub record SameLogAnswers (a b : LogParts) : Type 0 where
   pub safe : AlwaysSafe (run_of a) ↔ AlwaysSafe (run_of b)
   pub unsafe : (d : Determinant) → IsUnsafe (run_of a) d ↔ IsUnsafe (run_of b) d
 
--- whichever order the entries had, a check answers as that of this one does
+-- whichever order the entries had, a check finds the same receipts unsafe as that of this one
 abbrev pub AnswersAlike : LogParts → LogParts → Type 0
 AnswersAlike log ordered =
     (entries : List Entry) → IsOrderOfEntries log.members log.entries entries → SameLogAnswers (with_entries entries log) ordered

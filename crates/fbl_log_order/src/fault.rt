@@ -10,7 +10,7 @@ use std::convert::From;
 /// Why the entries of a log, or a log of them, are refused.
 #[derive(Drop)]
 pub enum LogOrderFault {
-    /// No order of the sends and receipts obeys the rules, for the reason that `OrderFault` has. Places are those among all entries.
+    /// No order of the sends and receipts obeys the rules, because of these, as in `OrderFault`. Places are those among all entries.
     NoOrder(Vec<Stuck>),
     /// A log of the entries, in whichever order, is refused, for this. Places are those at which the entries were given.
     Log(DumpRefusal, LogBreach),

@@ -46,8 +46,8 @@ fn order_events(alloc: Global, n: u8, entries: &[Entry]) -> Result<Vec<Mark>, Lo
 }
 
 /// The log of these parts, with its entries in an order in which the sends and receipts obey the rules and each member's own entries
-/// stand as they do here: a hold or a store behind the same entry of its member. Whichever such order the run had, a check of it answers
-/// as that of this log does, but for the places.
+/// stand as they do here: a hold or a store behind the same entry of its member. Whichever such order the run had, a check of it finds the
+/// same receipts unsafe; it may show one at another moment.
 ///
 /// The sends and receipts stand in the order that `fbl_order::order` finds. Of the members' next entries that may come the first given is always
 /// taken, and a hold or a store may always come, so entries whose sends and receipts obey the rules as they stand stay so.

@@ -1,5 +1,5 @@
 -- Why events have no order.
-use Rattle.std.specs.Prelude.{ℕ, ◌≡◌, ◌≢◌, ◌≤◌, ◌+◌, ◌-◌, ◌⊎◌, List, length, Some, map, slice_get, take, AllPairs}
+use Rattle.std.specs.Prelude.{ℕ, ◌≡◌, ◌≢◌, ◌+◌, ◌-◌, ◌⊎◌, List, length, Some, drop, map, slice_get, take, AllPairs}
 use Rattle.fbl_trace.specs.declared.fault.Breach.{Breach}
 use Rattle.fbl_trace.specs.declared.fault.Breach.TheVariants as breach
 use Rattle.fbl_dumps.specs.declared.refusal.DumpRefusal.{DumpRefusal}
@@ -30,11 +30,11 @@ LacksMessage n run e = BreaksEvent n run e (NothingInFlight (source_of e) (desti
 -- the obstacle keeps the event from coming behind the run
 abbrev pub Hinders : ℕ → List Mark → List Mark → Mark → Obstacle → Type 0
 Hinders n events run e (Rule rule) = BreaksEvent n run e rule × ((from to : ℕ) → rule ≢ NothingInFlight from to)
-Hinders n events run e NeverSent = LacksMessage n run e × ((s : Mark) → send_of e ≡ Some s → ¬ (Has events s))
+Hinders n events run e (NeverSent s) = LacksMessage n run e × (send_of e ≡ Some s) × ¬ (Has events s)
 Hinders n events run e Received = LacksMessage n run e × ((s : Mark) × (send_of e ≡ Some s) × Has run s)
 Hinders n events run e (Waits place) =
     LacksMessage n run e
-    × ((s : Mark) × (send_of e ≡ Some s) × ((i : ℕ) × (place ≤ i) × At events i s) × IsFirstAfter events run (member_of s) place)
+    × ((s : Mark) × (send_of e ≡ Some s) × Has events s × ¬ (Has run s) × IsFirstAfter events run (member_of s) place)
 
 -- the run has what the event's member did before it, and the obstacle keeps it from coming next
 pub record IsStuck (n : ℕ) (events run : List Mark) (stuck : Stuck) : Type 0 where
@@ -56,24 +56,34 @@ pub record AreLinked (n : ℕ) (events run : List Mark) (chain : List Stuck) : T
   pub follows : (k : ℕ) (s t : Stuck) → slice_get chain k ≡ Some s → slice_get chain (k + 1) ≡ Some t → s.obstacle ≡ Waits t.place
   pub apart : AllPairs (λ a b. a ≢ b) (map (λ s. s.place) chain)
 
--- and the last, if it waits, for one of them
-pub record IsChain (n : ℕ) (events run : List Mark) (chain : List Stuck) : Type 0 where
-  pub linked : AreLinked n events run chain
-  pub closed : (s : Stuck) (place : ℕ) → slice_get chain (length chain - 1) ≡ Some s → s.obstacle ≡ Waits place → StandsIn chain place
+-- the chain's last event, which has the obstacle, waits for the one with the number; or it has the number, and waits for none
+abbrev pub ClosesAt : List Stuck → Obstacle → ℕ → Type 0
+ClosesAt chain (Waits place) number = (s : Stuck) × (slice_get chain number ≡ Some s) × (s.place ≡ place)
+ClosesAt chain obstacle number = number ≡ length chain - 1
 
--- no order obeys the rules, since the first of the chain, the first of the events that no part of an order has, waits in vain
-pub record ShowsNoOrder (n : ℕ) (events : List Mark) (chain : List Stuck) : Type 0 where
+-- the events are what closes the chain that starts at the place: its last event, or a circle
+pub record IsEndOfChain (n : ℕ) (events run : List Mark) (first : ℕ) (found : List Stuck) : Type 0 where
+  pub chain : List Stuck
+  pub linked : AreLinked n events run chain
+  pub starts : StartsAt chain first
+  pub last : Stuck
+  pub is_last : slice_get chain (length chain - 1) ≡ Some last
+  pub number : ℕ
+  pub closes : ClosesAt chain last.obstacle number
+  pub end : found ≡ drop number chain
+
+-- no order obeys the rules, since the first of the events that no part of an order has waits in vain, for these in the end
+pub record ShowsNoOrder (n : ℕ) (events : List Mark) (found : List Stuck) : Type 0 where
   pub none : HasNoOrder n events
   pub run : List Mark
   pub furthest : IsFurthest n events run
-  pub waits : IsChain n events run chain
   pub place : ℕ
-  pub starts : StartsAt chain place
   pub first : IsFirstBreach (CanCome n events) place
+  pub waits : IsEndOfChain n events run place found
 
--- the events have no order, for the reason of the chain, or since they are too many; or memory ran out
+-- the events have no order, because of these, or since they are too many; or memory ran out
 abbrev pub RefusesOrder : {A : Type 0} → ℕ → List Mark → OrderFault A → Type 0
-RefusesOrder n events (NoOrder chain) = ShowsNoOrder n events chain.items
+RefusesOrder n events (NoOrder found) = ShowsNoOrder n events found.items
 RefusesOrder n events (Dump (BadEvent place) (breach.Event fault)) =
     HasNoOrder n events × (place ≡ 8192) × (fault.place ≡ place) × At events place fault.event × (fault.rule ≡ TooMany)
 RefusesOrder n events (Dump Memory breach.Memory) = Unit {0}

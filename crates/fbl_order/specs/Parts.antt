@@ -2,9 +2,13 @@
 use Rattle.std.specs.Prelude.{ℕ, ◌≡◌, ◌≢◌, ◌<◌, ◌+◌, ◌⊎◌, List, Some, flat_map, slice_get, slice_index, sum, take}
 use Rattle.std.specs.List.{list_any}
 use Rattle.std.specs.FinSet as set
+use Rattle.std.specs.Ordering.{nat_cmp}
 use Rattle.fbl_dumps.specs.declared.raw_dump.RawDump.{RawDump}
 use Rattle.fbl_dumps.specs.Dumps.{Parts}
+use Rattle.fbl_trace.specs.Breaches.{IsLeastOutside}
 use Rattle.fbl_trace.specs.Configs.{IsFirstBreach}
+use Rattle.fbl_trace.specs.MemberSets.{AllBelow}
+use Rattle.fbl_trace.specs.declared.fault.Outsider.{Outsider}
 use Rattle.fbl_order.specs.declared.parts.RunGroup.{RunGroup}
 use Rattle.fbl_order.specs.declared.parts.PartsFault.{PartsFault}
 use Rattle.fbl_order.specs.declared.parts.PartsFault.TheVariants.{Members, F, Memory}
@@ -40,6 +44,18 @@ IsFirstOther {P} group_of parts fault =
 
 abbrev pub RefusesParts : {P : Type 0} → (P → RunGroup) → List P → PartsFault → Type 0
 RefusesParts group_of parts fault = (fault ≡ Memory) ⊎ IsFirstOther group_of parts fault
+
+-- ---- strike sets
+
+-- the strike set at the place, if there is one, has members of a group of n alone
+abbrev pub IsWithinAt : List (set.FinSet nat_cmp) → ℕ → ℕ → Type 0
+IsWithinAt strikes n i = (s : set.FinSet nat_cmp) → slice_get strikes i ≡ Some s → AllBelow s n
+
+-- the strike set at the place is the first with a member outside the group, and this is the least such member
+abbrev pub IsFirstOutside : List (set.FinSet nat_cmp) → ℕ → ℕ × Outsider → Type 0
+IsFirstOutside strikes n found =
+    IsFirstBreach (IsWithinAt strikes n) found.0
+    × ((s : set.FinSet nat_cmp) × (slice_get strikes found.0 ≡ Some s) × IsLeastOutside s n found.1)
 
 -- ---- dumps
 

@@ -12,9 +12,9 @@ pub enum Obstacle {
     /// It breaks this rule, whichever other events have come.
     #[error(transparent)]
     Rule(EventRule),
-    /// No event sends its message.
-    #[error("no event sends its message")]
-    NeverSent,
+    /// No event sends its message: this one would.
+    #[error("no event sends its message: {0} is missing")]
+    NeverSent(Mark),
     /// Its message is received already.
     #[error("an earlier event receives its message")]
     Received,
@@ -37,8 +37,9 @@ pub struct Stuck {
 /// Why events, or a dump of them, are refused.
 #[derive(Drop)]
 pub enum OrderFault<A: Allocator = Global> {
-    /// No order of the events obeys the rules. The first event here is the first, as they were given, that comes in no part of an
-    /// order. Each waits for the next one; the last waits for one of these, so that they go round in a circle, or for none.
+    /// No order of the events obeys the rules, because of these: one event that waits for no other, or several that wait in a circle,
+    /// each for the next one and the last for the first. The first event, as they were given, that comes in no part of an order waits
+    /// for the first of these, or for one that does, and so on, unless it is that one itself.
     NoOrder(Vec<Stuck, A>),
     /// A dump of the events, in whichever order, is refused, for this.
     Dump(DumpRefusal, Breach),

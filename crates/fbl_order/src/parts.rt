@@ -2,10 +2,10 @@
 
 ghost use Rattle.std.specs.Prelude.{◌≡◌, ◌<◌, ◌≤◌, ℕ, IfErr, IfOk, MatchOption, length, sum};
 ghost use Rattle.fbl_dumps.specs.Dumps.{parts_of};
-ghost use Rattle.fbl_order.specs.Parts.{Agrees, AgreesAt, Differs, IsFirstOther, IsPlaceIn, IsUnion, IsUnited, RefusesParts, dump_group};
+ghost use Rattle.fbl_order.specs.Parts.{Agrees, AgreesAt, Differs, IsFirstOther, IsFirstOutside, IsPlaceIn, IsUnion, IsUnited, IsWithinAt, RefusesParts, dump_group};
 
 use fbl_dumps::RawDump;
-use fbl_trace::MemberSet;
+use fbl_trace::{MemberSet, Outsider};
 use std::alloc::{AllocError, Allocator};
 use std::convert::From;
 use thiserror::Error;
@@ -146,6 +146,18 @@ pub fn united<A: Allocator + Copy>(alloc: A, parts: &[RawDump<A>]) -> Result<Raw
         held,
         strike,
     })
+}
+
+/// Of the strike sets of parts, the place of the first that has a member outside a group of so many, and the least such member in it.
+pub fn first_outsider(strikes: &[MemberSet], members: u8) -> Option<(usize, Outsider)>
+    ensures { MatchOption result ((i : ℕ) → IsWithinAt strikes.now members i) (IsFirstOutside strikes.now members) }
+{
+    for place in 0..strikes.len() {
+        if let Some(outsider) = strikes[place].outsider(members) {
+            return Some((place, outsider));
+        }
+    }
+    None
 }
 
 /// Of lists of these lengths one behind another, the list that has the place, and the place in it.

@@ -42,7 +42,7 @@ RefusesMerge dumps (faults.Order fault) = (whole : Parts) × IsUnited dumps whol
 RefusesMerge dumps fault = ⊥
 
 -- the log is the whole, but for its entries, which stand in an order, each given at a place; where the sends and receipts obeyed the
--- rules, all stand as they did; and in whichever order they stand, a check answers the same
+-- rules, all stand as they did; and in whichever order they stand, a check finds the same receipts unsafe
 pub record IsMergedLog (whole log : LogParts) (places : List ℕ) : Type 0 where
   pub rules : IsLog log
   pub parts : log ≡ with_entries log.entries whole

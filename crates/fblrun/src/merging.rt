@@ -8,7 +8,9 @@ use crate::{INPUT_FAULT, MEMORY_FAULT};
 use fbl_dumps::{Dump, DumpRefusal, RawDump};
 use fbl_log_order::{LogOrderFault, OrderedLog, at_places, order_log, united_logs};
 use fbl_logs::{EntryOrigin, LogBreach, RawLog, RunLog};
-use fbl_order::{Obstacle, OrderFault, PartsFault, Stuck, order_dump, place_in_lists, united};
+use fbl_order::{
+    Obstacle, OrderFault, PartsFault, Stuck, first_outsider, order_dump, place_in_lists, united,
+};
 use fbl_texts::Recorded;
 use fbl_trace::{Breach, MemberSet, PairFault};
 use std::alloc::{AllocError, AllocFailed, Global};
@@ -18,8 +20,10 @@ use std::fmt;
 /// Why what several files record is no run together.
 #[derive(Drop)]
 pub(crate) enum MergeFault {
-    /// The file with this number, the first such, is of another version than the first file.
-    Version(usize),
+    /// The file with this number, the first such, has a log, and the first file a dump, which has no version.
+    LogAmongDumps(usize),
+    /// The file with this number, the first such, has a dump, and the first file a log.
+    DumpAmongLogs(usize),
     /// They differ in their members or in `f`, or memory runs out.
     Parts(PartsFault),
     /// The events of dumps have no order, or what these have together breaks another rule of dumps.
@@ -96,14 +100,15 @@ impl MergeFault {
     /// The number of the file that differs from the first one, if one does.
     fn other_part(&self) -> Option<usize> {
         match self {
-            MergeFault::Version(part)
+            MergeFault::LogAmongDumps(part)
+            | MergeFault::DumpAmongLogs(part)
             | MergeFault::Parts(PartsFault::Members { part, .. } | PartsFault::F { part, .. }) =>
                 Some(*part),
             _ => None,
         }
     }
 
-    /// The events that wait for one another, where there is no order.
+    /// The events because of which there is no order, where there is none.
     fn chain(&self) -> Option<&[Stuck]> {
         match self {
             MergeFault::Order(OrderFault::NoOrder(chain))
@@ -140,13 +145,13 @@ pub(crate) fn in_one_version(alloc: Global, files: Vec<Recorded>) -> Result<Toge
         match recorded {
             Recorded::Dump(raw) => {
                 if !logs.is_empty() {
-                    return Err(MergeFault::Version(part));
+                    return Err(MergeFault::DumpAmongLogs(part));
                 }
                 dumps.push(raw)?;
             }
             Recorded::Log(raw) => {
                 if !dumps.is_empty() {
-                    return Err(MergeFault::Version(part));
+                    return Err(MergeFault::LogAmongDumps(part));
                 }
                 logs.push(raw)?;
             }
@@ -293,16 +298,23 @@ impl<'a> Parts<'a> {
         self.spot(self.held.as_slice(), place)
     }
 
-    /// The name of the first file that strikes a member outside the group, where there are several.
+    /// The name of the first file that strikes a member outside the group, where there are several and this is the breach.
     fn striking(&self, breach: LogBreach) -> Option<&'a str> {
         let LogBreach::Trace(Breach::Strike(outsider)) = breach else {
             return None;
         };
-        let file = self
-            .strikes
-            .iter()
-            .position(|strike| strike.has(outsider.member))?;
+        let (file, _) = first_outsider(self.strikes.as_slice(), outsider.members)?;
         self.name(file)
+    }
+
+    /// The first name that stands behind the same name.
+    fn repeated(&self) -> Option<&'a str> {
+        for (file, name) in self.names.iter().enumerate() {
+            if self.names[..file].contains(name) {
+                return Some(*name);
+            }
+        }
+        None
     }
 }
 
@@ -385,13 +397,13 @@ pub(crate) struct MergeExplanation<'a> {
 
 impl MergeExplanation<'_> {
     /// Writes what two files have at a key.
-    fn write_values<W: fmt::Write>(
+    fn write_values<W: fmt::Write, V: fmt::Display + Copy>(
         &self,
         f: &mut fmt::Formatter<W>,
         key: &str,
         part: usize,
-        first: u8,
-        other: u8,
+        first: V,
+        other: V,
     ) -> fmt::Result {
         let name = self.parts.name(part).unwrap_or("-");
         let first_name = self.parts.name(0).unwrap_or("-");
@@ -401,28 +413,22 @@ impl MergeExplanation<'_> {
         )
     }
 
-    /// Writes why an event comes in no order. It is the last of these, which wait each for the next one.
+    /// Writes why an event comes in no order.
     fn write_obstacle<W: fmt::Write>(
         &self,
         f: &mut fmt::Formatter<W>,
-        named: &[Stuck],
         obstacle: Obstacle,
     ) -> fmt::Result {
         match obstacle {
-            Obstacle::NeverSent => f.write_str("no event sends its message"),
             Obstacle::Waits(place) => {
                 let spot = self.parts.event(place);
-                write!(f, "its message is sent no earlier than event {spot}")?;
-                if named.iter().any(|stuck| stuck.place == place) {
-                    f.write_str(", and so each of them waits for another")?;
-                }
-                Ok(())
+                write!(f, "its message is sent no earlier than event {spot}")
             }
             _ => write!(f, "{obstacle}"),
         }
     }
 
-    /// Writes of each of the events why it comes in no order.
+    /// Writes of the event, or of each in a circle, why it comes in no order.
     fn write_chain<W: fmt::Write>(
         &self,
         f: &mut fmt::Formatter<W>,
@@ -436,20 +442,12 @@ impl MergeExplanation<'_> {
             } else {
                 write!(f, "; event {spot}, {event}, comes in none either: ")?;
             }
-            self.write_obstacle(f, &chain[..number], stuck.obstacle)?;
+            self.write_obstacle(f, stuck.obstacle)?;
+        }
+        if chain.len() > 1 {
+            f.write_str(", and so each of them waits for another")?;
         }
         Ok(())
-    }
-
-    /// Writes that a file is of another version than the first one. What has a version is a log, and the first file is one or
-    /// this one.
-    fn write_versions<W: fmt::Write>(&self, f: &mut fmt::Formatter<W>, part: usize) -> fmt::Result {
-        let name = self.parts.name(part).unwrap_or("-");
-        let first_name = self.parts.name(0).unwrap_or("-");
-        write!(
-            f,
-            "of {name:?} and {first_name:?} one has version 2, and the other is a dump that has none"
-        )
     }
 
     /// Writes which rule the held pair breaks.
@@ -488,28 +486,48 @@ impl MergeExplanation<'_> {
                 write!(f, "event {spot} is {entry}, and {rule}")
             }
             LogBreach::Trace(Breach::Held(fault)) => self.write_pair(f, fault),
+            LogBreach::Trace(Breach::Strike(least)) => {
+                let strikes = self.parts.strikes.as_slice();
+                let outsider = first_outsider(strikes, least.members).map_or(
+                    least,
+                    |found| found.1,
+                );
+                write!(f, "{}", Breach::Strike(outsider))
+            }
             _ => write!(f, "{breach}"),
+        }
+    }
+
+    /// Writes why what the files have together is refused, and which of them is named more than once, if one is.
+    fn write_whole<W: fmt::Write>(&self, f: &mut fmt::Formatter<W>) -> fmt::Result {
+        match (self.fault.chain(), self.fault.refusal()) {
+            (Some(chain), _) => self.write_chain(f, chain)?,
+            (None, Some((_, breach))) => self.write_breach(f, breach)?,
+            (None, None) => return f.write_str("out of memory"),
+        }
+        match self.parts.repeated() {
+            Some(name) => write!(f, "; {name:?} is named more than once"),
+            None => Ok(()),
         }
     }
 }
 
 impl fmt::Display for MergeExplanation<'_> {
     fn fmt<W: fmt::Write>(&self, f: &mut fmt::Formatter<W>) -> fmt::Result {
-        if let Some(chain) = self.fault.chain() {
-            return self.write_chain(f, chain);
-        }
         match self.fault {
-            MergeFault::Version(part) => self.write_versions(f, *part),
+            MergeFault::LogAmongDumps(part) => {
+                self.write_values(f, "version", *part, "missing", "2")
+            }
+            MergeFault::DumpAmongLogs(part) => {
+                self.write_values(f, "version", *part, "2", "missing")
+            }
             MergeFault::Parts(PartsFault::Members { part, first, other }) => {
                 self.write_values(f, "members", *part, *first, *other)
             }
             MergeFault::Parts(PartsFault::F { part, first, other }) => {
                 self.write_values(f, "f", *part, *first, *other)
             }
-            _ => match self.fault.refusal() {
-                Some((_, breach)) => self.write_breach(f, breach),
-                None => f.write_str("out of memory"),
-            },
+            _ => self.write_whole(f),
         }
     }
 }

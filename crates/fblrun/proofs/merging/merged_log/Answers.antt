@@ -11,7 +11,8 @@ of_whole logs whole (faults.Parts parts.Memory) united refuses = inl refl
 of_whole logs whole (faults.Parts (parts.Members part first other)) united refuses = absurd refuses
 of_whole logs whole (faults.Parts (parts.F part first other)) united refuses = absurd refuses
 of_whole logs whole (faults.Order fault) united refuses = absurd refuses
-of_whole logs whole (faults.Version part) united refuses = absurd refuses
+of_whole logs whole (faults.LogAmongDumps part) united refuses = absurd refuses
+of_whole logs whole (faults.DumpAmongLogs part) united refuses = absurd refuses
 
 -- a fault that is passed on
 passed : {X : Type 0} (logs : List RawLog) (fault : MergeFault) (r : Result X MergeFault) → IsErrAnd r (λ e. e ≡ fault) → RefusesLogMerge logs fault → IfErr r (RefusesLogMerge logs)
