@@ -3,8 +3,10 @@
 use crate::members::first_receipt;
 use crate::texts::{LOST, dump};
 use fbl_base::audit::{Dump, check_dump, lost, orphans};
-use fbl_trace::{Determinant, Member};
+use fbl_base::{DumpRefusal, RawDump};
+use fbl_trace::{Determinant, Mark, Member, MemberSet};
 use std::alloc::{AllocError, Global};
+use std::test::Fail;
 
 /// Whether an audit of the dump finds this receipt lost and no other, or none, and these orphans. `Err` is to come only where
 /// memory is refused.
@@ -71,4 +73,32 @@ fn without_memory(rt: HostRuntime) {
             "{audited:?}"
         );
     }
+}
+
+/// A message and its receipt, whose determinant the sender holds, by so many equal pairs.
+fn held_by_pairs(alloc: Global, pairs: usize) -> Result<RawDump, AllocError> {
+    let (from, to) = (Member::at(0), Member::at(1));
+    let (ssn, rsn) = (1, 1);
+    let mut events = Vec::new(alloc);
+    events.push(Mark::Send { from, ssn, to })?;
+    events.push(Mark::Receipt { to, rsn, from, ssn })?;
+    let mut held = Vec::new(alloc);
+    held.resize(pairs, (from, first_receipt(from, to)))?;
+    Ok(RawDump {
+        members: 2,
+        f: 1,
+        events,
+        held,
+        strike: MemberSet::empty(),
+    })
+}
+
+// No text within an input's length has so many pairs.
+#[test]
+fn a_dump_has_a_most_number_of_pairs(rt: HostRuntime) -> Result<(), Fail> {
+    let most = check_dump(rt.alloc(), held_by_pairs(rt.alloc(), 131_072)?);
+    assert!(rt; most.is_ok());
+    let more = check_dump(rt.alloc(), held_by_pairs(rt.alloc(), 131_073)?);
+    assert!(rt; more.err() == Some(DumpRefusal::BadHeld(131_072)));
+    Ok(())
 }

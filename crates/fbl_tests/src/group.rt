@@ -3,3 +3,4 @@
 mod plays;
 mod setting;
 mod steps;
+mod strikes;

@@ -6,8 +6,10 @@ use super::steps::Step::{
 };
 use super::steps::Verdict;
 use fbl_group::{CommitRefusal, CrashRefusal, Done, Group, RecoverRefusal};
+use fbl_threads::SharedGroup;
 use fbl_trace::{Behaviour, Member, MemberSet, Mix, Note, Relay};
 use std::process::Abort;
+use std::sync::Wait;
 use std::test::Fail;
 
 /// Makes the calls in turn, and answers whether each answers as expected: at once or, where memory may be refused, when it is made
@@ -30,28 +32,48 @@ fn are_as_expected<B: Behaviour<State = u64, Note = Note>>(
     Ok(true)
 }
 
+/// Makes the calls in turn, each in a hold of the lock of its own, and answers whether each answers as expected.
+fn are_as_expected_shared<B: Behaviour<State = u64, Note = Note>>(
+    rt: &impl Wait,
+    shared: &SharedGroup<B>,
+    steps: &[Step],
+) -> Result<bool, Fail> {
+    let mut made: Option<Done<B>> = None;
+    for step in steps {
+        let mut group = shared.lock(rt);
+        if step.make(&mut group, &mut made)? != Verdict::AsExpected {
+            return Ok(false);
+        }
+    }
+    Ok(true)
+}
+
 /// Asserts that the calls answer as expected on a new group.
 fn play<B: Behaviour<State = u64, Note = Note>>(
-    rt: &(impl Abort + AllocGlobal),
-    setting: &Setting,
-    steps: &[Step],
+    rt: &(impl Abort + AllocGlobal + Wait),
+    example: &Example,
 ) -> Result<(), Fail> {
-    let mut group: Group<B> = setting.group(rt.alloc())?;
-    assert!(rt; are_as_expected(&mut group, steps, false)?);
+    let mut group: Group<B> = example.setting.group(rt.alloc())?;
+    assert!(rt; are_as_expected(&mut group, example.alone, false)?);
+    let shared = SharedGroup::new(group);
+    assert!(rt; are_as_expected_shared(rt, &shared, example.shared)?);
+    let mut group = shared.into_inner();
+    assert!(rt; are_as_expected(&mut group, example.afterwards, false)?);
     Ok(())
 }
 
-/// Asserts the same where any one request for memory may be refused: the call that meets it tells it, and succeeds when it is made
-/// again. There may be no memory for the group.
+/// Asserts the same where any one request for memory may be refused, without the lock: the call that meets it tells it, and succeeds
+/// when it is made again. There may be no memory for the group.
 fn play_without_memory<B: Behaviour<State = u64, Note = Note>>(
     rt: &(impl Abort + AllocGlobal),
-    setting: &Setting,
-    steps: &[Step],
+    example: &Example,
 ) -> Result<(), Fail> {
-    let Ok(mut group) = setting.group::<B>(rt.alloc()) else {
+    let Ok(mut group) = example.setting.group::<B>(rt.alloc()) else {
         return Ok(());
     };
-    assert!(rt; are_as_expected(&mut group, steps, true)?);
+    for steps in [example.alone, example.shared, example.afterwards] {
+        assert!(rt; are_as_expected(&mut group, steps, true)?);
+    }
     Ok(())
 }
 
@@ -80,8 +102,21 @@ const SMALL: Setting = Setting {
     ..ROUND
 };
 
-/// A group, and calls in turn.
-type Play<'a> = (Setting<'a>, &'a [Step<'a>]);
+/// A worked example: calls of a group in turn, first of the group alone, then under its lock, and then once it is taken out of it.
+struct Example<'a> {
+    setting: Setting<'a>,
+    alone: &'a [Step<'a>],
+    shared: &'a [Step<'a>],
+    afterwards: &'a [Step<'a>],
+}
+
+/// No calls.
+const NONE: Example = Example {
+    setting: ROUND,
+    alone: &[],
+    shared: &[],
+    afterwards: &[],
+};
 
 /// The message goes round.
 const GOES_ROUND: &[Step] = &[
@@ -108,7 +143,6 @@ const CRASHES: &[Step] = &[
     Deliver((1, 0), (2, 0, 11)),
     Crash(&[0, 1], Err(CrashRefusal::TooMany)),
     Crash(&[1], Ok((2, (0, 2, 2)))),
-    Ever(2, 2),
 ];
 
 const WAITS_FOR_A_RECOVERY: &[Step] = &[
@@ -126,13 +160,11 @@ const WITHOUT_ROOM: &[Step] = &[
     Commit(Err(CommitRefusal::Full)),
 ];
 
-/// The crash recovers a member that was down before, too.
-const STRUCK_IN_TURN: &[Step] = &[
+const ONE_IS_DOWN: &[Step] = &[
     Deliver((1, 0), (1, 0, 5)),
     Deliver((2, 1), (1, 1, 5)),
     Deliver((0, 2), (1, 2, 5)),
     Strike(&[1], 0),
-    Crash(&[2], Ok((0, (2, 0, 0)))),
 ];
 
 const ALL_ARE_LOST: &[Step] = &[
@@ -145,15 +177,44 @@ const ALL_ARE_LOST: &[Step] = &[
 /// No room for the receipt's send.
 const FULL: Setting = Setting { limit: 2, ..SMALL };
 
-/// What relays do.
-const RELAYS: &[Play] = &[
-    (ROUND, GOES_ROUND),
-    (TWICE, OUTLIVES_A_CRASH),
-    (TWICE, CRASHES),
-    (SMALL, WAITS_FOR_A_RECOVERY),
-    (FULL, WITHOUT_ROOM),
-    (ROUND_OF_TWO, STRUCK_IN_TURN),
-    (ROUND_OF_TWO, ALL_ARE_LOST),
+/// What relays do. The last crash recovers a member that was down before the group was shared, too.
+const RELAYS: &[Example] = &[
+    Example {
+        alone: GOES_ROUND,
+        ..NONE
+    },
+    Example {
+        setting: TWICE,
+        shared: OUTLIVES_A_CRASH,
+        ..NONE
+    },
+    Example {
+        setting: TWICE,
+        shared: CRASHES,
+        afterwards: &[Ever(2, 2)],
+        ..NONE
+    },
+    Example {
+        setting: SMALL,
+        alone: WAITS_FOR_A_RECOVERY,
+        ..NONE
+    },
+    Example {
+        setting: FULL,
+        alone: WITHOUT_ROOM,
+        ..NONE
+    },
+    Example {
+        setting: ROUND_OF_TWO,
+        alone: ALL_ARE_LOST,
+        ..NONE
+    },
+    Example {
+        setting: ROUND_OF_TWO,
+        alone: ONE_IS_DOWN,
+        shared: &[Crash(&[2], Ok((0, (2, 0, 0))))],
+        ..NONE
+    },
 ];
 
 /// A survivor knows the first receipt of the member that is struck, and nobody the second.
@@ -188,15 +249,26 @@ const MEETING: Setting = Setting {
 };
 
 /// What mixes do.
-const MIXES: &[Play] = &[(ANSWERED, ONE_IS_LOST), (MEETING, ONE_IS_KEPT)];
+const MIXES: &[Example] = &[
+    Example {
+        setting: ANSWERED,
+        alone: ONE_IS_LOST,
+        ..NONE
+    },
+    Example {
+        setting: MEETING,
+        alone: ONE_IS_KEPT,
+        ..NONE
+    },
+];
 
 #[test]
 fn calls_answer_as_expected(rt: HostRuntime) -> Result<(), Fail> {
-    for (setting, steps) in RELAYS {
-        play::<Relay>(&rt, setting, steps)?;
+    for relays in RELAYS {
+        play::<Relay>(&rt, relays)?;
     }
-    for (setting, steps) in MIXES {
-        play::<Mix>(&rt, setting, steps)?;
+    for mixes in MIXES {
+        play::<Mix>(&rt, mixes)?;
     }
     Ok(())
 }
@@ -204,8 +276,8 @@ fn calls_answer_as_expected(rt: HostRuntime) -> Result<(), Fail> {
 /// The gate refuses each request in turn.
 #[test]
 fn relays_without_memory(rt: HostRuntime) -> Result<(), Fail> {
-    for (setting, steps) in RELAYS {
-        play_without_memory::<Relay>(&rt, setting, steps)?;
+    for relays in RELAYS {
+        play_without_memory::<Relay>(&rt, relays)?;
     }
     Ok(())
 }
@@ -213,8 +285,8 @@ fn relays_without_memory(rt: HostRuntime) -> Result<(), Fail> {
 /// The gate refuses each request in turn.
 #[test]
 fn mixes_without_memory(rt: HostRuntime) -> Result<(), Fail> {
-    for (setting, steps) in MIXES {
-        play_without_memory::<Mix>(&rt, setting, steps)?;
+    for mixes in MIXES {
+        play_without_memory::<Mix>(&rt, mixes)?;
     }
     Ok(())
 }
