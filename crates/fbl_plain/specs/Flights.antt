@@ -1,9 +1,10 @@
 -- What holds of the states and of the notes in flight, at first and after a delivery: for the proofs of laws of plain networks.
-use Rattle.std.proofs.Common.{◌≡◌, ◌≢◌, ℕ, zero, suc, ◌∷◌, sym, refl, ap, ◌<◌, ◌==◌, ◌&&◌, ◌⊎◌, inl, inr, Bool, true, false, cond, List, [], drop, get_or, Some, slice_get, arith, subst}
-use Rattle.std.specs.List.{All, AllByRecursion, Contains}
+use Rattle.std.proofs.Common.{◌≡◌, ◌≢◌, ℕ, ◌<◌, ◌==◌, ◌&&◌, ◌⊎◌, inl, inr, Bool, true, false, cond, if◌then◌else◌, List, [], drop, get_or, Some, slice_get, arith, subst}
+use Rattle.std.specs.List.{All, AllByRecursion}
 use Rattle.std.proofs.lemmas.Bool.{cases_eq, eq-eqb, ne_eqb}
 use Rattle.std.proofs.lemmas.Bool.Decides.{nat_tests}
-use Rattle.std.proofs.lemmas.List.Elements.{All-nil, All-append, All-drop, All-contains, All-from_recursion, Contains-append_left, Contains-append_right}
+use Rattle.std.proofs.lemmas.List.{append-nil}
+use Rattle.std.proofs.lemmas.List.Elements.{All-nil, All-append, All-drop, All-contains, All-from_recursion}
 use Rattle.std.proofs.lemmas.Option.{slice_get-get_or}
 use Rattle.fbl_trace.specs.Configs.{Settings}
 use Rattle.fbl_trace.specs.Fold.{Next, starts_of}
@@ -35,12 +36,6 @@ flights_first next c p Q is each q m = rw (is.flights q m) (sent_to-all (Q q) m 
 pub of_front : {S N : Type 0} {n : ℕ} {p : Network S N} {from to : ℕ} {note : N} (Q : N → Type 0) → IsFront n p from to note → All Q (p.flight from to) → Q note
 of_front {p = p} {from = from} {to = to} {note = note} Q goes all = All-contains Q (p.flight from to) note all (Contains-at (p.flight from to) 0 note goes.first)
 
--- what is in a list is its first, or is behind it
-behind : {X : Type 0} (xs : List X) (first x : X) → slice_get xs 0 ≡ Some first → Contains xs x → (first ≡ x) ⊎ Contains (drop 1 xs) x
-behind [] first x at (k, within, here) = absurd cc
-behind (y ∷ ys) first x at (zero, within, here) = inl cc
-behind (y ∷ ys) first x at (suc k, within, here) = inr (k, omega (arith, within), here)
-
 module _ {S N : Type 0} (next : Next S N) (n : ℕ) (p : Network S N) (from to : ℕ) (note : N) where
   -- what holds of each member's state, and of the state that the receiver's step makes, holds of each state after the delivery
   pub states_after : (P : ℕ → S → Type 0) → ((m : ℕ) → m < n → P m (p.state m)) → P to (next.step to n (p.state to) note).state
@@ -64,26 +59,10 @@ module _ {S N : Type 0} (next : Next S N) (n : ℕ) (p : Network S N) (from to :
         (sent_to-all (Q to) m _ (λ i s here. All-contains (λ (s : ℕ × N). Q to s.0 s.1) _ s (All-from_recursion _ _ new) (Contains-at _ i s here))))
     more (inr other) = rw (ne_eqb to q other) (All-nil (Q q m))
 
-  -- what is in flight is delivered, or is in flight after the delivery
-  pub stays_in_flight : (q m : ℕ) (x : N) → slice_get (p.flight from to) 0 ≡ Some note → Contains (p.flight q m) x
-      → ((from ≡ q) × (to ≡ m) × (note ≡ x)) ⊎ Contains ((delivered next n p from to note).flight q m) x
-  stays_in_flight q m x first flies = elim (cases_eq from q) [
-    | inl of_q ↦ elim (cases_eq to m) [
-      | inl to_m ↦ elim (behind (p.flight q m) note x (rw (← of_q, ← to_m) first) flies) [
-        | inl is ↦ inl (of_q, to_m, is)
-        | inr stays ↦ inr (rw (eq-eqb from q of_q, eq-eqb to m to_m) (Contains-append_left (drop 1 (p.flight q m)) _ x stays))
-      ]
-      | inr other ↦ inr (rw (eq-eqb from q of_q, ne_eqb to m other) (Contains-append_left (p.flight q m) _ x flies))
-    ]
-    | inr other ↦ inr (rw (ne_eqb from q other) (Contains-append_left (p.flight q m) _ x flies))
+  -- where the step sends nothing, what is in flight after it is what was, but for the note that is delivered
+  pub flight_left : (next.step to n (p.state to) note).sends.items ≡ [] → (q m : ℕ)
+      → (delivered next n p from to note).flight q m ≡ (if from == q && to == m then drop 1 (p.flight q m) else p.flight q m)
+  flight_left nothing q m = elim (cases_eq to q) [
+    | inl same ↦ rw (eq-eqb to q same, nothing) (append-nil _)
+    | inr other ↦ rw (ne_eqb to q other) (append-nil _)
   ]
-
-  -- what the receiver's step sends is in flight after it
-  pub sent_in_flight : (m : ℕ) (x : N) → Contains (next.step to n (p.state to) note).sends.items (m, x) → Contains ((delivered next n p from to note).flight to m) x
-  sent_in_flight m x sent = rw (eq-eqb to to refl) (Contains-append_right _ _ x (among (next.step to n (p.state to) note).sends.items sent)) where
-    among : (sends : List (ℕ × N)) → Contains sends (m, x) → Contains (sent_to m sends) x
-    among [] (k, within, here) = absurd (omega (arith, within))
-    among (s ∷ sends) (zero, within, here) = (let is : s ≡ (m, x) = here in rw (is, eq-eqb m m refl) (0, omega arith, refl))
-    among (s ∷ sends) (suc k, within, here) =
-        let rest = among sends (k, omega (arith, within), here) in
-        elim (cases_eq s.0 m) [ inl is ↦ rw (eq-eqb s.0 m is) (suc rest.0, omega (arith, rest.1), rest.2) | inr other ↦ rw (ne_eqb s.0 m other) rest ]

@@ -21,8 +21,8 @@ pub trait Upholding: Behaviour {
     ghost law_kept: { (c : Settings Self.Note) → IsConfig Self.next.allowed c → DeliveryKeeps Self.next c.members (law c) };
 }
 
-/// A sound group in which nobody is down is what a plain network is after the receipts of the trace, in their order. Whoever is down,
-/// the survivors are as in that plain network.
+/// The receipts of a sound group's trace, delivered in a plain network in their order, lead to one with the states of the members that
+/// are up and the same in flight between these; where nobody is down, to the group's own states and notes in flight.
 pub fn plain_law<S, N>()
     ensures { EachLooksPlain S N }
 {}
