@@ -32,7 +32,8 @@ SHOWN = {
         ("send", "member 1 sends its message 1 to 2"),
         ("receipt", "member 2 receipt 1: message 1 of 1, state 5"),
         ("send", "member 2 sends its message 1 to 0"),
-    ], [(1, 5, 7), (2, 6, 7)], [("message undone", 0, 1), ("message undone", 2, 3), ("message again", 7, 8), ("message", 9, 10)], [(11, "to 0")]),
+    ], [(1, 5, 7), (2, 6, 7)], [("message undone", 0, 1), ("message undone", 2, 3), ("message again", 7, 8), ("message", 9, 10)],
+        [(2, "to 2"), (4, "to 0"), (11, "to 0")]),
 }
 
 
@@ -92,14 +93,14 @@ def tells_history(example, marks):
 
 
 def heads_history(picture):
-    """Whether the heading counts the receipts that are marked, and there is an arrow for each mark and a stub for each message in
-    flight."""
+    """Whether the heading counts the receipts that are marked, and there is an arrow for each mark and a stub for each undone send and
+    each message in flight."""
     marks = picture.titled()
     sorts = [sort for sort, _ in marks]
     marked, crossed = sorts.count("receipt") + sorts.count("receipt undone"), sorts.count("receipt undone")
     arrows = picture.arrows()
     dotted = [line for line in arrows if "undone" in sorts_of(line)]
-    well = len(arrows) == marked and len(dotted) == crossed and len(picture.stubs()) == sorts.count("send") - sorts.count("receipt")
+    well = len(arrows) == marked and len(dotted) == crossed and len(picture.stubs()) == sorts.count("send") + sorts.count("send undone") - sorts.count("receipt")
     return heading_counts(picture, marked, crossed) and well
 
 

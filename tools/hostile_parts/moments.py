@@ -7,6 +7,7 @@ from typing import NamedTuple
 
 from hostile_parts.damage import mutated
 from hostile_parts.logs import channel_of, files_of, is_send, logs_of, message_of, note_each, random_run, texts_of
+from hostile_parts.pictures import Moment, Picture, is_picture_of_log, places_of_pictures
 from program import EXAMPLES, run
 
 # the most messages of the runs of which all are tried, with each choice of holds
@@ -16,6 +17,7 @@ GREATER_LOGS = 300
 CUT_LOGS = 200
 EARLY_LOGS = 200
 MUTATED_LOGS = 300
+DRAWN_LOGS = 300
 
 
 class Receipt(NamedTuple):
@@ -153,6 +155,16 @@ def moments_of(logs):
     return [cut for cut in itertools.product(*(range(len(log) + 1) for log in logs)) if is_moment(logs, cut)]
 
 
+class Found(NamedTuple):
+    """Where a receipt is first unsafe: the entry at whose least moment its member is an orphan, that moment, the least set that loses the
+    receipt there, and the orphans that this leaves."""
+    receipt: Receipt
+    place: int
+    cut: tuple
+    strike: set
+    orphans: list
+
+
 class Judge:
     """What is so at the moments of a log, found by trying all of them and all sets of members."""
 
@@ -168,9 +180,12 @@ class Judge:
     def holders(self, receipt, cut):
         return {entry[1] for entry in self.come(cut) if entry[0] == "hold" and receipt_of(entry) == receipt}
 
+    def is_stored(self, receipt, cut):
+        return any(entry[0] == "store" and receipt_of(entry) == receipt for entry in self.come(cut))
+
     def losses(self, receipt, cut):
         """The sets of members that may be lost at the moment and lose the receipt."""
-        if any(entry[0] == "store" and receipt_of(entry) == receipt for entry in self.come(cut)):
+        if self.is_stored(receipt, cut):
             return []
         return [lost for lost in self.sets if self.holders(receipt, cut) <= lost]
 
@@ -184,8 +199,8 @@ class Judge:
         """The least moment that has the member's entry."""
         return tuple(map(min, zip(*(cut for cut in self.moments if cut[member] > number))))
 
-    def line(self, receipt):
-        """The line of an unsafe receipt: the first entry, as they are listed, at whose least moment its member is an orphan."""
+    def found(self, receipt):
+        """Where the receipt is first unsafe: the first entry, as they are listed, at whose least moment its member is an orphan."""
         numbers = [0] * self.log.members
         for place, entry in enumerate(self.log.entries):
             member = entry[1]
@@ -195,13 +210,41 @@ class Judge:
                 losses = [lost for lost in self.losses(receipt, cut) if member not in lost]
                 if losses:
                     least = set.intersection(*losses)
-                    return f"unsafe {' '.join(map(str, receipt))} at {place} strike {words_of(least)} orphans {words_of(self.orphans(receipt, cut, least))}\n"
-        return f"{receipt} is unsafe nowhere\n"
+                    return Found(receipt, place, cut, least, self.orphans(receipt, cut, least))
+        return None
+
+    def line(self, receipt):
+        """The line of an unsafe receipt."""
+        found = self.found(receipt)
+        if not found:
+            return f"{receipt} is unsafe nowhere\n"
+        return f"unsafe {' '.join(map(str, receipt))} at {found.place} strike {words_of(found.strike)} orphans {words_of(found.orphans)}\n"
+
+    def receipts(self):
+        return [receipt_of(entry) for entry in self.log.entries if entry[0] == "receipt"]
+
+    def drawn(self):
+        """What the picture of the log is to show: its first unsafe receipt at its moment, or its last moment."""
+        first = next((self.found(receipt) for receipt in self.receipts() if self.is_unsafe(receipt)), None)
+        if first:
+            said = f"unsafe {' '.join(map(str, first.receipt))} at {first.place}, strike {words_of(first.strike)}, orphans {words_of(first.orphans)}"
+            return self.moment(first.cut, first.strike, first.orphans, said)
+        last = tuple(map(len, self.logs))
+        strike = set(self.log.strike)
+        lost = [receipt for receipt in self.receipts() if not self.is_stored(receipt, last) and self.holders(receipt, last) <= strike]
+        return self.moment(last, strike, [], f"struck {words_of(strike)}, lost {len(lost)}, orphans none")
+
+    def moment(self, cut, strike, orphans, said):
+        """What the entries are to be drawn as where these are struck at the moment."""
+        come = [number < cut[member] for member, number in places_of(self.log.members, self.log.entries)]
+        receipts = {place: receipt_of(entry) for place, entry in enumerate(self.log.entries) if entry[0] == "receipt"}
+        holders = {place: self.holders(receipt, cut) for place, receipt in receipts.items()}
+        stored = {place for place, receipt in receipts.items() if self.is_stored(receipt, cut)}
+        return Moment(strike, come, holders, stored, len(orphans), said)
 
     def text(self):
         """The lines of the check."""
-        receipts = [receipt_of(entry) for entry in self.log.entries if entry[0] == "receipt"]
-        return "".join(self.line(receipt) for receipt in receipts if self.is_unsafe(receipt)) or "safe\n"
+        return "".join(self.line(receipt) for receipt in self.receipts() if self.is_unsafe(receipt)) or "safe\n"
 
 
 def words_of(members):
@@ -282,6 +325,29 @@ def try_greater_logs(tally):
     note_each(tally, judge_log, logs)
 
 
+def judge_drawn(log):
+    """Whether the picture is that of the log at the moment which trying everything finds."""
+    ran, drawn = run(["draw"], log.text().encode()), Judge(log).drawn()
+    try:
+        well, why = is_picture_of_log(Picture(ran.text), places_of_pictures(), log.f, log.entries, drawn), drawn
+    except Exception as error:
+        well, why = False, error
+    return [((ran.status, ran.fault) == (0, "") and well, f"the picture of {log.text()} is not that of {why}: {ran}")]
+
+
+def try_drawn_logs(tally):
+    """The pictures of runs at random, with stores and strike sets."""
+    source = random.Random(10)
+    small = [run for members in (2, 3) for run in small_runs(members)]
+    places_of_pictures()
+    logs = []
+    for _ in range(DRAWN_LOGS):
+        own = source.choice(small)
+        strike = [member for member in range(len(own)) if source.random() < 0.15]
+        logs.append(log_of(source, some_records(source, own, ["hold", "hold", "store"]), source.randint(1, len(own) - 1), strike))
+    note_each(tally, judge_drawn, logs)
+
+
 # ---- logs in several files, and damaged ones
 
 
@@ -306,6 +372,10 @@ def judge_cut_log(log):
     same_audit = sorted(audited.text.splitlines()) == sorted(run(["audit"], log.text().encode()).text.splitlines())
     yield merged.status == 0 and logs_of(log.members, entries) == logs_of(log.members, log.entries), f"{log.text()} is merged to {merged}"
     yield (checked.status, checked.text) == (alone.status, wanted), f"{log.text()}, checked in files: {checked}, and not {wanted}"
+    drawn, first = run(["draw", *paths]), wanted.splitlines()[0] if wanted.startswith("unsafe ") else None
+    heading = first and first.replace(" strike ", ", strike ").replace(" orphans ", ", orphans ")
+    well = drawn.status == 0 and (not heading or Picture(drawn.text).heading.endswith(f": {heading}"))
+    yield well, f"{log.text()}, drawn from files: {drawn}, and not with {heading}"
     yield lines(checked.text) == lines(whole.text) and same_audit, f"{log.text()} in files: {checked} and not {whole}; {audited}"
 
 

@@ -1,4 +1,4 @@
-"""Pictures read as XML, and those of dumps compared with the dumps."""
+"""Pictures read as XML, and those of dumps and of logs compared with the dumps and the logs."""
 import json
 from functools import lru_cache
 from typing import NamedTuple
@@ -87,10 +87,11 @@ class Places:
         return self.lines.index(y)
 
     def rooms(self, columns):
-        """The columns before which there is more room than before others, in a picture of so many: names stand there again."""
+        """The columns before which names stand again, in a picture of so many: there is more room than before others, and there are more
+        than 8 columns behind."""
         steps = [end - start for start, end in zip(self.columns, self.columns[1:])]
         least = min(steps)
-        return [column for column, step in enumerate(steps[:columns], 1) if step > least]
+        return [column for column, step in enumerate(steps[:columns], 1) if step > least and columns - column > 8]
 
     def have_names(self, names, members, columns):
         """Whether these names, each with its point, are those of the members in each room, at the same place in each: above their lines."""
@@ -108,23 +109,38 @@ def places_of_pictures():
     return Places()
 
 
+def title_due(event, holders):
+    """What the mark of an event tells: of a receipt who holds it, where that is judged."""
+    if event[0] == "send":
+        return f"member {event[1]} sends its message {event[2]} to {event[3]}"
+    if event[0] == "receipt":
+        held_by = "to come" if holders is None else "held by " + (",".join(map(str, sorted(holders))) or "none")
+        return f"member {event[1]} receipt {event[2]}: message {event[4]} of {event[3]}, {held_by}"
+    return f"member {event[1]} {event[0]}s receipt {event[5]} of member {event[4]}"
+
+
 def mark_is(places, mark, column, event, holders):
     """Whether a mark tells of the event, and stands in its column on its member's line."""
-    if event[0] == "send":
-        _, member, ssn, to = event
-        told = f"member {member} sends its message {ssn} to {to}"
-    else:
-        _, member, rsn, source, ssn = event
-        held_by = ",".join(str(holder) for holder in sorted(holders)) or "none"
-        told = f"member {member} receipt {rsn}: message {ssn} of {source}, held by {held_by}"
-    return title_of(mark) == told and sorts_of(mark)[0] == event[0] and point_of(mark) == places.point(column, member)
+    return title_of(mark) == title_due(event, holders) and sorts_of(mark)[0] == event[0] and stands_at(mark, places.point(column, event[1]))
 
 
-def kind_of(dump, holders):
-    """How safe a receipt with these holders is."""
-    if holders <= set(dump["strike"]):
+def stands_at(mark, point):
+    """Whether a mark stands at the point: a hold begins on its left, and a store has it within."""
+    if sorts_of(mark)[0] == "store":
+        return all(0 < there - corner < 10 for there, corner in zip(point, numbers_of(mark, "x", "y")))
+    if sorts_of(mark)[0] == "hold":
+        x, y = mark.getAttribute("d")[1:].split("a")[0].split()
+        return 0 < point[0] - int(x) < 10 and int(y) == point[1]
+    return point_of(mark) == point
+
+
+def kind_of(f, strike, holders, is_stored=False):
+    """How safe a receipt with these holders is, where these members are struck."""
+    if is_stored:
+        return "stable"
+    if holders <= strike:
         return "lost"
-    return "stable" if len(holders) > dump["f"] else "recorded"
+    return "stable" if len(holders) > f else "recorded"
 
 
 def names_of(picture):
@@ -158,8 +174,7 @@ def is_picture_of(dump, picture, places, orphans, found=None):
     for column, (mark, event) in enumerate(zip(marks, events)):
         holders = {pair[0] for pair in dump["held"] if event[0] == "receipt" and pair[1:] == [event[3], event[4], event[1], event[2]]}
         well = well and mark_is(places, mark, column, event, holders)
-        is_found = found is not None and event[0] == "receipt" and [event[3], event[4], event[1], event[2]] == found.determinant
-        well = well and (event[0] == "send" or sorts_of(mark) == ["receipt", "lost" if is_found else kind_of(dump, holders)])
+        well = well and (event[0] == "send" or sorts_of(mark) == ["receipt", kind_of(dump["f"], strike, holders)])
     sends = [event for event in events if event[0] == "send"]
     well = well and len(picture.lines_of("message")) == len(sends)
     well = well and len(picture.stubs()) == 2 * len(sends) - len(events)
@@ -170,6 +185,57 @@ def is_picture_of(dump, picture, places, orphans, found=None):
     has_path = picture.lines_of("path") != []
     well = well and has_path <= (orphans > 0) and (lost_here or has_path == (orphans > 0))
     return well and places.have_names(names_of(picture), dump["members"], len(events))
+
+
+class Moment(NamedTuple):
+    """What a log has at a moment: who is struck, for each entry whether it has come, of each receipt that has, by its place, who holds it
+    and whether it is stored; how many members are orphans, and what the heading says of it all."""
+    strike: set
+    come: list
+    holders: dict
+    stored: set
+    orphans: int
+    said: str
+
+
+def is_grey(mark):
+    return mark.parentNode.tagName == "g" and sorts_of(mark.parentNode) == ["to-come"]
+
+
+def is_judged(picture, places, f, entries, moment):
+    """Whether each mark of a log's picture is that of its entry at the moment, and grey if the entry has not come."""
+    well = len(picture.marks) == len(entries)
+    for column, (mark, entry) in enumerate(zip(picture.marks, entries)):
+        come = moment.come[column]
+        holders = moment.holders[column] if come and entry[0] == "receipt" else None
+        well = well and mark_is(places, mark, column, entry, holders) and is_grey(mark) != come
+        if entry[0] == "receipt":
+            kind = kind_of(f, moment.strike, holders, column in moment.stored) if come else "to-come"
+            well = well and sorts_of(mark) == ["receipt", kind]
+    return well
+
+
+def moment_lines(picture, places):
+    """For each member, how far from the left the line of the moment crosses its line: a part begins above the member's line that is next."""
+    crossings = {}
+    for mark in picture.marks:
+        if sorts_of(mark) == ["moment"]:
+            x, top = mark.getAttribute("d")[1:].split("V")[0].split()
+            crossings[next(member for member, y in enumerate(places.lines) if y > int(top))] = int(x)
+    return crossings
+
+
+def is_picture_of_log(picture, places, f, entries, moment):
+    """Whether the picture is that of the log's entries at the moment: its line has on its left what has come, the rest is grey, and no
+    orphan's line goes beyond it."""
+    crossings = moment_lines(picture, places)
+    picture.marks = [mark for mark in picture.marks if sorts_of(mark) != ["moment"]]
+    well = is_judged(picture, places, f, entries, moment) and picture.heading.endswith(f" {len(entries)} entries: {moment.said}")
+    for column, entry in enumerate(entries):
+        well = well and moment.come[column] == (places.columns[column] < crossings.get(entry[1], places.columns[-1]))
+    orphans = picture.lines_of("line", "orphan")
+    ends = [crossings[places.member_at(*numbers_of(line, "y1"))] for line in orphans]
+    return well and len(orphans) == moment.orphans and [numbers_of(line, "x2")[0] for line in orphans] == ends
 
 
 def try_picture(tally, places, name, given, orphans, found=None):

@@ -26,7 +26,6 @@ pub use Rattle.fbl_logs.specs.Entries.{marks, entry_member, log_of, receipts_in}
 pub use Rattle.fbl_reasons.specs.Reasons.{cut_in}
 pub use Rattle.fbl_pictures.specs.Crossings.{HasPassed, IsBehind, IsBeyond, IsCrossing, IsEnd, IsCrossingOf, AreCrossings}
 pub use Rattle.fbl_logs.specs.Clocks.{seen, StandsAt}
-pub use Rattle.fbl_shapes.specs.declared.shape.Legend.TheVariants.{Dump, UnsafeDump, Log, UnsafeLog}
 pub use Rattle.fbl_pictures.specs.declared.columns.Columns.{Columns}
 pub use Rattle.fbl_moments.specs.declared.check.UnsafeMoment.{UnsafeMoment}
-pub use Rattle.fbl_pictures.specs.LogPictures.{AreSafeShapes, log_heading, found_in}
+pub use Rattle.fbl_pictures.specs.LogPictures.{log_heading, found_in}

@@ -1,5 +1,5 @@
 -- What a check found, and where paths from it end.
-use Rattle.fbl_pictures.proofs.Common.{ℕ, zero, suc, ◌+◌, ◌-◌, ◌<◌, ◌==◌, ◌≡◌, ◌⊎◌, ◌↔◌, true, false, List, [], ◌∷◌, Option, Some, length, slice_get, inl, inr, refl, sym, ap, ◌∙◌, arith, slice_get_within, subst, false≢true, Determinant, Entry, Event, Hold, Store, IsPathTo, IsStart, HasOrphan, placed_from, nat_tests, At-filter_map, Parts, IsDumpOrphan, determinant_of, receipt_of, receipts, IsPath, Origin, path_end, path_step, marks, IsFirstUnsafe, AreFoundShapes, column_of, column_of_end, Shape, Columns}
+use Rattle.fbl_pictures.proofs.Common.{ℕ, zero, suc, ◌+◌, ◌-◌, ◌<◌, ◌==◌, ◌≡◌, ◌⊎◌, ◌↔◌, true, false, List, [], ◌∷◌, Option, Some, length, slice_get, inl, inr, refl, sym, ap, ◌∙◌, arith, slice_get_within, subst, false≢true, Determinant, Entry, Event, Hold, Store, IsPathTo, IsStart, HasOrphan, placed_from, nat_tests, At-filter_map, Parts, IsDumpOrphan, determinant_of, receipt_of, receipts, IsPath, Origin, path_end, path_step, marks, IsFirstUnsafe, column_of, column_of_end}
 use Rattle.std.specs.FinSet as set
 use Rattle.std.specs.Ordering.{nat_cmp}
 use Rattle.std.specs.Prelude.{option_and_then, map, MatchOption}
@@ -85,19 +85,3 @@ pub first_said : (dump : Parts) (items : List UnsafeReceipt) (found : Option Uns
     → ¬ (HasOrphan dump) → found ≡ slice_get items 0 → MatchOption found (HasOrphan dump ⊎ IsSafe dump) (λ u. (¬ (HasOrphan dump)) × IsFirstUnsafe dump u)
 first_said dump [] found says safe none is = (let P : Option UnsafeReceipt → Type 0 = λ o. MatchOption o (HasOrphan dump ⊎ IsSafe dump) (λ u. (¬ (HasOrphan dump)) × IsFirstUnsafe dump u) in rw is (inr (safe.0 refl)))
 first_said dump (u ∷ items) found says safe none is = rw is (none, (items, says))
-
--- ---- the moment of found shapes
-
-pub weaker_moment : (dump : Parts) (entries : List Entry) (found : UnsafeReceipt) (Is Becomes : Columns → Type 0) (shapes : List Shape) → ((columns : Columns) → Is columns → Becomes columns)
-    → AreFoundShapes dump entries found Is shapes → AreFoundShapes dump entries found Becomes shapes
-weaker_moment dump entries found Is Becomes shapes weaker are = record {
-  place = are.place;
-  receipt = are.receipt;
-  lines = are.lines;
-  struck = are.struck;
-  starts = are.starts;
-  moment = weaker are.lines.moment are.moment;
-  paths = are.paths;
-  drawn = are.drawn;
-  are = are.are;
-}

@@ -1,5 +1,5 @@
 -- The picture of a dump: by its audit, or with the receipt that a check of it finds.
-use Rattle.std.specs.Prelude.{ℕ, ◌≡◌, ◌<◌, ◌⊎◌, ◌↔◌, true, List, [], ◌∷◌, ◌++◌, length, map, None, codes}
+use Rattle.std.specs.Prelude.{ℕ, ◌≡◌, ◌<◌, ◌⊎◌, ◌↔◌, true, List, [], ◌∷◌, ◌++◌, length, map, codes}
 use Rattle.std.specs.List.{range_with_len}
 use Rattle.std.specs.FinSet as set
 use Rattle.fbl_dumps.specs.Dumps.{Parts}
@@ -11,8 +11,8 @@ use Rattle.fbl_audit.specs.Paths.{IsOrphanPath}
 use Rattle.fbl_audit.specs.declared.checking.UnsafeReceipt.{UnsafeReceipt}
 use Rattle.fbl_logs.specs.declared.entry.Entry.{Entry}
 use Rattle.fbl_logs.specs.declared.entry.Entry.TheVariants.{Event}
+use Rattle.fbl_pictures.specs.declared.columns.Columns.{Columns}
 use Rattle.fbl_pictures.specs.declared.run_members.Lines.{Lines}
-use Rattle.fbl_shapes.specs.declared.shape.Legend.TheVariants.{Dump, UnsafeDump}
 use Rattle.fbl_shapes.specs.declared.shape.Shape.{Shape}
 use Rattle.fbl_pictures.specs.FoundPictures.{AreFoundShapes, NoColumns}
 use Rattle.fbl_pictures.specs.Headings.{audit_words, heading, unsafe_words}
@@ -53,15 +53,14 @@ abbrev pub AreShapesOf : Parts → List Shape → Type 0
 AreShapesOf dump shapes =
     (lines : Lines) × AreAuditedLines dump lines
     × (paths : List Shape) × ArePathsDrawn dump (range_with_len 0 dump.members) paths
-    × (shapes ≡ run_shapes dump (dump_entries dump) None lines paths)
+    × (shapes ≡ run_shapes dump [] (dump_entries dump) lines paths)
 
 -- the text is the picture of the dump by its audit
 abbrev pub IsAuditedPicture : Parts → List ℕ → Type 0
 IsAuditedPicture dump text =
     (orphans : Members) × ((q : ℕ) → (set.contains orphans q ≡ true) ↔ IsDumpOrphan dump q)
     × (shapes : List Shape) × AreShapesOf dump shapes
-    × (text ≡ picture (dump_heading dump (audit_words dump.strike (length (lost_determinants dump)) orphans)) dump.members (length dump.events) Dump
-    shapes)
+    × (text ≡ picture (dump_heading dump (audit_words dump.strike (length (lost_determinants dump)) orphans)) dump.members (length dump.events) shapes)
 
 -- ---- with the receipt that a check finds
 
@@ -72,9 +71,8 @@ IsFirstUnsafe dump found = (rest : List UnsafeReceipt) × SaysUnsafe dump (recei
 -- the text is the picture of the dump with this receipt
 abbrev pub IsUnsafePicture : Parts → UnsafeReceipt → List ℕ → Type 0
 IsUnsafePicture dump found text =
-    (shapes : List Shape) × AreFoundShapes dump (dump_entries dump) found NoColumns shapes
-    × (text ≡ picture (dump_heading dump (unsafe_words found.determinant None found.strike found.orphans)) dump.members (length dump.events)
-    UnsafeDump shapes)
+    (moment : Columns) × NoColumns moment × (shapes : List Shape) × AreFoundShapes dump [] (dump_entries dump) found moment shapes
+    × (text ≡ picture (dump_heading dump (unsafe_words found.determinant [] found.strike found.orphans)) dump.members (length dump.events) shapes)
 
 -- ---- the whole
 

@@ -50,15 +50,16 @@ ArePaths origin events orphans (member ∷ members) shapes =
 abbrev pub from_place : Parts → ℕ → Origin
 from_place dump place = record { events = dump.events; place = place }
 
--- the shapes of a run of which a check found this receipt, at a moment that stands before these columns
-pub record AreFoundShapes (dump : Parts) (entries : List Entry) (found : UnsafeReceipt) (IsMoment : Columns → Type 0) (shapes : List Shape)
+-- the shapes of a run of which a check found this receipt, at a moment that stands before these columns, if they are any: the dump has who
+-- holds what there, and what these entries store is on stable storage
+pub record AreFoundShapes (dump : Parts) (stored entries : List Entry) (found : UnsafeReceipt) (moment : Columns) (shapes : List Shape)
     : Type 0 where
   pub place : ℕ
   pub receipt : At dump.events place (receipt_of found.determinant)
   pub lines : Lines
   pub struck : lines.struck ≡ found.strike
   pub starts : (q : ℕ) → q < 16 → IsStart (from_place dump place) (placed_from 0 entries) found.orphans q (column_in lines.starts q)
-  pub moment : IsMoment lines.moment
+  pub at : lines.moment ≡ moment
   pub paths : List Shape
   pub drawn : ArePaths (from_place dump place) (placed_from 0 entries) found.orphans (range_with_len 0 dump.members) paths
-  pub are : shapes ≡ run_shapes dump entries (Some found.determinant) lines paths
+  pub are : shapes ≡ run_shapes dump stored entries lines paths

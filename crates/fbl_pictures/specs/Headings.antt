@@ -1,5 +1,6 @@
 -- The headings of pictures of runs.
-use Rattle.std.specs.Prelude.{ℕ, List, [], ◌∷◌, ◌++◌, Option, Some, None, codes, decimal}
+use Rattle.std.specs.Prelude.{ℕ, ◌==◌, List, [], ◌∷◌, ◌++◌, chars, codes, decimal, encode_utf8, if◌then◌else◌}
+use Rattle.std.specs.List.{flat_map}
 use Rattle.fbl_trace.specs.declared.trace.Determinant.{Determinant}
 use Rattle.fbl_trace.specs.MemberSets.{Members}
 use Rattle.fbl_texts.specs.Sets.{set_words}
@@ -10,17 +11,19 @@ abbrev pub audit_words : Members → ℕ → Members → List ℕ
 audit_words struck lost orphans =
     joined (codes "struck " ∷ set_words struck ∷ codes ", lost " ∷ decimal lost ∷ codes ", orphans " ∷ set_words orphans ∷ [])
 
--- at which place, if there is one to tell
-abbrev pub place_words : Option ℕ → List ℕ
-place_words None = []
-place_words (Some place) = codes " at " ++ decimal place
-
--- what a check says of a receipt: what names it, at which place it is unsafe, the strike set that loses it, and the orphans
-abbrev pub unsafe_words : Determinant → Option ℕ → Members → Members → List ℕ
-unsafe_words d place strike orphans =
-    joined (codes "unsafe " ∷ decimal d.from ∷ codes " " ∷ decimal d.ssn ∷ codes " " ∷ decimal d.to ∷ codes " " ∷ decimal d.rsn ∷ place_words place
-    ∷ [])
+-- what a check says of a receipt: what names it, in some words at which moment it is unsafe, the strike set that loses it, and the orphans
+abbrev pub unsafe_words : Determinant → List ℕ → Members → Members → List ℕ
+unsafe_words d at strike orphans =
+    joined (codes "unsafe " ∷ decimal d.from ∷ codes " " ∷ decimal d.ssn ∷ codes " " ∷ decimal d.to ∷ codes " " ∷ decimal d.rsn ∷ at ∷ [])
     ++ joined (codes ", strike " ∷ set_words strike ∷ codes ", orphans " ∷ set_words orphans ∷ [])
+
+-- a character as it may stand in XML
+abbrev pub escape : ℕ → List ℕ
+escape c = if c == 38 then codes "&amp;" else (if c == 60 then codes "&lt;" else (if c == 62 then codes "&gt;" else encode_utf8 c))
+
+-- the text so
+abbrev pub escaped : List ℕ → List ℕ
+escaped text = flat_map escape (chars text)
 
 -- the numbers of the run: its members, f, and how many of these it has; and what is said of it
 abbrev pub heading : ℕ → ℕ → ℕ → List ℕ → List ℕ → List ℕ

@@ -4,7 +4,6 @@ use Rattle.fbl_history.specs.declared.column.Column.{Column}
 use Rattle.fbl_history.specs.Columns.{receipts_made, receipts_undone}
 use Rattle.fbl_pictures.specs.Marks.{joined}
 use Rattle.fbl_pictures.specs.Pictures.{picture}
-use Rattle.fbl_shapes.specs.declared.shape.Legend.TheVariants as legends
 use Rattle.fbl_pictures.specs.Words.{receipts_word}
 use Rattle.fbl_shapes.specs.HistoryShapes.{history_shapes}
 
@@ -18,4 +17,4 @@ history_title members f behaviour columns =
 -- the picture of a history of a group of so many members, of whom f may be lost at once, under a behaviour of this name
 abbrev pub history_picture : ℕ → ℕ → List ℕ → List Column → List ℕ
 history_picture members f behaviour columns =
-    picture (history_title members f behaviour columns) members (length columns) legends.History (history_shapes members columns)
+    picture (history_title members f behaviour columns) members (length columns) (history_shapes members columns)

@@ -1,6 +1,7 @@
 pub mod Places
 pub mod Words
 pub mod Marks
+pub mod Legends
 pub mod Pictures
 pub mod HistoryPictures
 pub mod RunPictures

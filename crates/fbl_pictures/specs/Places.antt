@@ -1,7 +1,5 @@
 -- Where shapes stand, counted from the left and from the top.
-use Rattle.std.specs.Prelude.{ℕ, ◌+◌, ◌-◌, ◌*◌, ◌/◌, ◌%◌, ◌==◌, ◌&&◌, Bool, max, nat_lt, Option, Some, None, if◌then◌else◌}
-use Rattle.fbl_shapes.specs.declared.shape.Legend.{Legend}
-use Rattle.fbl_shapes.specs.declared.shape.Legend.TheVariants as legend
+use Rattle.std.specs.Prelude.{ℕ, ◌+◌, ◌-◌, ◌*◌, ◌/◌, ◌%◌, max, nat_lt, Option, Some, None, if◌then◌else◌}
 
 -- where a column stands: before each that follows 24 others there is room for the members' names
 abbrev pub x : ℕ → ℕ
@@ -20,19 +18,21 @@ before column = x column - 20
 abbrev pub y : ℕ → ℕ
 y member = 74 + 80 * member
 
--- where the second line of words below a mark stands: long words are lower in every other column, so that neighbours have room
-abbrev pub below : ℕ → ℕ → Bool → ℕ
-below column member long = if long && column % 2 == 1 then y member + 44 else y member + 32
-
 -- the first one where the other member's line is below the member's, and else the second one
 abbrev pub towards : ℕ → ℕ → ℕ → ℕ → ℕ
 towards from to down up = if nat_lt from to then down else up
 
--- a picture is as wide as its columns need, and wide enough for a legend
-abbrev pub width : ℕ → ℕ
-width columns = max (x columns + 30) 760
+-- a picture is as wide as its columns and its title need, and wide enough for a legend
+abbrev pub width : ℕ → ℕ → ℕ
+width columns title = max (max (x columns + 30) (8 * title + 32)) 815
 
--- below the members' lines there is room for the legend, which has four lines at a moment, and else three
-abbrev pub height : ℕ → Legend → ℕ
-height members legend.UnsafeLog = y members + 84
-height members other = y members + 62
+-- a legend has three signs in a row, below the members' lines
+abbrev pub sign_x : ℕ → ℕ
+sign_x before = 14 + 265 * (before % 3)
+
+abbrev pub sign_y : ℕ → ℕ → ℕ
+sign_y members before = y members - 4 + 22 * (before / 3)
+
+-- a picture is as high as its members' lines and its legend need
+abbrev pub height : ℕ → ℕ → ℕ
+height members signs = y members - 4 + 22 * ((signs + 2) / 3)

@@ -1,6 +1,6 @@
 -- What is drawn of a recorded run: a mark for each entry, an arrow for each message, a line for each member, the line of a moment, and
 -- paths. The column of an entry is its place. A dump is drawn as the entries that its events are.
-use Rattle.std.specs.Prelude.{ℕ, ◌≡◌, ◌+◌, ◌==◌, Bool, true, false, not, nat_lt, List, [], ◌∷◌, ◌++◌, Option, Some, None, length, slice_get, slice_index_or, option_and_then, if◌then◌else◌}
+use Rattle.std.specs.Prelude.{ℕ, ◌≡◌, ◌+◌, ◌==◌, Bool, true, false, nat_lt, List, [], ◌∷◌, ◌++◌, Option, Some, None, length, slice_get, slice_index_or, option_and_then, if◌then◌else◌}
 use Rattle.std.specs.HashMap as hash_map
 use Rattle.std.specs.List.{flat_map, list_any, position_from, range_with_len}
 use Rattle.std.specs.Option.{option_to_list}
@@ -10,9 +10,9 @@ use Rattle.fbl_trace.specs.declared.trace.Mark.{Mark}
 use Rattle.fbl_trace.specs.declared.trace.Mark.TheVariants.{Send, Receipt}
 use Rattle.fbl_trace.specs.declared.trace.MessageName.{MessageName}
 use Rattle.fbl_dumps.specs.Dumps.{Parts, holders_of}
-use Rattle.fbl_base.specs.Audit.{is_held_outside}
 use Rattle.fbl_trace.specs.Events.{is_message, member_of, same_determinant, same_message}
-use Rattle.fbl_logs.specs.Entries.{mark_in}
+use Rattle.fbl_trace.specs.MemberSets.{Members}
+use Rattle.fbl_logs.specs.Entries.{entry_member, mark_in}
 use Rattle.fbl_logs.specs.declared.entry.Entry.{Entry}
 use Rattle.fbl_logs.specs.declared.entry.Entry.TheVariants.{Event, Hold, Store}
 use Rattle.fbl_pictures.specs.declared.columns.Columns.{Columns}
@@ -20,7 +20,7 @@ use Rattle.fbl_pictures.specs.declared.entries.Placed.{Placed}
 use Rattle.fbl_pictures.specs.declared.run_members.Lines.{Lines}
 use Rattle.fbl_shapes.specs.declared.shape.ArrowKind.TheVariants as arrow_kind
 use Rattle.fbl_shapes.specs.declared.shape.Kind.{Kind}
-use Rattle.fbl_shapes.specs.declared.shape.Kind.TheVariants.{Stable, Recorded, Lost}
+use Rattle.fbl_shapes.specs.declared.shape.Kind.TheVariants.{Stable, Recorded, Lost, ToCome}
 use Rattle.fbl_shapes.specs.declared.shape.LineKind.TheVariants as line_kind
 use Rattle.fbl_shapes.specs.declared.shape.Shape.{Shape}
 use Rattle.fbl_shapes.specs.declared.shape.Shape.TheVariants as shape
@@ -42,17 +42,15 @@ abbrev pub is_that : Option Determinant → Determinant → Bool
 is_that None d = false
 is_that (Some found) d = same_determinant found d
 
--- whether the determinant is on stable storage in the end
+-- whether these entries put the determinant on stable storage
 abbrev pub is_stored : List Entry → Determinant → Bool
-is_stored entries d = list_any (λ e. is_that (stored_by e) d) entries
+is_stored stored d = list_any (λ e. is_that (stored_by e) d) stored
 
--- lost where no member outside the strike set holds the determinant; else stable where more than f members hold it
-abbrev pub kind_of : Parts → Determinant → Kind
-kind_of dump d = if not (is_held_outside dump d) then Lost else (if nat_lt dump.f (set.len (holders_of dump d)) then Stable else Recorded)
-
--- the receipt that a check found, if it found one, is drawn as lost, and what is on stable storage as stable
-abbrev pub kind_in : Parts → List Entry → Option Determinant → Determinant → Kind
-kind_in dump entries found d = if is_that found d then Lost else (if is_stored entries d then Stable else kind_of dump d)
+-- stable where it is on stable storage; else lost where nobody but the struck holds it, and stable where more than f members hold it
+abbrev pub judged_kind : ℕ → Members → Bool → Members → Kind
+judged_kind f struck is_stored holders =
+    if is_stored then Stable else
+    (if set.len (set.difference holders struck) == 0 then Lost else (if nat_lt f (set.len holders) then Stable else Recorded))
 
 -- the message that the event takes, if it is a receipt
 abbrev pub taken_by : Mark → Option MessageName
@@ -77,43 +75,64 @@ IsPlacesOf entries places = (message : MessageName) → hash_map.get same_messag
 
 -- ---- entries: a mark for each, and an arrow for each message
 
--- the mark of an event: that of a receipt tells of which kind it is, and who holds it in the end
-abbrev pub event_mark : Parts → List Entry → Option Determinant → ℕ → Mark → Shape
-event_mark dump entries found place (Send from ssn to) = shape.Send place from ssn to false
-event_mark dump entries found place (Receipt to rsn from ssn) =
-    let d : Determinant = record { from = from; ssn = ssn; to = to; rsn = rsn } in
-    shape.Held place d (kind_in dump entries found d) (holders_of dump d)
+-- what the columns have for a member, if they have anything
+abbrev pub column_in : Columns → ℕ → Option ℕ
+column_in columns member = slice_index_or columns.columns member None
+
+-- whether the place is before the column, if there is one
+abbrev pub is_left : ℕ → Option ℕ → Bool
+is_left place None = true
+is_left place (Some column) = nat_lt place column
+
+-- whether what stands at the place in the member's log has come at the moment: it is left of the moment's line, if one is drawn
+abbrev pub has_come : Columns → ℕ → ℕ → Bool
+has_come moment place member = is_left place (column_in moment member)
+
+-- the shape of an entry that has come, or that has not: this is grey
+abbrev pub in_time : Bool → Shape → List Shape
+in_time true drawn_shape = drawn_shape ∷ []
+in_time false drawn_shape = shape.BeginToCome ∷ drawn_shape ∷ shape.EndToCome ∷ []
+
+-- the mark of a receipt: of one that has come it tells of which kind it is by who holds it and what is stored; the other is not judged
+abbrev pub receipt_mark : Parts → List Entry → Members → Bool → ℕ → Determinant → Shape
+receipt_mark dump stored struck true place d =
+    shape.Held place d (judged_kind dump.f struck (is_stored stored d) (holders_of dump d)) (holders_of dump d)
+receipt_mark dump stored struck false place d = shape.Held place d ToCome set.empty
+
+-- the mark of an event
+abbrev pub event_mark : Parts → List Entry → Members → Bool → ℕ → Mark → Shape
+event_mark dump stored struck come place (Send from ssn to) = shape.Send place from ssn to false
+event_mark dump stored struck come place (Receipt to rsn from ssn) =
+    receipt_mark dump stored struck come place (record { from = from; ssn = ssn; to = to; rsn = rsn })
 
 -- the mark of an entry
-abbrev pub entry_mark : Parts → List Entry → Option Determinant → ℕ → Entry → Shape
-entry_mark dump entries found place (Event e) = event_mark dump entries found place e
-entry_mark dump entries found place (Hold q d) = shape.Hold place q d
-entry_mark dump entries found place (Store q d) = shape.Store place q d
+abbrev pub entry_mark : Parts → List Entry → Members → Bool → ℕ → Entry → Shape
+entry_mark dump stored struck come place (Event e) = event_mark dump stored struck come place e
+entry_mark dump stored struck come place (Hold q d) = shape.Hold place q d
+entry_mark dump stored struck come place (Store q d) = shape.Store place q d
 
-abbrev pub entry_marks : Parts → List Entry → Option Determinant → ℕ → Entry → List Shape
-entry_marks dump entries found place e = entry_mark dump entries found place e ∷ []
+abbrev pub entry_marks : Parts → List Entry → Lines → ℕ → Entry → List Shape
+entry_marks dump stored lines place e =
+    let come = has_come lines.moment place (entry_member e) in in_time come (entry_mark dump stored lines.struck come place e)
 
 -- the arrow of a message that is received at a place, or that of one in flight
 abbrev pub message_arrow : ℕ → ℕ → ℕ → Option ℕ → Shape
 message_arrow place from to (Some end) = shape.Arrow from place to end arrow_kind.Message
-message_arrow place from to None = shape.InFlight from place to false
+message_arrow place from to None = shape.InFlight from place to false false
 
--- the arrow of an event among the entries, if it is a send
-abbrev pub event_arrow : List Entry → ℕ → Mark → List Shape
-event_arrow entries place (Send from ssn to) = message_arrow place from to (receipt_place entries (record { from = from; ssn = ssn })) ∷ []
-event_arrow entries place (Receipt to rsn from ssn) = []
+-- the arrow of an event among the entries, if it is a send, which has come or not
+abbrev pub event_arrow : List Entry → Bool → ℕ → Mark → List Shape
+event_arrow entries come place (Send from ssn to) =
+    in_time come (message_arrow place from to (receipt_place entries (record { from = from; ssn = ssn })))
+event_arrow entries come place (Receipt to rsn from ssn) = []
 
 -- the same of an entry
-abbrev pub entry_arrow : List Entry → ℕ → Entry → List Shape
-entry_arrow entries place (Event e) = event_arrow entries place e
-entry_arrow entries place (Hold q d) = []
-entry_arrow entries place (Store q d) = []
+abbrev pub entry_arrow : List Entry → Columns → ℕ → Entry → List Shape
+entry_arrow entries moment place (Event e) = event_arrow entries (has_come moment place (member_of e)) place e
+entry_arrow entries moment place (Hold q d) = []
+entry_arrow entries moment place (Store q d) = []
 
 -- ---- members: a label, names and a line for each
-
--- what the columns have for a member, if they have anything
-abbrev pub column_in : Columns → ℕ → Option ℕ
-column_in columns member = slice_index_or columns.columns member None
 
 -- whether a member is struck, and else whether it is an orphan from some column on
 abbrev pub run_status : Bool → Option ℕ → Status
@@ -126,16 +145,20 @@ abbrev pub member_line : ℕ → ℕ → Bool → Option ℕ → Shape
 member_line columns member true (Some moment) = shape.DownFrom member moment columns
 member_line columns member struck moment = shape.Line member None columns (line_kind_of struck)
 
--- an orphan's line from the first event that depends on the lost receipt
-abbrev pub orphan_line : ℕ → ℕ → Option ℕ → List Shape
-orphan_line columns member None = []
-orphan_line columns member (Some column) = shape.Line member (Some column) columns line_kind.Orphan ∷ []
+-- an orphan's line from its first event that depends on the lost receipt, up to the moment where there is one
+abbrev pub orphan_line : ℕ → ℕ → ℕ → Option ℕ → Shape
+orphan_line columns member start None = shape.Line member (Some start) columns line_kind.Orphan
+orphan_line columns member start (Some moment) = shape.OrphanUpTo member start moment
+
+abbrev pub orphan_lines : ℕ → ℕ → Option ℕ → Option ℕ → List Shape
+orphan_lines columns member None moment = []
+orphan_lines columns member (Some start) moment = orphan_line columns member start moment ∷ []
 
 -- a member's label, its number again in a wide picture, and its lines
 abbrev pub member_shapes : ℕ → ℕ → Bool → Option ℕ → Option ℕ → List Shape
 member_shapes columns member struck start moment =
     label_and_names columns member (Some (run_status struck start)) ++ member_line columns member struck moment ∷ []
-    ++ orphan_line columns member start
+    ++ orphan_lines columns member start moment
 
 abbrev pub shapes_of_member : ℕ → Lines → ℕ → List Shape
 shapes_of_member columns lines member =
@@ -191,9 +214,9 @@ path_shapes events (start ∷ end ∷ places) =
 -- the members' lines, the arrows, and over them the line of the moment
 abbrev pub lines_and_arrows : ℕ → List Entry → Lines → List Shape
 lines_and_arrows members entries lines =
-    members_drawn members (length entries) lines ++ drawn (entry_arrow entries) 0 entries ++ moment_drawn members lines.moment
+    members_drawn members (length entries) lines ++ drawn (entry_arrow entries lines.moment) 0 entries ++ moment_drawn members lines.moment
 
--- these, over them paths, and over these the marks; `dump` has who holds what in the end
-unfoldable pub run_shapes : Parts → List Entry → Option Determinant → Lines → List Shape → List Shape
-run_shapes dump entries found lines paths =
-    lines_and_arrows dump.members entries lines ++ paths ++ drawn (entry_marks dump entries found) 0 entries
+-- these, over them paths, and over these the marks; the dump has who holds what, and what these entries store is on stable storage
+unfoldable pub run_shapes : Parts → List Entry → List Entry → Lines → List Shape → List Shape
+run_shapes dump stored entries lines paths =
+    lines_and_arrows dump.members entries lines ++ paths ++ drawn (entry_marks dump stored lines) 0 entries

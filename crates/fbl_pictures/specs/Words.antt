@@ -9,7 +9,7 @@ use Rattle.fbl_shapes.specs.declared.shape.ArrowKind.{ArrowKind}
 use Rattle.fbl_shapes.specs.declared.shape.ArrowKind.TheVariants as arrow_kind
 use Rattle.fbl_shapes.specs.declared.shape.Kind.{Kind}
 use Rattle.fbl_shapes.specs.declared.shape.Kind.TheVariants as kind
-use Rattle.fbl_pictures.specs.Places.{before, below, left, towards, x, y}
+use Rattle.fbl_pictures.specs.Places.{before, left, x, y}
 
 -- these words, if so
 abbrev pub words_if : Bool → List ℕ → List ℕ
@@ -38,16 +38,16 @@ arrow_class arrow_kind.Again = codes "message again"
 arrow_class arrow_kind.AgainUndone = codes "message again undone"
 arrow_class arrow_kind.Path = codes "path"
 
--- the class of the stub of a message in flight
-abbrev pub in_flight_class : Bool → List ℕ
-in_flight_class true = codes "message in-flight again"
-in_flight_class false = codes "message in-flight"
+-- the class of the stub of a message in flight, which may have been sent again, or undone
+abbrev pub in_flight_class : Bool → Bool → List ℕ
+in_flight_class again undone = codes "message in-flight" ++ words_if again (codes " again") ++ words_if undone (codes " undone")
 
 -- the class of a receipt of a dump
 abbrev pub kind_class : Kind → List ℕ
 kind_class kind.Stable = codes "receipt stable"
 kind_class kind.Recorded = codes "receipt recorded"
 kind_class kind.Lost = codes "receipt lost"
+kind_class kind.ToCome = codes "receipt to-come"
 
 -- so many receipts
 abbrev pub receipts_word : ℕ → List ℕ
@@ -80,14 +80,10 @@ drawn_down_from member column end =
     segment (line_class line_kind.Up) (left None) (y member) (before column) (y member)
     ++ segment (line_class line_kind.Down) (before column) (y member) (x end) (y member)
 
+-- the line of an orphan from a column up to the moment before another
+unfoldable pub drawn_orphan_up_to : ℕ → ℕ → ℕ → List ℕ
+drawn_orphan_up_to member start column = segment (line_class line_kind.Orphan) (x start) (y member) (before column) (y member)
+
 -- an arrow from a send to a receipt of its message
 unfoldable pub drawn_arrow : ℕ → ℕ → ℕ → ℕ → ArrowKind → List ℕ
 drawn_arrow from sent to received kind = segment (arrow_class kind) (x sent) (y from) (x received) (y to)
-
--- a message in flight: a stub from its send on its receiver's side, and the receiver's number. Above the line it stands beside
--- the send's own number
-unfoldable pub drawn_in_flight : ℕ → ℕ → ℕ → Bool → List ℕ
-drawn_in_flight from sent to again =
-    let low = below sent from true in
-    segment (in_flight_class again) (x sent) (y from) (x sent + towards from to 0 18) (towards from to (low - 12) (y from - 20))
-    ++ line (codes "<text class='at' x='" ∷ decimal (x sent + towards from to 0 26) ∷ codes "' y='" ∷ decimal (towards from to low (y from - 22)) ∷ codes "'>to " ∷ decimal to ∷ codes "</text>" ∷ [])

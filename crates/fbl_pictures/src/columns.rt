@@ -12,7 +12,7 @@ pub(crate) struct Columns {
 }
 
 impl Columns {
-    ghost use Rattle.fbl_pictures.specs.RunPictures.{column_in};
+    ghost use Rattle.fbl_pictures.specs.RunPictures.{column_in, has_come};
 
     /// No column for any member.
     pub(crate) fn none() -> Columns
@@ -37,6 +37,16 @@ impl Columns {
         match self.columns.get(usize::from(number)) {
             Some(column) => *column,
             None => None,
+        }
+    }
+
+    /// Whether the column at the place, which is the member's, is left of the member's column here: each is where it has none.
+    pub(crate) fn has_come(&self, place: usize, member: Member) -> bool
+        ensures { result ≡ has_come self.now place member }
+    {
+        match self.get(member.number()) {
+            Some(column) => place < column,
+            None => true,
         }
     }
 

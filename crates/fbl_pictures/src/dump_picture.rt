@@ -17,7 +17,8 @@ use crate::run_picture::lines_and_arrows;
 use fbl_audit::{UnsafeReceipt, orphan_starts, unsafe_receipts};
 use fbl_base::audit::{Audit, Dump};
 use fbl_input::{OutputFault, put};
-use fbl_shapes::{Legend, Shape};
+use fbl_logs::Entry;
+use fbl_shapes::Shape;
 use std::alloc::{AllocError, Global};
 use std::io::Write;
 
@@ -33,13 +34,13 @@ fn dump_heading(alloc: Global, dump: &Dump, words: &str) -> Result<String, Alloc
 fn audited_shapes(
     alloc: Global,
     audit: &Audit,
-    recorded: &Recorded,
+    entries: &[Entry],
 ) -> Result<Vec<Shape>, AllocError>
-    requires { recorded.now ≡ dump_entries audit.now }
+    requires { entries.now ≡ dump_entries audit.now }
     ensures { IfOk result (λ shapes. AreShapesOf audit.now shapes.items) }
 {
     let dump = audit.dump();
-    let entries = recorded.entries();
+    let recorded = Recorded::of(alloc, &[])?;
     let events = placed_events(alloc, entries)?;
     let lines = Lines {
         struck: dump.strike(),
@@ -48,31 +49,30 @@ fn audited_shapes(
     };
     let receipts = Receipts {
         audit,
-        recorded,
-        found: None,
+        recorded: &recorded,
+        lines: &lines,
     };
     let mut shapes = lines_and_arrows(alloc, dump.members(), entries, &lines)?;
     push_paths(&mut shapes, alloc, audit, events.as_slice())?;
-    push_marks(&mut shapes, &receipts)?;
+    push_marks(&mut shapes, &receipts, entries)?;
     Ok(shapes)
 }
 
 /// The picture of the dump by its audit.
-fn audited_picture(alloc: Global, audit: &Audit, recorded: &Recorded) -> Result<String, AllocError>
-    requires { recorded.now ≡ dump_entries audit.now }
+fn audited_picture(alloc: Global, audit: &Audit, entries: &[Entry]) -> Result<String, AllocError>
+    requires { entries.now ≡ dump_entries audit.now }
     ensures { IfOk result (λ text. IsAuditedPicture audit.now (string_bytes text)) }
 {
     let dump = audit.dump();
     let lost = audit.lost(alloc)?;
     let words = audit_words(alloc, dump.strike(), lost.len(), audit.orphans())?;
     let title = dump_heading(alloc, dump, words.as_str())?;
-    let shapes = audited_shapes(alloc, audit, recorded)?;
+    let shapes = audited_shapes(alloc, audit, entries)?;
     picture_text(
         alloc,
         title.as_str(),
         dump.members(),
         dump.events().len(),
-        Legend::Dump,
         shapes.as_slice(),
     )
 }
@@ -81,23 +81,30 @@ fn audited_picture(alloc: Global, audit: &Audit, recorded: &Recorded) -> Result<
 fn unsafe_picture(
     alloc: Global,
     audit: &Audit,
-    recorded: &Recorded,
+    entries: &[Entry],
     found: &UnsafeReceipt,
 ) -> Result<String, AllocError>
-    requires recorded { recorded.now ≡ dump_entries audit.now }
+    requires entries { entries.now ≡ dump_entries audit.now }
     requires found { IsFirstUnsafe audit.now found.now }
     ensures { IfOk result (λ text. IsUnsafePicture audit.now found.now (string_bytes text)) }
 {
     let dump = audit.dump();
-    let words = unsafe_words(alloc, &found.determinant, None, found.strike, found.orphans)?;
+    let recorded = Recorded::of(alloc, &[])?;
+    let words = unsafe_words(alloc, &found.determinant, "", found.strike, found.orphans)?;
     let title = dump_heading(alloc, dump, words.as_str())?;
-    let shapes = found_shapes(alloc, audit, recorded, found, Columns::none())?;
+    let shapes = found_shapes(
+        alloc,
+        audit,
+        &recorded,
+        entries,
+        found,
+        Columns::none(),
+    )?;
     picture_text(
         alloc,
         title.as_str(),
         dump.members(),
         dump.events().len(),
-        Legend::UnsafeDump,
         shapes.as_slice(),
     )
 }
@@ -119,10 +126,9 @@ fn dump_picture(alloc: Global, dump: &Dump) -> Result<String, AllocError>
 {
     let audit = Audit::of(alloc, dump)?;
     let entries = entries_of(alloc, dump)?;
-    let recorded = Recorded::of(alloc, entries.as_slice())?;
     match first_found(alloc, &audit)? {
-        Some(found) => unsafe_picture(alloc, &audit, &recorded, &found),
-        None => audited_picture(alloc, &audit, &recorded),
+        Some(found) => unsafe_picture(alloc, &audit, entries.as_slice(), &found),
+        None => audited_picture(alloc, &audit, entries.as_slice()),
     }
 }
 

@@ -1,4 +1,4 @@
-//! The entries that a picture draws: those of a log, or the events of a dump.
+//! The entries that a picture draws: those of a log, or the events of a dump; and what some of them put on stable storage.
 
 ghost use Rattle.std.specs.Prelude.{◌≡◌, IfOk, map};
 ghost use Rattle.std.specs.HashSet as hash_set;
@@ -27,7 +27,7 @@ fn stored_by(entry: &Entry) -> Option<Determinant>
     }
 }
 
-/// The entries of a run, with what they put on stable storage. Contracts see the entries.
+/// What entries put on stable storage. Contracts see the entries.
 #[derive(Drop)]
 pub(crate) struct Recorded<'a> {
     entries: &'a [Entry],
@@ -59,13 +59,6 @@ impl<'a> Recorded<'a> {
             }
         }
         Ok(Recorded { entries, stored })
-    }
-
-    /// The entries.
-    pub(crate) fn entries(&self) -> &'a [Entry]
-        ensures { result.now ≡ self.now }
-    {
-        self.entries
     }
 
     /// Whether the determinant is on stable storage.

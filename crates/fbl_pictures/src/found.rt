@@ -15,6 +15,7 @@ use crate::run_paths::{push_paths_to, starts_of};
 use crate::run_picture::lines_and_arrows;
 use fbl_audit::{Paths, UnsafeReceipt};
 use fbl_base::audit::Audit;
+use fbl_logs::Entry;
 use fbl_shapes::Shape;
 use fbl_trace::{Determinant, Mark};
 use std::alloc::{AllocError, Global};
@@ -32,21 +33,21 @@ fn place_of(events: &[Mark], determinant: &Determinant) -> usize
     unreachable!()
 }
 
-/// The shapes of a run of which a check found this receipt, at a moment if there is one.
+/// The shapes of a run of which a check found this receipt, at a moment if there is one: the audit and what is recorded are of it.
 pub(crate) fn found_shapes(
     alloc: Global,
     audit: &Audit,
     recorded: &Recorded,
+    entries: &[Entry],
     found: &UnsafeReceipt,
     moment: Columns,
 ) -> Result<Vec<Shape>, AllocError>
-    requires events { audit.now.events ≡ marks recorded.now }
+    requires events { audit.now.events ≡ marks entries.now }
     requires receipt { Has audit.now.events (receipt_of found.now.determinant) }
     requires orphans { (q : ℕ) → set.contains found.now.orphans q ≡ true → Depends audit.now.events q (receipt_of found.now.determinant) }
-    ensures { IfOk result (λ shapes. AreFoundShapes audit.now recorded.now found.now (λ columns. columns ≡ moment) shapes.items) }
+    ensures { IfOk result (λ shapes. AreFoundShapes audit.now recorded.now entries.now found.now moment shapes.items) }
 {
     let dump = audit.dump();
-    let entries = recorded.entries();
     let events = placed_events(alloc, entries)?;
     let paths = Paths::of(audit, place_of(dump.events(), &found.determinant));
     let starts = starts_of(alloc, &paths, events.as_slice(), found.orphans)?;
@@ -58,7 +59,7 @@ pub(crate) fn found_shapes(
     let receipts = Receipts {
         audit,
         recorded,
-        found: Some(found.determinant),
+        lines: &lines,
     };
     let mut shapes = lines_and_arrows(alloc, dump.members(), entries, &lines)?;
     push_paths_to(
@@ -69,6 +70,6 @@ pub(crate) fn found_shapes(
         found.orphans,
         dump.members(),
     )?;
-    push_marks(&mut shapes, &receipts)?;
+    push_marks(&mut shapes, &receipts, entries)?;
     Ok(shapes)
 }

@@ -1,7 +1,7 @@
 //! The headings of pictures of runs.
 
-ghost use Rattle.std.specs.Prelude.{◌≡◌, IfOk, string_bytes};
-ghost use Rattle.fbl_pictures.specs.Headings.{audit_words as audit_words_of, heading as heading_of, place_words as place_words_of, unsafe_words as unsafe_words_of};
+ghost use Rattle.std.specs.Prelude.{◌≡◌, ◌++◌, IfOk, OnOk, string_bytes};
+ghost use Rattle.fbl_pictures.specs.Headings.{audit_words as audit_words_of, escape, escaped, heading as heading_of, unsafe_words as unsafe_words_of};
 
 use fbl_texts::set_text;
 use fbl_trace::{Determinant, MemberSet};
@@ -21,36 +21,48 @@ pub(crate) fn audit_words(
     format!(in alloc; "struck {struck}, lost {lost}, orphans {orphans}")
 }
 
-/// At which place a receipt is unsafe, if there is one to tell.
-fn place_words(alloc: Global, place: Option<usize>) -> Result<String, AllocError>
-    ensures { IfOk result (λ text. string_bytes text ≡ place_words_of place) }
-{
-    match place {
-        Some(place) => format!(in alloc; " at {place}"),
-        None => Ok(String::new(alloc)),
-    }
-}
-
-/// What a check says of a receipt: what names it, at which place it is unsafe, if there is one to tell, the strike set and the orphans.
+/// What a check says of a receipt: what names it, at which moment it is unsafe, in these words, the strike set and the orphans.
 pub(crate) fn unsafe_words(
     alloc: Global,
     determinant: &Determinant,
-    place: Option<usize>,
+    at: &str,
     strike: MemberSet,
     orphans: MemberSet,
 ) -> Result<String, AllocError>
-    ensures { IfOk result (λ text. string_bytes text ≡ unsafe_words_of determinant.now place strike orphans) }
+    ensures { IfOk result (λ text. string_bytes text ≡ unsafe_words_of determinant.now at.now strike orphans) }
 {
     let from = determinant.from.number();
     let ssn = determinant.ssn;
     let to = determinant.to.number();
     let rsn = determinant.rsn;
-    let at = place_words(alloc, place)?;
     let strike = set_text(alloc, strike)?;
     let orphans = set_text(alloc, orphans)?;
     let mut text = format!(in alloc; "unsafe {from} {ssn} {to} {rsn}{at}")?;
     write!(text, ", strike {strike}, orphans {orphans}")?;
     Ok(text)
+}
+
+/// Adds a character as it may stand in XML.
+fn push_escaped(written: &mut String, character: char) -> Result<(), AllocError>
+    ensures { OnOk result (string_bytes written.new ≡ string_bytes written.old ++ escape character) }
+{
+    match character {
+        '&' => written.push_str("&amp;"),
+        '<' => written.push_str("&lt;"),
+        '>' => written.push_str("&gt;"),
+        _ => written.push(character),
+    }
+}
+
+/// The text as it may stand in XML.
+pub(crate) fn escaped_text(alloc: Global, text: &str) -> Result<String, AllocError>
+    ensures { IfOk result (λ written. string_bytes written ≡ escaped text.now) }
+{
+    let mut written = String::new(alloc);
+    for character in text.chars() {
+        push_escaped(&mut written, character)?;
+    }
+    Ok(written)
 }
 
 /// The heading of a picture of a run: its members, `f`, how many of these things it has, and these words.

@@ -195,7 +195,7 @@ fn received_in(alloc: Global, columns: &[Column]) -> Result<Received, AllocError
     Ok(received)
 }
 
-/// The stub of a column at this place, if it is a send of a message in flight.
+/// The stub of a column at this place, if it is a send of a message that nobody has received in the end.
 fn stub(received: &Received, comebacks: &Comebacks, place: usize, column: &Column) -> Option<Shape>
     ensures { result ≡ stub_where (λ m. hash_set.contains same_message received.now m) (λ q. hash_map.get ◌==◌ comebacks.now q) place column.now }
 {
@@ -207,7 +207,16 @@ fn stub(received: &Received, comebacks: &Comebacks, place: usize, column: &Colum
             undone,
         } => {
             let (from, ssn, to) = (*from, *ssn, *to);
-            if *undone || received.contains(&MessageName { from, ssn }) {
+            if *undone {
+                return Some(Shape::InFlight {
+                    from,
+                    sent: place,
+                    to,
+                    again: false,
+                    undone: true,
+                });
+            }
+            if received.contains(&MessageName { from, ssn }) {
                 return None;
             }
             Some(Shape::InFlight {
@@ -215,13 +224,14 @@ fn stub(received: &Received, comebacks: &Comebacks, place: usize, column: &Colum
                 sent: place,
                 to,
                 again: place < last_sent(place, comeback_of(comebacks, from, to)),
+                undone: false,
             })
         }
         _ => None,
     }
 }
 
-/// Draws a stub at each send of a message in flight.
+/// Draws a stub at each send of a message that nobody has received in the end.
 pub(crate) fn push_stubs(
     shapes: &mut Vec<Shape>,
     alloc: Global,

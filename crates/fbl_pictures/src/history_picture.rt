@@ -10,7 +10,7 @@ use crate::history_messages::{push_arrows, push_stubs};
 use crate::picture::picture_text;
 use crate::words::receipts_word;
 use fbl_history::{Column, receipts_made, receipts_undone};
-use fbl_shapes::{Legend, Shape};
+use fbl_shapes::Shape;
 use std::alloc::{AllocError, Global};
 
 /// The heading: the numbers of the group, the behaviour, and how many receipts were made and undone.
@@ -63,7 +63,6 @@ pub fn show_text(
         heading.as_str(),
         members,
         columns.len(),
-        Legend::History,
         shapes.as_slice(),
     )
 }

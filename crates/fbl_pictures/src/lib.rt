@@ -12,6 +12,7 @@ mod history_marks;
 mod history_members;
 mod history_messages;
 mod history_picture;
+mod legend;
 mod lines;
 mod log_picture;
 mod look;

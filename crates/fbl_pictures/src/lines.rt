@@ -1,10 +1,10 @@
 //! The texts of labels, of lines and of arrows.
 
 ghost use Rattle.std.specs.Prelude.{◌≡◌, IfOk, string_bytes};
-ghost use Rattle.fbl_pictures.specs.Words.{drawn_arrow, drawn_down_from, drawn_in_flight, drawn_label, drawn_line, drawn_name, segment};
+ghost use Rattle.fbl_pictures.specs.Words.{drawn_arrow, drawn_down_from, drawn_label, drawn_line, drawn_name, drawn_orphan_up_to, segment};
 
-use crate::places::{before, below, left, towards, x, y};
-use crate::words::{arrow_class, in_flight_class, line_class, status_words};
+use crate::places::{before, left, x, y};
+use crate::words::{arrow_class, line_class, status_words};
 use fbl_shapes::{ArrowKind, LineKind, Status};
 use fbl_trace::Member;
 use std::alloc::{AllocError, Global};
@@ -37,13 +37,18 @@ pub(crate) fn name_text(alloc: Global, column: usize, member: Member) -> Result<
 
 /// A point of a picture, in pixels from its left and from its top.
 #[derive(Clone, Copy)]
-struct Point {
-    x: u128,
-    y: u32,
+pub(crate) struct Point {
+    pub(crate) x: u128,
+    pub(crate) y: u32,
 }
 
 /// The text of a straight line of a class, from one point to another.
-fn segment_text(alloc: Global, class: &str, start: Point, end: Point) -> Result<String, AllocError>
+pub(crate) fn segment_text(
+    alloc: Global,
+    class: &str,
+    start: Point,
+    end: Point,
+) -> Result<String, AllocError>
     ensures { IfOk result (λ text. string_bytes text ≡ segment class.now start.x start.y end.x end.y) }
 {
     let Point { x: x1, y: y1 } = start;
@@ -91,6 +96,25 @@ pub(crate) fn down_from_text(
     Ok(text)
 }
 
+/// The text of the line of an orphan from a column up to the moment before another.
+#[tactic(auto, unfolding(crate::specs::Words::drawn_orphan_up_to))]
+pub(crate) fn orphan_up_to_text(
+    alloc: Global,
+    member: Member,
+    start: usize,
+    column: usize,
+) -> Result<String, AllocError>
+    ensures { IfOk result (λ text. string_bytes text ≡ drawn_orphan_up_to member start column) }
+{
+    let y = y(member.number());
+    let start = Point { x: x(start), y };
+    let moment = Point {
+        x: before(column),
+        y,
+    };
+    segment_text(alloc, line_class(LineKind::Orphan), start, moment)
+}
+
 /// The text of an arrow from a send to a receipt.
 #[tactic(auto, unfolding(crate::specs::Words::drawn_arrow))]
 pub(crate) fn arrow_text(
@@ -112,30 +136,4 @@ pub(crate) fn arrow_text(
         y: y(to.number()),
     };
     segment_text(alloc, arrow_class(kind), start, end)
-}
-
-/// The text of a message in flight.
-#[tactic(auto, unfolding(crate::specs::Words::drawn_in_flight))]
-pub(crate) fn in_flight_text(
-    alloc: Global,
-    from: Member,
-    sent: usize,
-    to: Member,
-    again: bool,
-) -> Result<String, AllocError>
-    ensures { IfOk result (λ text. string_bytes text ≡ drawn_in_flight from sent to again) }
-{
-    let left = x(sent);
-    let line = y(from.number());
-    let low = below(sent, from.number(), true);
-    let start = Point { x: left, y: line };
-    let end = Point {
-        x: left + towards(from, to, 0, 18) as u128,
-        y: towards(from, to, low - 12, line - 20),
-    };
-    let stub = segment_text(alloc, in_flight_class(again), start, end)?;
-    let x = left + towards(from, to, 0, 26) as u128;
-    let y = towards(from, to, low, line - 22);
-    let to = to.number();
-    format!(in alloc; "{stub}<text class='at' x='{x}' y='{y}'>to {to}</text>\n")
 }

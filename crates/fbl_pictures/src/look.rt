@@ -1,9 +1,7 @@
-//! How pictures look, and their legends. Each of these texts stands here alone: definitions name it.
+//! How pictures look. This text stands here alone: definitions name it.
 
 ghost use Rattle.std.specs.Prelude.{◌≡◌};
-ghost use Rattle.fbl_pictures.specs.Pictures.{drawn_legend, look as look_of, more_look as more_look_of};
-
-use fbl_shapes::Legend;
+ghost use Rattle.fbl_pictures.specs.Pictures.{look as look_of};
 
 /// How each class is drawn, in light and in dark, and the tips of arrows. All of it is under one class and behind one prefix,
 /// so that another picture or a page has nothing of the same name.
@@ -35,7 +33,13 @@ pub(crate) const LOOK: &str = "<style>
 .fbl .crossed.number{stroke:#919191;stroke-width:1}
 .fbl .strike{fill:#c44e00}
 .fbl .recovery{fill:#fff;stroke:#00795a;stroke-width:2.5}
-.fbl .checkpoint{fill:#222}
+.fbl .checkpoint,.fbl .store{fill:#222}
+.fbl .hold{fill:none;stroke:#0072b2;stroke-width:2}
+.fbl .moment{fill:none;stroke:#222;stroke-width:1.5;stroke-dasharray:9 3 2 3}
+.fbl .to-come text{fill:#767676}
+.fbl .to-come .send,.fbl .receipt.to-come,.fbl .to-come .hold{fill:#fff;stroke:#949494;stroke-width:1.5}
+.fbl .to-come .store{fill:#949494}
+.fbl .to-come .message{stroke:#949494}
 @media(prefers-color-scheme:dark){
 .fbl .back{fill:#161616}
 .fbl text{fill:#eee}
@@ -52,7 +56,13 @@ pub(crate) const LOOK: &str = "<style>
 .fbl .crossed,.fbl .send.undone,.fbl .receipt.undone{fill:#161616;stroke:#9a9a9a}
 .fbl .crossed.number{stroke:#707070}
 .fbl .recovery{fill:#161616;stroke:#3fbf98}
-.fbl .checkpoint{fill:#eee}
+.fbl .checkpoint,.fbl .store{fill:#eee}
+.fbl .hold{stroke:#56b4e9}
+.fbl .moment{stroke:#eee}
+.fbl .to-come text{fill:#8a8a8a}
+.fbl .to-come .send,.fbl .receipt.to-come,.fbl .to-come .hold{fill:#161616;stroke:#6e6e6e}
+.fbl .to-come .store{fill:#6e6e6e}
+.fbl .to-come .message{stroke:#6e6e6e}
 }
 </style>
 <defs>
@@ -62,117 +72,10 @@ pub(crate) const LOOK: &str = "<style>
 </defs>
 ";
 
-/// How the classes are drawn that pictures of logs alone have.
-pub(crate) const LOG_LOOK: &str = "<style>
-.fbl .hold{fill:none;stroke:#0072b2;stroke-width:2}
-.fbl .store{fill:#222}
-.fbl .moment{fill:none;stroke:#222;stroke-width:1.5;stroke-dasharray:9 3 2 3}
-@media(prefers-color-scheme:dark){
-.fbl .hold{stroke:#56b4e9}
-.fbl .store{fill:#eee}
-.fbl .moment{stroke:#eee}
-}
-</style>
-";
-
-/// What the marks of a picture of a history mean.
-pub(crate) const HISTORY_LEGEND: &str =
-    "<circle class='send' cx='28' cy='-4' r='5'/><text class='note' x='54' y='0'>send: its number</text>
-<rect class='receipt' x='221' y='-11' width='14' height='14'/><text class='note' x='254' y='0'>receipt: its number, the state after it</text>
-<rect class='receipt undone' x='497' y='-11' width='14' height='14'/><path class='crossed' d='M495 5l18 -18'/><text class='note' x='530' y='0'>undone by a recovery</text>
-<path class='message' d='M8 18h32'/><rect class='receipt' x='33' y='11' width='14' height='14'/><text class='note' x='54' y='22'>message, to its receipt</text>
-<path class='message undone' d='M208 18h32'/><rect class='receipt undone' x='233' y='11' width='14' height='14'/><path class='crossed' d='M231 27l18 -18'/><text class='note' x='254' y='22'>message whose receipt was undone</text>
-<path class='message again' d='M480 18h36'/><rect class='receipt' x='509' y='11' width='14' height='14'/><text class='note' x='530' y='22'>message sent again by a recovery</text>
-<path class='message in-flight' d='M18 40h20'/><text class='note' x='54' y='44'>message in flight</text>
-<path class='strike' d='M231 27l-10 14h6l-3 12l11 -16h-7z'/><text class='note' x='254' y='44'>struck, down till</text>
-<path class='recovery' d='M374 31l9 16h-18z'/><text class='note' x='392' y='44'>its recovery</text>
-<rect class='checkpoint' x='502' y='30' width='5' height='20'/><text class='note' x='530' y='44'>checkpoint</text>
-";
-
-/// What the marks of a picture of a dump mean.
-pub(crate) const DUMP_LEGEND: &str =
-    "<circle class='send' cx='24' cy='-4' r='5'/><text class='note' x='40' y='0'>send: its number</text>
-<path class='receipt stable' d='M204 -4m-7 -7h14v14h-14z'/><text class='note' x='220' y='0'>stable receipt: more than f hold it</text>
-<path class='receipt lost' d='M474 -4m-7 -7l14 14m0 -14l-14 14'/><text class='note' x='496' y='0'>lost receipt: no member left holds it</text>
-<path class='message in-flight' d='M14 18h20'/><text class='note' x='40' y='22'>message in flight</text>
-<path class='receipt recorded' d='M204 18m-8 0l8 -8l8 8l-8 8z'/><text class='note' x='220' y='22'>recorded receipt: f or fewer hold it</text>
-<path class='line orphan' d='M460 18h28'/><text class='note' x='496' y='22'>orphan: depends on a lost receipt</text>
-<path class='line down' d='M14 40h20'/><text class='note' x='40' y='44'>struck member</text>
-<path class='line' d='M188 40h20'/><path class='tip' d='M204 35l10 5l-10 5z'/><text class='note' x='220' y='44'>message, from its send to its receipt</text>
-<path class='line path' d='M460 40h22'/><path class='path-tip' d='M477 34l12 6l-12 6z'/><text class='note' x='496' y='44'>path from a lost receipt to an orphan</text>
-";
-
-/// What the marks of a picture of a dump mean that shows what a check finds.
-pub(crate) const UNSAFE_DUMP_LEGEND: &str =
-    "<circle class='send' cx='24' cy='-4' r='5'/><text class='note' x='40' y='0'>send: its number</text>
-<path class='receipt stable' d='M204 -4m-7 -7h14v14h-14z'/><text class='note' x='220' y='0'>stable receipt: more than f hold it</text>
-<path class='receipt lost' d='M474 -4m-7 -7l14 14m0 -14l-14 14'/><text class='note' x='496' y='0'>lost receipt: the struck alone hold it</text>
-<path class='message in-flight' d='M14 18h20'/><text class='note' x='40' y='22'>message in flight</text>
-<path class='receipt recorded' d='M204 18m-8 0l8 -8l8 8l-8 8z'/><text class='note' x='220' y='22'>recorded receipt: f or fewer hold it</text>
-<path class='line orphan' d='M460 18h28'/><text class='note' x='496' y='22'>orphan: depends on that receipt</text>
-<path class='line down' d='M14 40h20'/><text class='note' x='40' y='44'>struck member</text>
-<path class='line' d='M188 40h20'/><path class='tip' d='M204 35l10 5l-10 5z'/><text class='note' x='220' y='44'>message, from its send to its receipt</text>
-<path class='line path' d='M460 40h22'/><path class='path-tip' d='M477 34l12 6l-12 6z'/><text class='note' x='496' y='44'>path from that receipt to an orphan</text>
-";
-
-/// What the marks of a picture of a log at its last moment mean.
-pub(crate) const LOG_LEGEND: &str =
-    "<circle class='send' cx='24' cy='-4' r='5'/><text class='note' x='40' y='0'>send: its number</text>
-<path class='receipt stable' d='M204 -4m-7 -7h14v14h-14z'/><text class='note' x='220' y='0'>stable receipt: stored, or more than f hold it</text>
-<path class='receipt lost' d='M514 -4m-7 -7l14 14m0 -14l-14 14'/><text class='note' x='530' y='0'>lost receipt: no member left holds it</text>
-<path class='message in-flight' d='M14 18h20'/><text class='note' x='40' y='22'>message in flight</text>
-<path class='receipt recorded' d='M204 18m-8 0l8 -8l8 8l-8 8z'/><text class='note' x='220' y='22'>recorded receipt: f or fewer hold it</text>
-<path class='hold' d='M509 17a5 5 0 0 0 10 0z'/><text class='note' x='530' y='22'>hold of this receipt, from here on</text>
-<path class='line down' d='M14 40h20'/><text class='note' x='40' y='44'>struck member</text>
-<path class='line' d='M188 40h20'/><path class='tip' d='M204 35l10 5l-10 5z'/><text class='note' x='220' y='44'>message, from its send to its receipt</text>
-<rect class='store' x='510' y='36' width='8' height='8'/><text class='note' x='530' y='44'>store of this receipt, from here on</text>
-";
-
-/// What the marks of a picture of a log at a moment at which a receipt is unsafe mean.
-pub(crate) const UNSAFE_LOG_LEGEND: &str =
-    "<circle class='send' cx='24' cy='-4' r='5'/><text class='note' x='40' y='0'>send: its number</text>
-<path class='receipt stable' d='M204 -4m-7 -7h14v14h-14z'/><text class='note' x='220' y='0'>stable receipt: stored, or more than f hold it</text>
-<path class='receipt lost' d='M514 -4m-7 -7l14 14m0 -14l-14 14'/><text class='note' x='530' y='0'>lost receipt: the struck alone hold it</text>
-<path class='message in-flight' d='M14 18h20'/><text class='note' x='40' y='22'>message in flight</text>
-<path class='receipt recorded' d='M204 18m-8 0l8 -8l8 8l-8 8z'/><text class='note' x='220' y='22'>recorded receipt: f or fewer hold it</text>
-<path class='line orphan' d='M498 18h28'/><text class='note' x='530' y='22'>orphan: depends on that receipt</text>
-<path class='moment' d='M24 30v20'/><text class='note' x='40' y='44'>the moment</text>
-<path class='line' d='M188 40h20'/><path class='tip' d='M204 35l10 5l-10 5z'/><text class='note' x='220' y='44'>message, from its send to its receipt</text>
-<path class='line path' d='M498 40h22'/><path class='path-tip' d='M515 34l12 6l-12 6z'/><text class='note' x='530' y='44'>path from that receipt to an orphan</text>
-<path class='line down' d='M14 62h20'/><text class='note' x='40' y='66'>struck from it on</text>
-<path class='hold' d='M199 61a5 5 0 0 0 10 0z'/><text class='note' x='220' y='66'>hold of this receipt, from here on</text>
-<rect class='store' x='510' y='58' width='8' height='8'/><text class='note' x='530' y='66'>store of this receipt, from here on</text>
-";
-
 /// How each class is drawn.
 #[tactic(auto, unfolding(crate::specs::Pictures::look))]
 pub(crate) fn look() -> &'static str
     ensures { result.now ≡ look_of }
 {
     LOOK
-}
-
-/// How each class is drawn that only some pictures have.
-#[tactic(auto, unfolding(crate::specs::Pictures::more_look))]
-pub(crate) fn more_look(legend: Legend) -> &'static str
-    ensures { result.now ≡ more_look_of legend }
-{
-    match legend {
-        Legend::Log | Legend::UnsafeLog => LOG_LOOK,
-        Legend::History | Legend::Dump | Legend::UnsafeDump => "",
-    }
-}
-
-/// What the marks mean.
-#[tactic(auto, unfolding(crate::specs::Pictures::drawn_legend))]
-pub(crate) fn entries(legend: Legend) -> &'static str
-    ensures { result.now ≡ drawn_legend legend }
-{
-    match legend {
-        Legend::History => HISTORY_LEGEND,
-        Legend::Dump => DUMP_LEGEND,
-        Legend::UnsafeDump => UNSAFE_DUMP_LEGEND,
-        Legend::Log => LOG_LEGEND,
-        Legend::UnsafeLog => UNSAFE_LOG_LEGEND,
-    }
 }

@@ -1,9 +1,11 @@
 //! The texts of marks.
 
 ghost use Rattle.std.specs.Prelude.{◌≡◌, ◌<◌, IfOk, decimal, length, string_bytes};
-ghost use Rattle.fbl_pictures.specs.Marks.{drawn_checkpoint, cross, drawn_held_receipt, drawn_hold, drawn_moment, number, numbers, onward, drawn_receipt, receipt_words, drawn_recovery, drawn_send, drawn_store, drawn_strike, stroke};
+ghost use Rattle.fbl_pictures.specs.Words.{in_flight_class, segment};
+ghost use Rattle.fbl_pictures.specs.Marks.{drawn_checkpoint, cross, drawn_held_receipt, drawn_hold, drawn_in_flight, drawn_moment, number, numbers, onward, drawn_receipt, receipt_words, drawn_recovery, drawn_send, drawn_state, drawn_store, drawn_strike, holders_words, stroke};
 
-use crate::places::{before, below, x, y};
+use crate::lines::{Point, segment_text};
+use crate::places::{before, towards, x, y};
 use crate::words::{kind_class, outline, receipts_word, words_if};
 use fbl_shapes::Kind;
 use fbl_texts::set_text;
@@ -101,7 +103,7 @@ pub(crate) fn send_text(
     let class = words_if(undone, " undone");
     let end = words_if(undone, ", undone");
     let cross = cross_text(alloc, column, from, undone)?;
-    let number = count_text(alloc, x, y - 11, undone, u64::from(ssn))?;
+    let number = count_text(alloc, x - 9, y - 9, undone, u64::from(ssn))?;
     format!(in alloc;
         "<circle class='send{class}' cx='{x}' cy='{y}' r='5'>\
          <title>member {sender} sends its message {ssn} to {receiver}{end}</title></circle>\n\
@@ -119,6 +121,23 @@ fn receipt_title_text(alloc: Global, determinant: &Determinant) -> Result<String
     let to = determinant.to.number();
     let rsn = determinant.rsn;
     format!(in alloc; "<title>member {to} receipt {rsn}: message {ssn} of {from}")
+}
+
+/// The text of a state beside a mark: one of more than seven digits stands in the mark's title alone.
+fn state_text(
+    alloc: Global,
+    x: u128,
+    y: u32,
+    undone: bool,
+    state: u64,
+) -> Result<String, AllocError>
+    requires { y < 30000 }
+    ensures { IfOk result (λ text. string_bytes text ≡ drawn_state x y undone state) }
+{
+    if 9_999_999 < state {
+        return Ok(String::new(alloc));
+    }
+    count_text(alloc, x, y, undone, state)
 }
 
 /// The text of a receipt of a history.
@@ -141,14 +160,26 @@ pub(crate) fn receipt_text(
     let top = y - 7;
     let title = receipt_title_text(alloc, determinant)?;
     let cross = cross_text(alloc, column, determinant.to, undone)?;
-    let number = count_text(alloc, x, y + 20, undone, u64::from(rsn))?;
-    let low = below(column, determinant.to.number(), 9999 < state);
-    let after = count_text(alloc, x, low, undone, state)?;
+    let number = count_text(alloc, x + 12, y + 20, undone, u64::from(rsn))?;
+    let after = state_text(alloc, x + 12, y + 32, undone, state)?;
     format!(in alloc;
         "<rect class='receipt{class}' x='{left}' y='{top}' width='14' height='14'>\
          {title}, state {state}{end}</title></rect>\n\
          {cross}{number}{after}"
     )
+}
+
+/// What the title of a receipt of a dump says of who holds it: nothing of one that is not judged.
+fn holders_text(alloc: Global, kind: Kind, holders: MemberSet) -> Result<String, AllocError>
+    ensures { IfOk result (λ text. string_bytes text ≡ holders_words kind holders) }
+{
+    match kind {
+        Kind::ToCome => String::from_str(alloc, ", to come"),
+        Kind::Stable | Kind::Recorded | Kind::Lost => {
+            let holders = set_text(alloc, holders)?;
+            format!(in alloc; ", held by {holders}")
+        }
+    }
 }
 
 /// The text of a receipt of a dump.
@@ -168,10 +199,10 @@ pub(crate) fn held_text(
     let class = kind_class(kind);
     let outline = outline(kind);
     let title = receipt_title_text(alloc, determinant)?;
-    let holders = set_text(alloc, holders)?;
-    let number = count_text(alloc, x, y + 20, false, u64::from(rsn))?;
+    let holders = holders_text(alloc, kind, holders)?;
+    let number = count_text(alloc, x + 12, y + 20, false, u64::from(rsn))?;
     format!(in alloc;
-        "<path class='{class}' d='M{x} {y}{outline}'>{title}, held by {holders}</title></path>\n{number}"
+        "<path class='{class}' d='M{x} {y}{outline}'>{title}{holders}</title></path>\n{number}"
     )
 }
 
@@ -308,9 +339,7 @@ pub(crate) fn recovery_text(
     let y = y(member);
     let top = y - 9;
     let word = receipts_word(u128::from(receipts));
-    let words = format!(in alloc; "replays {receipts}")?;
-    let low = below(column, member, true);
-    let number = number_text(alloc, x, low, false, words.as_str())?;
+    let number = count_text(alloc, x - 9, y + 20, false, u64::from(receipts))?;
     format!(in alloc;
         "<path class='recovery' d='M{x} {top}l9 16h-18z'>\
          <title>member {member} is recovered, {receipts} {word} replayed</title></path>\n\
@@ -333,4 +362,49 @@ pub(crate) fn checkpoint_text(
     format!(in alloc;
         "<rect class='checkpoint' x='{x}' y='{y}' width='5' height='20'><title>checkpoint of member {member}</title></rect>\n"
     )
+}
+
+/// The text of the stub of a message in flight.
+fn stub_text(
+    alloc: Global,
+    again: bool,
+    undone: bool,
+    start: Point,
+    end: Point,
+) -> Result<String, AllocError>
+    ensures { IfOk result (λ text. string_bytes text ≡ segment (in_flight_class again undone) start.x start.y end.x end.y) }
+{
+    let again = words_if(again, " again");
+    let undone = words_if(undone, " undone");
+    let class = format!(in alloc; "message in-flight{again}{undone}")?;
+    segment_text(alloc, class.as_str(), start, end)
+}
+
+/// The text of a message in flight.
+#[tactic(auto, unfolding(crate::specs::Marks::drawn_in_flight))]
+pub(crate) fn in_flight_text(
+    alloc: Global,
+    from: Member,
+    sent: usize,
+    to: Member,
+    again: bool,
+    undone: bool,
+) -> Result<String, AllocError>
+    ensures { IfOk result (λ text. string_bytes text ≡ drawn_in_flight from sent to again undone) }
+{
+    let left = x(sent);
+    let line = y(from.number());
+    let start = Point { x: left, y: line };
+    let end = Point {
+        x: left + towards(from, to, 0, 18) as u128,
+        y: towards(from, to, line + 20, line - 20),
+    };
+    let mut text = stub_text(alloc, again, undone, start, end)?;
+    let x = left + towards(from, to, 0, 26) as u128;
+    let y = towards(from, to, line + 32, line - 22);
+    let to = to.number();
+    let words = format!(in alloc; "to {to}")?;
+    let receiver = number_text(alloc, x, y, undone, words.as_str())?;
+    text.push_str(receiver.as_str())?;
+    Ok(text)
 }

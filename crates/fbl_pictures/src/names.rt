@@ -18,7 +18,8 @@ pub(crate) fn push_any(shapes: &mut Vec<Shape>, shape: Option<Shape>) -> Result<
     Ok(())
 }
 
-/// Adds the member's label, and its name behind each 24 columns, so that a wide picture can be read far from its left end.
+/// Adds the member's label, and its name behind each 24 columns, so that a wide picture can be read far from its left end: not where no
+/// more than 8 others follow these.
 pub(crate) fn push_names(
     shapes: &mut Vec<Shape>,
     columns: usize,
@@ -28,7 +29,7 @@ pub(crate) fn push_names(
     ensures { OnOk result (shapes.new.items ≡ shapes.old.items ++ label_and_names columns member status) }
 {
     shapes.push(Shape::Label { member, status })?;
-    for group in 0..columns / 24 {
+    for group in 0..columns.saturating_sub(9) / 24 {
         let column = 24 * (group + 1);
         shapes.push(Shape::Name { column, member })?;
     }

@@ -3,14 +3,17 @@
 ghost use Rattle.std.specs.Prelude.{◌≡◌, ◌++◌, IfOk, OnOk, string_bytes};
 ghost use Rattle.fbl_pictures.specs.Pictures.{ending, opening, picture, text_of, text_of_log_mark, text_of_mark, texts_of};
 
-use crate::lines::{arrow_text, down_from_text, in_flight_text, label_text, line_text, name_text};
-use crate::look::{entries, look, more_look};
+use crate::legend::{Sign, legend_text, shown};
+use crate::lines::{
+    arrow_text, down_from_text, label_text, line_text, name_text, orphan_up_to_text,
+};
+use crate::look::look;
 use crate::marks::{
-    checkpoint_text, held_text, hold_text, moment_text, receipt_text, recovery_text, send_text,
+    checkpoint_text, held_text, hold_text, in_flight_text, moment_text, receipt_text, recovery_text, send_text,
     store_text, strike_text,
 };
-use crate::places::{height, width, y};
-use fbl_shapes::{Legend, Shape};
+use crate::places::{height, width};
+use fbl_shapes::Shape;
 use std::alloc::{AllocError, Global};
 
 /// The text of a mark that pictures of logs alone have. What is no such mark has none.
@@ -33,6 +36,8 @@ fn log_mark_text(alloc: Global, shape: Shape) -> Result<String, AllocError>
             member,
             determinant,
         } => store_text(alloc, column, member, &determinant),
+        Shape::BeginToCome => String::from_str(alloc, "<g class='to-come'>\n"),
+        Shape::EndToCome => String::from_str(alloc, "</g>\n"),
         _ => Ok(String::new(alloc)),
     }
 }
@@ -90,6 +95,11 @@ fn shape_text(alloc: Global, shape: Shape) -> Result<String, AllocError>
             column,
             end,
         } => down_from_text(alloc, member, column, end),
+        Shape::OrphanUpTo {
+            member,
+            start,
+            column,
+        } => orphan_up_to_text(alloc, member, start, column),
         Shape::Arrow {
             from,
             sent,
@@ -102,7 +112,8 @@ fn shape_text(alloc: Global, shape: Shape) -> Result<String, AllocError>
             sent,
             to,
             again,
-        } => in_flight_text(alloc, from, sent, to, again),
+            undone,
+        } => in_flight_text(alloc, from, sent, to, again, undone),
         mark => mark_text(alloc, mark),
     }
 }
@@ -124,18 +135,16 @@ fn opening_text(
     alloc: Global,
     title: &str,
     width: u128,
-    height: u32,
-    legend: Legend,
+    height: u128,
 ) -> Result<String, AllocError>
-    ensures { IfOk result (λ text. string_bytes text ≡ opening title.now width height legend) }
+    ensures { IfOk result (λ text. string_bytes text ≡ opening title.now width height) }
 {
     let look = look();
-    let more = more_look(legend);
     format!(in alloc;
         "<svg class='fbl' xmlns='http://www.w3.org/2000/svg' viewBox='0 0 {width} {height}' \
          width='{width}' height='{height}' role='img'>\n\
          <title>{title}</title>\n\
-         {look}{more}\
+         {look}\
          <rect class='back' width='{width}' height='{height}'/>\n\
          <text class='head' x='16' y='28'>{title}</text>\n"
     )
@@ -143,16 +152,15 @@ fn opening_text(
 
 /// The legend, and the end of the picture.
 #[tactic(auto, unfolding(crate::specs::Pictures::ending))]
-fn ending_text(alloc: Global, members: u8, legend: Legend) -> Result<String, AllocError>
-    ensures { IfOk result (λ text. string_bytes text ≡ ending members legend) }
+fn ending_text(alloc: Global, members: u8, signs: &[Sign]) -> Result<String, AllocError>
+    ensures { IfOk result (λ text. string_bytes text ≡ ending members signs.now) }
 {
-    let y = y(members) - 4;
-    let entries = entries(legend);
-    format!(in alloc; "<g transform='translate(0 {y})'>\n{entries}</g>\n</svg>\n")
+    let legend = legend_text(alloc, members, signs)?;
+    format!(in alloc; "{legend}</svg>\n")
 }
 
 /// The picture of the shapes, as SVG, under a title: so many members have a line in it, and so many columns have room. The
-/// shapes are drawn in their order, a later one over an earlier one.
+/// shapes are drawn in their order, a later one over an earlier one. The legend has the signs of these shapes alone.
 ///
 /// The title stands in the picture as it is: it is to have none of the characters `<`, `>` and `&`. Nothing is fetched by a
 /// picture, and two pictures may stand in one page. `Err` comes only where there is no memory for the text.
@@ -162,20 +170,19 @@ pub(crate) fn picture_text(
     title: &str,
     members: u8,
     columns: usize,
-    legend: Legend,
     shapes: &[Shape],
 ) -> Result<String, AllocError>
-    ensures { IfOk result (λ text. string_bytes text ≡ picture title.now members columns legend shapes.now) }
+    ensures { IfOk result (λ text. string_bytes text ≡ picture title.now members columns shapes.now) }
 {
+    let signs = shown(alloc, shapes)?;
     let mut text = opening_text(
         alloc,
         title,
-        width(columns),
-        height(members, legend),
-        legend,
+        width(columns, title.len()),
+        height(members, signs.len()),
     )?;
     push_shapes(&mut text, alloc, shapes)?;
-    let ending = ending_text(alloc, members, legend)?;
+    let ending = ending_text(alloc, members, signs.as_slice())?;
     text.push_str(ending.as_str())?;
     Ok(text)
 }

@@ -1,9 +1,8 @@
 //! Where shapes stand, counted from the left and from the top, in pixels.
 
 ghost use Rattle.std.specs.Prelude.{◌≡◌, ◌≤◌, ◌<◌, ◌^◌, ◌⊎◌};
-ghost use Rattle.fbl_pictures.specs.Places.{before as before_of, height as height_of, left as left_of, below as below_of, towards as towards_of, width as width_of, x as x_of, y as y_of};
+ghost use Rattle.fbl_pictures.specs.Places.{before as before_of, height as height_of, left as left_of, sign_x as sign_x_of, sign_y as sign_y_of, towards as towards_of, width as width_of, x as x_of, y as y_of};
 
-use fbl_shapes::Legend;
 use fbl_trace::Member;
 
 /// How far from the left a column stands.
@@ -40,18 +39,6 @@ pub(crate) fn y(member: u8) -> u32
     74 + 80 * u32::from(member)
 }
 
-/// How far from the top the second line of words below a mark stands, by whether they are long.
-pub(crate) fn below(column: usize, member: u8, long: bool) -> u32
-    ensures value { result ≡ below_of column member long }
-    ensures bounds { (74 ≤ result) × (result < 21100) }
-{
-    if long && column % 2 == 1 {
-        y(member) + 44
-    } else {
-        y(member) + 32
-    }
-}
-
 /// The first one where the other member's line is below the member's, and else the second one.
 pub(crate) fn towards(from: Member, to: Member, down: u32, up: u32) -> u32
     ensures value { result ≡ towards_of from to down up }
@@ -64,19 +51,31 @@ pub(crate) fn towards(from: Member, to: Member, down: u32, up: u32) -> u32
     }
 }
 
-/// How wide a picture of so many columns is.
-pub(crate) fn width(columns: usize) -> u128
-    ensures { result ≡ width_of columns }
+/// How wide a picture of so many columns is, under a title of so many bytes.
+pub(crate) fn width(columns: usize, title: usize) -> u128
+    ensures { result ≡ width_of columns title }
 {
-    (x(columns) + 30).max(760)
+    (x(columns) + 30).max(8 * (title as u128) + 32).max(815)
 }
 
-/// How high a picture of so many members is, by how many lines its legend has beyond three.
-pub(crate) fn height(members: u8, legend: Legend) -> u32
-    ensures { result ≡ height_of members legend }
+/// How high a picture of so many members is, whose legend has so many signs.
+pub(crate) fn height(members: u8, signs: usize) -> u128
+    ensures { result ≡ height_of members signs }
 {
-    match legend {
-        Legend::UnsafeLog => y(members) + 84,
-        _ => y(members) + 62,
-    }
+    let rows = (signs as u128 + 2) / 3;
+    (y(members) - 4) as u128 + 22 * rows
+}
+
+/// How far from the left the sign of a legend stands that has so many before it.
+pub(crate) fn sign_x(before: usize) -> usize
+    ensures { result ≡ sign_x_of before }
+{
+    14 + 265 * (before % 3)
+}
+
+/// How far from the top it stands, below the lines of so many members.
+pub(crate) fn sign_y(members: u8, before: usize) -> u128
+    ensures { result ≡ sign_y_of members before }
+{
+    (y(members) - 4) as u128 + 22 * ((before / 3) as u128)
 }

@@ -2,7 +2,7 @@
 
 ghost use Rattle.std.specs.Prelude.{◌≡◌, ◌++◌, ◌≤◌, OnOk};
 ghost use Rattle.std.specs.Option.{option_to_list};
-ghost use Rattle.fbl_pictures.specs.RunPictures.{column_in, member_line, member_shapes, members_drawn, moment_drawn, moment_part as moment_part_of, run_status};
+ghost use Rattle.fbl_pictures.specs.RunPictures.{column_in, member_line, member_shapes, members_drawn, moment_drawn, moment_part as moment_part_of, orphan_line as orphan_line_of, run_status};
 
 use crate::columns::Columns;
 use crate::names::{push_any, push_names};
@@ -52,6 +52,25 @@ fn line(columns: usize, member: Member, is_struck: bool, moment: Option<usize>) 
     }
 }
 
+/// The line of an orphan from the column at which it starts: up to the moment, if one is drawn.
+fn orphan_line(columns: usize, member: Member, start: usize, moment: Option<usize>) -> Shape
+    ensures { result ≡ orphan_line_of columns member start moment }
+{
+    match moment {
+        Some(column) => Shape::OrphanUpTo {
+            member,
+            start,
+            column,
+        },
+        None => Shape::Line {
+            member,
+            start: Some(start),
+            end: columns,
+            kind: LineKind::Orphan,
+        },
+    }
+}
+
 /// Adds a member's label, its names and its line.
 fn push_member(
     shapes: &mut Vec<Shape>,
@@ -66,12 +85,7 @@ fn push_member(
     push_names(shapes, columns, member, Some(status(is_struck, start)))?;
     shapes.push(line(columns, member, is_struck, moment))?;
     if let Some(place) = start {
-        shapes.push(Shape::Line {
-            member,
-            start: Some(place),
-            end: columns,
-            kind: LineKind::Orphan,
-        })?;
+        shapes.push(orphan_line(columns, member, place, moment))?;
     }
     Ok(())
 }

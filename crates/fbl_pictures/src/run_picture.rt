@@ -21,7 +21,7 @@ pub(crate) fn lines_and_arrows(
 {
     let mut shapes = Vec::new(alloc);
     push_members(&mut shapes, members, entries.len(), lines)?;
-    push_arrows(&mut shapes, alloc, entries)?;
+    push_arrows(&mut shapes, alloc, entries, &lines.moment)?;
     push_moment(&mut shapes, members, &lines.moment)?;
     Ok(shapes)
 }

@@ -2,7 +2,7 @@
 
 ghost use Rattle.std.specs.Prelude.{◌≡◌};
 ghost use Rattle.fbl_pictures.specs.Marks.{drawn_outline};
-ghost use Rattle.fbl_pictures.specs.Words.{arrow_class as arrow_class_of, in_flight_class as in_flight_class_of, kind_class as kind_class_of, line_class as line_class_of, receipts_word as receipts_word_of, status_words as status_words_of, words_if as words_if_of};
+ghost use Rattle.fbl_pictures.specs.Words.{arrow_class as arrow_class_of, kind_class as kind_class_of, line_class as line_class_of, receipts_word as receipts_word_of, status_words as status_words_of, words_if as words_if_of};
 ghost use Rattle.fbl_shapes.specs.Shapes.{line_kind_of};
 
 use fbl_shapes::{ArrowKind, Kind, LineKind, Status};
@@ -70,6 +70,7 @@ pub(crate) fn kind_class(kind: Kind) -> &'static str
         Kind::Stable => "receipt stable",
         Kind::Recorded => "receipt recorded",
         Kind::Lost => "receipt lost",
+        Kind::ToCome => "receipt to-come",
     }
 }
 
@@ -78,20 +79,9 @@ pub(crate) fn outline(kind: Kind) -> &'static str
     ensures { result.now ≡ drawn_outline kind }
 {
     match kind {
-        Kind::Stable => "m-7 -7h14v14h-14z",
+        Kind::Stable | Kind::ToCome => "m-7 -7h14v14h-14z",
         Kind::Recorded => "m-8 0l8 -8l8 8l-8 8z",
         Kind::Lost => "m-7 -7l14 14m0 -14l-14 14",
-    }
-}
-
-/// The class of the stub of a message in flight.
-pub(crate) fn in_flight_class(again: bool) -> &'static str
-    ensures { result.now ≡ in_flight_class_of again }
-{
-    if again {
-        "message in-flight again"
-    } else {
-        "message in-flight"
     }
 }
 

@@ -26,17 +26,26 @@ pair_place (Store q d ∷ t) i h here = (let r = pair_place t i h here in (suc r
 pair_place (Hold q d ∷ t) zero h here = (zero, (let same : (q, d) ≡ h = cc in ap (λ (x : ℕ × Determinant). Some (Hold x.0 x.1)) same), omega arith)
 pair_place (Hold q d ∷ t) (suc i) h here = (let r = pair_place t i h here in (suc r.0, r.1, (let n = r.2 in omega (arith, n))))
 
--- the last moment of a log obeys the rules of dumps
-pub last_dump : (log : LogParts) → IsLog log → IsDump (dump_of log)
-last_dump log is = record { members = is.lawful.size; f = is.f; events = is.lawful.events; held = held; strike = is.strike } where
-  held : (i : ℕ) → HeldAt (dump_of log) i
-  held i h here =
-      let w = pair_place log.entries i h here in
+-- each pair is of a hold that stands behind as many holds and stores
+abbrev pub AreOfHolds : List Entry → List (ℕ × Determinant) → Type 0
+AreOfHolds entries held =
+    (i : ℕ) (h : ℕ × Determinant) → slice_get held i ≡ Some h → (p : ℕ) × (slice_get entries p ≡ Some (Hold h.0 h.1)) × (i ≤ length (records (take p entries)))
+
+-- what is held by holds of a log obeys the rules of dumps
+pub holds_dump : (log : LogParts) → IsLog log → (held : List (ℕ × Determinant)) → AreOfHolds log.entries held → IsDump (record (dump_of log) { held = held })
+holds_dump log is held are = record { members = is.lawful.size; f = is.f; events = is.lawful.events; held = obeys; strike = is.strike } where
+  obeys : (i : ℕ) → HeldAt (record (dump_of log) { held = held }) i
+  obeys i h here =
+      let w = are i h here in
       let few = is.few w.0 (Hold h.0 h.1) h.1 w.1 refl in
       let there = placed log.entries w.0 (Hold h.0 h.1) h.0 w.1 refl in
       let depends = is.lawful.known (at h.0 (seen log.entries w.0 h.0)) (Hold h.0 h.1) h.1 there refl in
       let receipt = locate_all log.entries depends.0.member depends.0.number (Event (receipt_of h.1)) depends.1 in
       ((let n = w.2 in omega (arith, few, n)), is.lawful.members w.0 (Hold h.0 h.1) w.1, filter_map-At mark_in log.entries receipt.0 (Event (receipt_of h.1)) (receipt_of h.1) receipt.2 refl)
+
+-- the last moment of a log obeys the rules of dumps
+pub last_dump : (log : LogParts) → IsLog log → IsDump (dump_of log)
+last_dump log is = holds_dump log is (filter_map pair_in log.entries) (pair_place log.entries)
 
 -- ---- the audit
 

@@ -2,3 +2,4 @@ pub mod Common
 pub mod LastChecks
 pub mod Audits
 pub mod PathLaws
+pub mod MomentDumps

@@ -1,2 +1,3 @@
 pub mod LastMoments
 pub mod Reasons
+pub mod MomentDumps

@@ -27,8 +27,8 @@ fn pair(entry: &Entry) -> Option<(Member, Determinant)>
     }
 }
 
-/// Who holds what at the last moment.
-fn pairs_of(alloc: Global, entries: &[Entry]) -> Result<Vec<(Member, Determinant)>, AllocError>
+/// Who holds what once these entries have come.
+pub(crate) fn pairs_of(alloc: Global, entries: &[Entry]) -> Result<Vec<(Member, Determinant)>, AllocError>
     ensures { IfOk result (λ v. v.items ≡ filter_map pair_in entries.now) }
 {
     let mut pairs = Vec::new(alloc);

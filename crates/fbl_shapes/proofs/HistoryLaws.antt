@@ -35,7 +35,7 @@ marks_each_event members history place column at =
       layers p history members,
       members_none p history (λ m s. refl) (λ i m. refl) (λ m s e k. refl) members,
       arrows_none p history (λ f s t r k. refl),
-      stubs_none p history (λ f s t a. refl),
+      stubs_none p history (λ f s t a u. refl),
     )
     (drawn_one p column_marks place (λ i c apart. mark_none p (no-event place) i c
     (λ f s t u. ne_eqb i place apart) (λ d s u. ne_eqb i place apart)) 0 place history column at here
@@ -127,7 +127,7 @@ has_arrow_from_its_send members history follow place to rsn from ssn state undon
       rw (
         layers p history members,
         members_none p history (λ m s. refl) (λ i m. refl) (λ m s e k. refl) members,
-        stubs_none p history (λ f s t a. refl),
+        stubs_none p history (λ f s t a u. refl),
         marks_none p history (record { strike = λ i m. refl; recovery = λ i m k. refl; checkpoint = λ i m. refl })
             (λ i f s t u. refl) (λ i d s u. refl),
       )
@@ -249,7 +249,7 @@ is_dashed_while_down members history member place below within =
       rw (
         layers p history members,
         arrows_none p history (λ f s t r k. refl),
-        stubs_none p history (λ f s t a. refl),
+        stubs_none p history (λ f s t a u. refl),
         marks_none p history (record { strike = λ i m. refl; recovery = λ i m k. refl; checkpoint = λ i m. refl })
             (λ i f s t u. refl) (λ i d s u. refl),
       )

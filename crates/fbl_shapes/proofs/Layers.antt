@@ -8,7 +8,8 @@ use Rattle.fbl_shapes.specs.declared.shape.ArrowKind.{ArrowKind}
 use Rattle.fbl_shapes.specs.declared.shape.LineKind.{LineKind}
 use Rattle.fbl_shapes.specs.declared.shape.Shape.TheVariants as shapes
 use Rattle.fbl_shapes.specs.declared.shape.Status.{Status}
-use Rattle.fbl_shapes.proofs.Common.{ℕ, zero, suc, ◌+◌, ◌*◌, ◌/◌, ◌<◌, ◌≡◌, ◌≢◌, ◌||◌, Bool, true, false, cond, List, [], ◌∷◌, ◌++◌, map, Option, Some, None, slice_get, filter, filter-append}
+use Rattle.std.specs.Prelude.{◌-◌}
+use Rattle.fbl_shapes.proofs.Common.{ℕ, zero, suc, ◌+◌, ◌*◌, ◌/◌, ◌<◌, ◌≡◌, ◌≢◌, Bool, true, false, cond, List, [], ◌∷◌, ◌++◌, map, Option, Some, None, slice_get, filter, filter-append}
 use Rattle.std.proofs.lemmas.List.FromFn.{length-range_with_len}
 use Rattle.fbl_shapes.proofs.Common.{append-nil, slice_get-get_or, flat_map, range_with_len, refl, ap, ◌∙◌, arith, length, option_to_list, Column, Shape, MessageName, arrow_between, arrow_from, back_before}
 use Rattle.fbl_shapes.proofs.Common.{column_marks, drawn, has_standing_receipt, history_member_shapes, is_down_after, label_and_names, last_sent, line_kind_of, line_parts, members_shapes}
@@ -75,12 +76,13 @@ module _ (p : Shape → Bool) where
     between (Some s) b = rw (none from (last_sent s b) to (arrow_kind (nat_lt s (last_sent s b)) undone)) refl
   arrow_none i none sent back _ = refl
 
-  stub_none : ((from sent to : ℕ) (again : Bool) → p (shapes.InFlight from sent to again) ≡ false)
+  stub_none : ((from sent to : ℕ) (again undone : Bool) → p (shapes.InFlight from sent to again undone) ≡ false)
       → (received : MessageName → Bool) (back : ℕ → Option ℕ) (i : ℕ) (c : Column) → filter p (option_to_list (stub_where received back i c)) ≡ []
-  stub_none none received back i (columns.Send from ssn to undone) = at (undone || received (record { from = from; ssn = ssn })) _ where
-    at : (b again : Bool) → filter p (option_to_list (cond b None (Some (shapes.InFlight from i to again)))) ≡ []
+  stub_none none received back i (columns.Send from ssn to true) = rw (none from i to false true) refl
+  stub_none none received back i (columns.Send from ssn to false) = at (received (record { from = from; ssn = ssn })) _ where
+    at : (b again : Bool) → filter p (option_to_list (cond b None (Some (shapes.InFlight from i to again false)))) ≡ []
     at true again = refl
-    at false again = rw (none from i to again) refl
+    at false again = rw (none from i to again false) refl
   stub_none none received back i _ = refl
 
   -- what is drawn at strikes, recoveries and checkpoints
@@ -104,7 +106,7 @@ module _ (p : Shape → Bool) where
   pub names_none : ((m : ℕ) (s : Option Status) → p (shapes.Label m s) ≡ false) → ((i m : ℕ) → p (shapes.Name i m) ≡ false)
       → (columns member : ℕ) (s : Option Status) → filter p (label_and_names columns member s) ≡ []
   names_none label name columns member s =
-      rw (label member s) (filter_map_none (λ group. shapes.Name (24 * (group + 1)) member) (range_with_len 0 (columns / 24))
+      rw (label member s) (filter_map_none (λ group. shapes.Name (24 * (group + 1)) member) (range_with_len 0 ((columns - 9) / 24))
       (λ group. name (24 * (group + 1)) member))
 
   pub parts_none : (member : ℕ) → ((s : Option ℕ) (e : ℕ) (k : LineKind) → p (shapes.Line member s e k) ≡ false)
@@ -120,7 +122,7 @@ module _ (p : Shape → Bool) where
         → filter p (drawn (receipt_arrow history) 0 history) ≡ []
     arrows_none none = drawn_none (receipt_arrow history) 0 history (λ i. arrow_none i (λ f s t k. none f s t i k) (sent_before history i) (back_before history i))
 
-    pub stubs_none : ((from sent to : ℕ) (again : Bool) → p (shapes.InFlight from sent to again) ≡ false) → filter p (drawn (stub history) 0 history) ≡ []
+    pub stubs_none : ((from sent to : ℕ) (again undone : Bool) → p (shapes.InFlight from sent to again undone) ≡ false) → filter p (drawn (stub history) 0 history) ≡ []
     stubs_none none = drawn_none (stub history) 0 history (stub_none none (has_standing_receipt history) (back_before history (length history)))
 
     pub marks_none : IsNoEvent → ((i from ssn to : ℕ) (undone : Bool) → p (shapes.Send i from ssn to undone) ≡ false)

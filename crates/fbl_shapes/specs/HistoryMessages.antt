@@ -1,6 +1,6 @@
 -- The arrows of messages, from where they are sent to where they are received. What is in flight from or to a member is lost when
 -- it is struck: the recovery that brings the member back sends it again.
-use Rattle.std.specs.Prelude.{ℕ, zero, suc, ◌||◌, Bool, true, false, List, length, Option, Some, None, max, nat_lt, slice_get, if◌then◌else◌}
+use Rattle.std.specs.Prelude.{ℕ, zero, suc, Bool, true, false, List, length, Option, Some, None, max, nat_lt, slice_get, if◌then◌else◌}
 use Rattle.std.specs.List.{list_any}
 use Rattle.std.specs.Option.{option_to_list}
 use Rattle.fbl_trace.specs.Events.{is_message}
@@ -90,12 +90,13 @@ receipt_arrow columns place column = option_to_list (arrow_from (sent_before col
 abbrev pub has_standing_receipt : List Column → MessageName → Bool
 has_standing_receipt columns message = list_any (λ column. is_message message (taken_by_column column)) columns
 
--- the stub of a message in flight: at a send that stands, where the message isn't received. It was sent again if a recovery
--- behind the send brings one of its ends back
+-- the stub of a send whose message nobody has received in the end: an undone one, or one that stands, where the message isn't received.
+-- It was sent again if a recovery behind the send brings one of its ends back
 abbrev pub stub_where : (MessageName → Bool) → (ℕ → Option ℕ) → ℕ → Column → Option Shape
-stub_where received back place (columns.Send from ssn to undone) =
-    if undone || received (record { from = from; ssn = ssn }) then None else Some
-    (shapes.InFlight from place to (nat_lt place (last_sent place (later (back from) (back to)))))
+stub_where received back place (columns.Send from ssn to true) = Some (shapes.InFlight from place to false true)
+stub_where received back place (columns.Send from ssn to false) =
+    if received (record { from = from; ssn = ssn }) then None else Some
+    (shapes.InFlight from place to (nat_lt place (last_sent place (later (back from) (back to)))) false)
 stub_where received back place _ = None
 
 abbrev pub stub : List Column → ℕ → Column → List Shape

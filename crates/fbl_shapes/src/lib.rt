@@ -5,4 +5,4 @@
 pub mod laws;
 mod shape;
 
-pub use shape::{ArrowKind, Kind, Legend, LineKind, Shape, Status};
+pub use shape::{ArrowKind, Kind, LineKind, Shape, Status};

@@ -48,23 +48,10 @@ pub enum Kind {
     Stable,
     /// f members or fewer hold it, and one of them is not struck.
     Recorded,
-    /// No member that is not struck holds it.
+    /// It is not on stable storage, and no member that is not struck holds it.
     Lost,
-}
-
-/// Which legend a picture has.
-#[derive(Clone, Copy)]
-pub enum Legend {
-    /// That of a picture of a history.
-    History,
-    /// That of a picture of a dump.
-    Dump,
-    /// That of a picture of a dump that shows what a check finds.
-    UnsafeDump,
-    /// That of a picture of a log at its last moment.
-    Log,
-    /// That of a picture of a log at a moment at which a receipt is unsafe.
-    UnsafeLog,
+    /// It has not come at the moment that is drawn, and is not judged.
+    ToCome,
 }
 
 /// A part of a picture. Columns count from 0, from the left; each member has a line, the first one at the top.
@@ -97,6 +84,14 @@ pub enum Shape {
         /// The column at which the line ends.
         end: usize,
     },
+    /// The line of an orphan at a moment: broad, in the orphans' colour, from a column up to the moment.
+    OrphanUpTo {
+        member: Member,
+        /// The column at which it starts.
+        start: usize,
+        /// The column before which the moment is.
+        column: usize,
+    },
     /// A part of the line of a moment: across the member's line, and on to where it crosses the next member's.
     Moment {
         member: Member,
@@ -115,7 +110,7 @@ pub enum Shape {
         received: usize,
         kind: ArrowKind,
     },
-    /// A message in flight: a stub of an arrow, and its receiver's number.
+    /// A message that nobody has received: a stub of an arrow, and its receiver's number.
     InFlight {
         from: Member,
         /// The column of the send.
@@ -123,7 +118,13 @@ pub enum Shape {
         to: Member,
         /// Whether a recovery sent it again: there is a dot near the stub's start then.
         again: bool,
+        /// Whether the send was undone: the receiver's number is struck out then.
+        undone: bool,
     },
+    /// The shapes behind this one, up to `EndToCome`, are of what has not come at the moment that is drawn: they are grey.
+    BeginToCome,
+    /// The end of these shapes.
+    EndToCome,
     /// The mark of a send, and its number.
     Send {
         column: usize,
@@ -148,7 +149,7 @@ pub enum Shape {
         column: usize,
         determinant: Determinant,
         kind: Kind,
-        /// The members that hold its determinant, struck or not.
+        /// The members that hold its determinant, struck or not, where it is judged.
         holders: MemberSet,
     },
     /// The mark of a hold: from here on the member holds the receipt's determinant. Beside it are the receipt's number and its receiver's.

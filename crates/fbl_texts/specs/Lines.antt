@@ -38,6 +38,6 @@ outcome_line strike orphans = line (codes " strike " ∷ set_words strike ∷ co
 abbrev pub unsafe_line : UnsafeReceipt → List ℕ
 unsafe_line u = codes "unsafe" ++ determinant_words u.determinant ++ outcome_line u.strike u.orphans
 
--- a receipt that could be lost at a moment: its determinant, and the place of the moment in its file with the words for that file
-abbrev pub unsafe_moment_line : ℕ → List ℕ → UnsafeMoment → List ℕ
-unsafe_moment_line place file u = codes "unsafe" ++ determinant_words u.determinant ++ codes " at " ++ decimal place ++ file ++ outcome_line u.strike u.orphans
+-- a receipt that could be lost at a moment: its determinant, and the words for the place of the moment
+abbrev pub unsafe_moment_line : List ℕ → UnsafeMoment → List ℕ
+unsafe_moment_line spot u = codes "unsafe" ++ determinant_words u.determinant ++ codes " at " ++ spot ++ outcome_line u.strike u.orphans

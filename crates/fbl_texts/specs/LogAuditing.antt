@@ -1,5 +1,5 @@
 -- What an audit and a check of a log leave in the writer, and why receipts are lost, or could be.
-use Rattle.std.specs.Prelude.{◌≡◌, ℕ, List, [], ◌∷◌, codes, Option, Some, None, IfSome, map, option_and_then, slice_get}
+use Rattle.std.specs.Prelude.{◌≡◌, ℕ, List, [], ◌∷◌, ◌++◌, codes, decimal, Option, Some, None, IfSome, map, option_and_then, slice_get}
 use Rattle.std.specs.List.{AllZip, concat}
 use Rattle.std.specs.Fmt.{debug_str, ◌++?◌}
 use Rattle.fbl_logs.specs.Entries.{receipts_in}
@@ -39,16 +39,21 @@ abbrev pub file_words : Option (List ℕ) → Option (List ℕ)
 file_words None = Some []
 file_words (Some name) = Some (codes " in ") ++? debug_str name
 
+-- the words for where the entry stands: its place in its own file, with some words for that file: those of file_words, where it has any
+abbrev pub IsSpotText : Sources → ℕ → List ℕ → Type 0
+IsSpotText sources place text =
+    (file : List ℕ) × IfSome (file_words (own_file sources place)) (λ words. file ≡ words) × (text ≡ decimal (own_place sources place) ++ file)
+
 -- ---- the check
 
 -- the verdict on the log: at each moment, whichever members may be lost, no orphan is left
 abbrev pub IsLogVerdict : LogParts → Verdict → Type 0
 IsLogVerdict log = IsVerdictThat (AlwaysSafe (run_of log))
 
--- the line of an unsafe receipt, with some words for the file of its moment: those of file_words, where it has any
+-- the line of an unsafe receipt, with the words for where its moment stands
 abbrev pub IsUnsafeMomentLine : Sources → UnsafeMoment → List ℕ → Type 0
 IsUnsafeMomentLine sources u text =
-    (file : List ℕ) × IfSome (file_words (own_file sources u.place)) (λ words. file ≡ words) × (text ≡ unsafe_moment_line (own_place sources u.place) file u)
+    (spot : List ℕ) × IsSpotText sources u.place spot × (text ≡ unsafe_moment_line spot u)
 
 -- a line for each receipt
 abbrev pub AreUnsafeMomentLines : Sources → List UnsafeMoment → List ℕ → Type 0

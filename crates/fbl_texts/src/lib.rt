@@ -26,7 +26,7 @@ pub use recorded::{Checked, Recorded, RecordedInput, checked_input, read_checked
 pub use script::{BehaviourName, Command, Plan, Script};
 pub use script_reading::read_script;
 pub use sets::set_text;
-pub use sources::Sources;
+pub use sources::{Sources, spot_text};
 pub use why::{LossReason, OrphanPath, Why, why_lost, why_unsafe};
 pub use why_in_log::{WhyLostInLog, WhyUnsafeInLog, why_lost_in_log, why_unsafe_in_log};
 pub use writing::dump_text;

@@ -6,7 +6,7 @@ ghost use Rattle.fbl_texts.specs.Lines.{unsafe_moment_line};
 ghost use Rattle.fbl_texts.specs.LogAuditing.{AreUnsafeMomentLines, IsLogAuditText, IsLogCheckText, IsLogChecked, IsUnsafeMomentLine};
 
 use crate::auditing::{Verdict, lines_text, push_numbers, push_outcome, put_verdict, verdict_on};
-use crate::sources::Sources;
+use crate::sources::{Sources, spot_text};
 use fbl_input::{OutputFault, put};
 use fbl_logs::RunLog;
 use fbl_moments::{UnsafeMoment, unsafe_moments};
@@ -35,18 +35,17 @@ pub fn write_log_audit<W: Write>(
     put(writer, text.as_bytes())
 }
 
-/// Writes the line of an unsafe receipt with this place and these words for its file.
+/// Writes the line of an unsafe receipt with these words for where its moment stands.
 fn push_line(
     text: &mut String,
     alloc: Global,
-    place: usize,
-    file: &str,
+    spot: &str,
     moment: &UnsafeMoment,
 ) -> Result<(), AllocError>
-    ensures { OnOk result (string_bytes text.new ≡ string_bytes text.old ++ unsafe_moment_line place file.now moment.now) }
+    ensures { OnOk result (string_bytes text.new ≡ string_bytes text.old ++ unsafe_moment_line spot.now moment.now) }
 {
     push_numbers(text, "unsafe", moment.determinant)?;
-    write!(text, " at {place}{file}")?;
+    write!(text, " at {spot}")?;
     push_outcome(text, alloc, moment.strike, moment.orphans)
 }
 
@@ -59,9 +58,8 @@ fn push_unsafe_moment(
 ) -> Result<(), AllocError>
     ensures { OnOk result ((line : List ℕ) × IsUnsafeMomentLine sources.now moment.now line × (string_bytes text.new ≡ string_bytes text.old ++ line)) }
 {
-    let spot = sources.spot(moment.place);
-    let file = spot.file.to_string(alloc)?;
-    push_line(text, alloc, spot.place, file.as_str(), moment)?;
+    let spot = spot_text(alloc, sources, moment.place)?;
+    push_line(text, alloc, spot.as_str(), moment)?;
     Ok(())
 }
 

@@ -1,9 +1,10 @@
 //! Where the entries of a log stand in the files from which it was put together.
 
-ghost use Rattle.std.specs.Prelude.{◌≡◌, option_map};
-ghost use Rattle.fbl_texts.specs.LogAuditing.{own_file, own_place};
+ghost use Rattle.std.specs.Prelude.{◌≡◌, IfOk, option_map, string_bytes};
+ghost use Rattle.fbl_texts.specs.LogAuditing.{IsSpotText, own_file, own_place};
 
 use fbl_logs::EntryOrigin;
+use std::alloc::{AllocError, Global};
 use std::fmt;
 
 /// Where the entries of a log stand in the files from which it was put together. Both lists are empty where it is that of one file.
@@ -62,4 +63,19 @@ impl<'a> Sources<'a> {
         let file = InFile { name };
         Spot { place, file }
     }
+}
+
+/// The words for where the entry at the place of the log stands: its place in its own file, and which file that is where there are
+/// several, as in `4 in "a.json"`. `Err` comes only where there is no memory for them.
+pub fn spot_text(
+    alloc: Global,
+    sources: &Sources<'_>,
+    place: usize,
+) -> Result<String, AllocError>
+    ensures { IfOk result (λ text. IsSpotText sources.now place (string_bytes text)) }
+{
+    let spot = sources.spot(place);
+    let file = spot.file.to_string(alloc)?;
+    let place = spot.place;
+    format!(in alloc; "{place}{file}")
 }

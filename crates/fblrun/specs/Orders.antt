@@ -75,7 +75,7 @@ IsDumpAnswer Write dump is_well told = (told ≡ dump_line dump) × (is_well ≡
 abbrev pub IsLogAnswer : DumpTask → LogParts → Sources → Bool → List ℕ → Type 0
 IsLogAnswer Audit log sources is_well told = IsLogAuditText log told × (is_well ≡ true)
 IsLogAnswer Check log sources is_well told = (verdict : Verdict) × IsLogChecked log sources verdict told × (is_well ≡ is_well_after verdict)
-IsLogAnswer Draw log sources is_well told = IsLogPicture log told × (is_well ≡ true)
+IsLogAnswer Draw log sources is_well told = IsLogPicture log sources told × (is_well ≡ true)
 IsLogAnswer Write log sources is_well told = (told ≡ log_line log) × (is_well ≡ true)
 
 -- what is told of either

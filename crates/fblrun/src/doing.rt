@@ -142,7 +142,7 @@ fn do_log<T: Eprint, W: Write>(
         }
         DumpTask::Check => Ok(is_safe(write_log_check(alloc, log, sources, writer)?)),
         DumpTask::Draw => {
-            write_log_picture(alloc, log, writer)?;
+            write_log_picture(alloc, log, sources, writer)?;
             Ok(true)
         }
         DumpTask::Write => {

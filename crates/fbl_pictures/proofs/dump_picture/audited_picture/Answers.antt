@@ -1,4 +1,4 @@
-use Rattle.fbl_pictures.proofs.Common.{◌≡◌, ◌∙◌, ap, length, vec_len, rules, IfOk-weaker, lost_determinants, picture, dump_heading, Dump}
+use Rattle.fbl_pictures.proofs.Common.{◌≡◌, ◌∙◌, ap, length, vec_len, rules, IfOk-weaker, lost_determinants, picture, dump_heading}
 use Rattle.fbl_pictures.specs.Headings.{audit_words}
 use Rattle.fbl_pictures.proofs.dump_picture.audited_picture.Goals as goal
 
@@ -19,5 +19,5 @@ returns c =
       c.orphans.ensures,
       c.in_ok-shapes.shapes.items,
       c.in_ok-shapes.ensures,
-      drawn ∙ (λ i. picture (title i) (members i) (count i) Dump (c.as_slice.ensures.value i)),
+      drawn ∙ (λ i. picture (title i) (members i) (count i) (c.as_slice.ensures.value i)),
     )) c.picture_text.ensures

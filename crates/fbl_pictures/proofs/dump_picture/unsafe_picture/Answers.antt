@@ -1,9 +1,9 @@
-use Rattle.fbl_pictures.proofs.Common.{List, ◌≡◌, ◌∙◌, ap, length, subst, sym, Entry, IfOk-weaker, NoColumns, dump_entries, picture, receipts, marks, dump_heading, AreFoundShapes, UnsafeDump}
-use Rattle.fbl_pictures.proofs.Finding.{Has-receipt, first_is, marks-map, weaker_moment}
+use Rattle.fbl_pictures.proofs.Common.{List, ◌≡◌, ◌∙◌, ap, length, subst, sym, Entry, IfOk-weaker, dump_entries, picture, receipts, marks, dump_heading, AreFoundShapes}
+use Rattle.fbl_pictures.proofs.Finding.{Has-receipt, first_is, marks-map}
 use Rattle.fbl_pictures.proofs.dump_picture.unsafe_picture.Goals as goal
 
 pub found_shapes-requires-clause-events : goal.found_shapes-requires-clause-events
-found_shapes-requires-clause-events c = sym (ap marks c.requires.recorded ∙ marks-map c.args.audit.now.events)
+found_shapes-requires-clause-events c = sym (ap marks c.requires.entries ∙ marks-map c.args.audit.now.events)
 
 pub found_shapes-requires-clause-receipt : goal.found_shapes-requires-clause-receipt
 found_shapes-requires-clause-receipt c =
@@ -27,9 +27,12 @@ returns c =
     let title = c.as_str-2.ensures.value ∙ c.in_ok-title.ensures ∙ (λ i. dump_heading (is i) (words i)) in
     let count = ap length (c.events.ensures.events ∙ ap (λ d. d.events) is) in
     let members = c.members.ensures ∙ ap (λ d. d.members) is in
-    let shapes = subst (λ (es : List Entry). AreFoundShapes dump es found (λ columns. columns ≡ c.none.result) c.in_ok-shapes.shapes.items) c.requires.recorded c.in_ok-shapes.ensures in
+    let shapes = subst (λ (stored : List Entry). AreFoundShapes dump stored (dump_entries dump) found c.none.result c.in_ok-shapes.shapes.items) c.in_ok-recorded.ensures
+    (subst (λ (es : List Entry). AreFoundShapes dump c.in_ok-recorded.recorded es found c.none.result c.in_ok-shapes.shapes.items) c.requires.entries c.in_ok-shapes.ensures) in
     IfOk-weaker c.picture_text.result _ _ (λ text drawn. (
+      c.none.result,
+      c.none.ensures,
       c.in_ok-shapes.shapes.items,
-      weaker_moment dump (dump_entries dump) found (λ columns. columns ≡ c.none.result) NoColumns c.in_ok-shapes.shapes.items (λ columns same. rw same c.none.ensures) shapes,
-      drawn ∙ (λ i. picture (title i) (members i) (count i) UnsafeDump (c.as_slice.ensures.value i)),
+      shapes,
+      drawn ∙ (λ i. picture (title i) (members i) (count i) (c.as_slice.ensures.value i)),
     )) c.picture_text.ensures

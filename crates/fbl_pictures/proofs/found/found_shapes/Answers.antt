@@ -13,7 +13,7 @@ starts_of-requires-clause-depend c q orphan =
 
 pub starts_of-requires-clause-events : goal.starts_of-requires-clause-events
 starts_of-requires-clause-events c =
-    ap length (c.as_slice.ensures.value ∙ c.in_ok-events.ensures ∙ ap (placed_from 0) c.entries-entries.ensures) ∙ length-placed 0 c.args.recorded.now
+    ap length (c.as_slice.ensures.value ∙ c.in_ok-events.ensures) ∙ length-placed 0 c.args.entries.now
     ∙ ap length (sym c.requires.events ∙ sym (ap (λ o. o.events) c.of-paths.ensures))
 
 pub push_paths_to-requires-clause-depend : goal.push_paths_to-requires-clause-depend
@@ -29,7 +29,7 @@ returns c =
     let dump = c.args.audit.now in
     let found = c.args.found.now in
     let origin : Origin = record { events = dump.events; place = c.place_of.result } in
-    let events : c.in_ok-events.events.items ≡ placed_from 0 c.args.recorded.now = c.in_ok-events.ensures ∙ ap (placed_from 0) c.entries-entries.ensures in
+    let events : c.in_ok-events.events.items ≡ placed_from 0 c.args.entries.now = c.in_ok-events.ensures in
     let paths = c.in_ok-push_paths_to.ensures in
     let members = c.members-2.ensures ∙ ap (λ d. d.members) c.dump-dump.ensures.dump in
     record {
@@ -38,13 +38,13 @@ returns c =
       lines = record { struck = found.strike; starts = c.in_ok-starts.starts; moment = c.args.moment };
       struck = refl;
       starts = λ q below.
-          subst (λ (o : Origin). IsStart o (placed_from 0 c.args.recorded.now) found.orphans q (column_in c.in_ok-starts.starts q)) c.of-paths.ensures
+          subst (λ (o : Origin). IsStart o (placed_from 0 c.args.entries.now) found.orphans q (column_in c.in_ok-starts.starts q)) c.of-paths.ensures
           (subst (λ (es : List Placed). IsStart c.of-paths.result es found.orphans q (column_in c.in_ok-starts.starts q)) (c.as_slice.ensures.value ∙ events) (c.in_ok-starts.ensures q below));
-      moment = refl;
+      at = refl;
       paths = paths.0;
       drawn =
-          subst (λ (n : ℕ). ArePaths origin (placed_from 0 c.args.recorded.now) found.orphans (range_with_len 0 n) paths.0) members
-          (subst (λ (o : Origin). ArePaths o (placed_from 0 c.args.recorded.now) found.orphans (range_with_len 0 c.members-2.result) paths.0) c.of-paths.ensures
+          subst (λ (n : ℕ). ArePaths origin (placed_from 0 c.args.entries.now) found.orphans (range_with_len 0 n) paths.0) members
+          (subst (λ (o : Origin). ArePaths o (placed_from 0 c.args.entries.now) found.orphans (range_with_len 0 c.members-2.result) paths.0) c.of-paths.ensures
           (subst (λ (es : List Placed). ArePaths c.of-paths.result es found.orphans (range_with_len 0 c.members-2.result) paths.0) (c.as_slice-2.ensures.value ∙ events) paths.1));
-      are = rw (c.in_ok-push_marks.ensures, paths.2, c.in_ok-shapes.ensures, c.entries-entries.ensures, c.members.ensures, c.dump-dump.ensures.dump) refl;
+      are = rw (c.in_ok-push_marks.ensures, paths.2, c.in_ok-shapes.ensures, c.members.ensures, c.dump-dump.ensures.dump) refl;
     }

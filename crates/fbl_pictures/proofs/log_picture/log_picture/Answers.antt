@@ -5,8 +5,8 @@ use Rattle.fbl_moments.specs.Unsafe.{SaysUnsafe}
 use Rattle.fbl_pictures.proofs.Moments.{first_of, nothing_of, says_first}
 use Rattle.fbl_pictures.proofs.log_picture.log_picture.Goals as goal
 
-pub unsafe_picture-requires-clause-said : goal.unsafe_picture-requires-clause-said
-unsafe_picture-requires-clause-said c =
+pub unsafe_picture-requires : goal.unsafe_picture-requires
+unsafe_picture-requires c =
     let log = c.args.log.now in
     let said = c.in-Some.first.now in
     let there : Some said ≡ slice_get c.in_ok-said.said.items 0 = c.in-Some.ensures.value ∙ ap (λ xs. slice_get xs 0) c.deref.ensures.value in

@@ -1,11 +1,13 @@
-use Rattle.fbl_pictures.proofs.Common.{◌∙◌, ap, length, IfOk-weaker, picture, log_heading, UnsafeLog}
+use Rattle.fbl_pictures.proofs.Common.{List, ℕ, ◌∙◌, ap, length, subst, sym, IfOk-weaker, picture}
+use Rattle.fbl_pictures.specs.LogPictures.{IsUnsafeHeading}
 use Rattle.fbl_pictures.proofs.log_picture.unsafe_picture.Goals as goal
 
 pub returns : goal.returns
 returns c =
-    let title = c.as_str-2.ensures.value ∙ c.in_ok-title.ensures ∙ ap (log_heading c.args.log.now) (c.as_str.ensures.value ∙ c.in_ok-words.ensures) in
     IfOk-weaker c.picture_text.result _ _ (λ text drawn. (
+      c.as_str.result.now,
+      subst (λ (title : List ℕ). IsUnsafeHeading c.args.log.now c.args.sources.now c.args.said.now title) (sym c.as_str.ensures.value) c.in_ok-title.ensures,
       c.in_ok-shapes.shapes.items,
       c.in_ok-shapes.ensures,
-      drawn ∙ (λ i. picture (title i) (c.members.ensures i) (ap length c.entries.ensures.entries i) UnsafeLog (c.as_slice.ensures.value i)),
+      drawn ∙ (λ i. picture c.as_str.result.now (c.members.ensures i) (ap length c.entries.ensures.entries i) (c.as_slice.ensures.value i)),
     )) c.picture_text.ensures

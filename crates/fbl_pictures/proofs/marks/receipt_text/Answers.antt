@@ -4,5 +4,5 @@ use Rattle.fbl_pictures.proofs.marks.receipt_text.Goals as goal
 pub returns : goal.returns
 unfolding drawn_receipt
 returns c =
-    rw (c.below-low.ensures.value, c.x-x.ensures.value, c.y-y.ensures.value, c.number.ensures.value, c.number-2.ensures.value) at (
+    rw (c.x-x.ensures.value, c.y-y.ensures.value, c.number.ensures.value) at (
     rw (c.words_if-class.ensures, c.words_if-end.ensures, c.in_ok-title.ensures, c.in_ok-cross.ensures, c.in_ok-number.ensures, c.in_ok-after.ensures, c.from.ensures) at c.format.ensures.ok)

@@ -1,4 +1,4 @@
-use Rattle.std.proofs.Common.{ℕ, ◌+◌, ◌*◌, ◌/◌, ◌≡◌, arith, append_assoc}
+use Rattle.std.proofs.Common.{ℕ, ◌+◌, ◌-◌, ◌*◌, ◌/◌, ◌≡◌, arith, append_assoc}
 use Rattle.std.proofs.lemmas.List.FromFn.{map-range_with_len_more}
 use Rattle.fbl_shapes.specs.declared.shape.Shape.{Shape}
 use Rattle.fbl_shapes.specs.declared.shape.Shape.TheVariants.{Name}
@@ -12,4 +12,4 @@ loop-group-preserved c =
     rw (c.in_ok-push-2.ensures.items, c.loop-group.invariant, map-range_with_len_more name 0 k k here, append_assoc)
 
 pub returns : goal.returns
-returns c = (let all : c.loop-group.group ≡ c.args.columns / 24 = omega arith in rw (c.loop-group.invariant, c.in_ok-push.ensures.items, append_assoc, all))
+returns c = (let all : c.loop-group.group ≡ (c.args.columns - 9) / 24 = omega arith in rw (c.loop-group.invariant, c.in_ok-push.ensures.items, append_assoc, all))

@@ -3,4 +3,4 @@ use Rattle.fbl_pictures.proofs.picture.opening_text.Goals as goal
 
 pub returns : goal.returns
 unfolding opening
-returns c = rw (c.look-look.ensures, c.more_look-more.ensures) at c.format.ensures.ok
+returns c = rw c.look-look.ensures at c.format.ensures.ok

@@ -22,7 +22,7 @@ returns-in_ok-write_log_check-in-Check g c =
 
 pub returns-in_err-write_log_picture-in-Draw : goal.returns-in_err-write_log_picture-in-Draw
 returns-in_err-write_log_picture-in-Draw g c =
-    rw c.in-Draw.is (cut (λ _. IsLogPicture c.args.log.now) (IsLogAnswer Draw c.args.log.now c.args.sources.now) (λ _. true) (λ _ _ is. (is, refl)) _ _ _ _
+    rw c.in-Draw.is (cut (λ _. IsLogPicture c.args.log.now c.args.sources.now) (IsLogAnswer Draw c.args.log.now c.args.sources.now) (λ _. true) (λ _ _ is. (is, refl)) _ _ _ _
     c.from_residual-in_err-write_log_picture-in-Draw.ensures.1 c.in_err-write_log_picture-in-Draw.ensures)
 
 pub returns-in_ok-write_log_picture-in-Draw : goal.returns-in_ok-write_log_picture-in-Draw
