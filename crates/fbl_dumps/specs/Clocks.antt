@@ -1,4 +1,4 @@
--- Vector clocks (Fidge 1988, Mattern 1989): which events of a trace precede which.
+-- Vector clocks (Fidge 1988, Mattern 1988): which events of a trace precede which.
 use Rattle.std.specs.Prelude.{ℕ, ◌≡◌, ◌<◌, ◌↔◌, List, length, Option, Some, None, slice_get, slice_index}
 use Rattle.std.specs.HashMap as hash_map
 use Rattle.fbl_dumps.specs.declared.clocks.Clock.{Clock}

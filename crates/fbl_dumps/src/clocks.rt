@@ -1,4 +1,4 @@
-//! Which events of a trace precede which, by vector clocks (Fidge 1988, Mattern 1989).
+//! Which events of a trace precede which, by vector clocks (Fidge 1988, Mattern 1988).
 
 ghost use Rattle.std.specs.Prelude.{◌≡◌, ◌<◌, ◌+◌, ◌↔◌, ℕ, IfOk, IsTrue, max, length, slice_index};
 ghost use Rattle.fbl_dumps.specs.Dumps.{IsDump};

@@ -40,7 +40,7 @@ pub(crate) fn pairs_of(alloc: Global, entries: &[Entry]) -> Result<Vec<(Member, 
     Ok(pairs)
 }
 
-/// The last moment as a dump of version 1: the sends and receipts, and who holds what. What is on stable storage is left out, so that
+/// The last moment as a dump: the sends and receipts, and who holds what. What is on stable storage is left out, so that
 /// such a dump can be unsafe where the moment is safe. `Err` comes only where there is no memory for the dump.
 pub fn last_dump(alloc: Global, log: &RunLog) -> Result<Dump, AllocError>
     ensures { IfOk result (λ dump. dump ≡ dump_of log.now) }

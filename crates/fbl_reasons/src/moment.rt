@@ -36,7 +36,7 @@ fn entries_at(
 pub struct MomentDump {
     /// The entries that have come.
     pub come: Vec<Entry>,
-    /// All sends and receipts, whether they have come or not, and who holds what at the moment, as a dump of version 1.
+    /// All sends and receipts, whether they have come or not, and who holds what at the moment, as a dump.
     pub dump: Dump,
 }
 

@@ -183,7 +183,7 @@ impl<A: Allocator + Copy> Table<A> {
     /// Takes in another table's entries: of each what is known is united, and new determinants go last, in the other's
     /// order. After `Err` the table is unchanged.
     ///
-    /// Where there are no entries yet the table becomes a copy of the other, so that no entry is hashed.
+    /// Where there are no entries yet the table becomes a copy of the other, and no entry is sought.
     pub fn gather(&mut self, other: &Table<A>) -> Result<(), AllocError>
         ensures gathered { OnOk result (self.new ≡ gathered self.old other.now) }
         ensures unchanged { OnErr result (self.new ≡ self.old) }
