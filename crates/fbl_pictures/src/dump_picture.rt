@@ -31,11 +31,7 @@ fn dump_heading(alloc: Global, dump: &Dump, words: &str) -> Result<String, Alloc
 }
 
 /// The shapes of a dump by its audit.
-fn audited_shapes(
-    alloc: Global,
-    audit: &Audit,
-    entries: &[Entry],
-) -> Result<Vec<Shape>, AllocError>
+fn audited_shapes(alloc: Global, audit: &Audit, entries: &[Entry]) -> Result<Vec<Shape>, AllocError>
     requires { entries.now ≡ dump_entries audit.now }
     ensures { IfOk result (λ shapes. AreShapesOf audit.now shapes.items) }
 {
@@ -92,14 +88,7 @@ fn unsafe_picture(
     let recorded = Recorded::of(alloc, &[])?;
     let words = unsafe_words(alloc, &found.determinant, "", found.strike, found.orphans)?;
     let title = dump_heading(alloc, dump, words.as_str())?;
-    let shapes = found_shapes(
-        alloc,
-        audit,
-        &recorded,
-        entries,
-        found,
-        Columns::none(),
-    )?;
+    let shapes = found_shapes(alloc, audit, &recorded, entries, found, Columns::none())?;
     picture_text(
         alloc,
         title.as_str(),

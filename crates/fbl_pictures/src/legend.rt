@@ -59,42 +59,61 @@ pub(crate) const SIGNS: &[Sign] = &[
 
 pub(crate) const SEND: &str =
     "<circle class='send' cx='10' cy='-4' r='5'/><text class='note' x='36' y='0'>send: its number</text>";
+
 pub(crate) const RECEIPT: &str =
     "<rect class='receipt' x='3' y='-11' width='14' height='14'/><text class='note' x='36' y='0'>receipt: its number, the state after it</text>";
+
 pub(crate) const UNDONE: &str =
     "<rect class='receipt undone' x='3' y='-11' width='14' height='14'/><path class='crossed' d='M1 5l18 -18'/><text class='note' x='36' y='0'>undone by a recovery</text>";
+
 pub(crate) const STABLE: &str =
     "<path class='receipt stable' d='M10 -4m-7 -7h14v14h-14z'/><text class='note' x='36' y='0'>stable: stored, or more than f hold it</text>";
+
 pub(crate) const RECORDED: &str =
     "<path class='receipt recorded' d='M10 -4m-8 0l8 -8l8 8l-8 8z'/><text class='note' x='36' y='0'>recorded: f or fewer hold it</text>";
+
 pub(crate) const LOST: &str =
     "<path class='receipt lost' d='M10 -4m-7 -7l14 14m0 -14l-14 14'/><text class='note' x='36' y='0'>lost: nobody but the struck holds it</text>";
+
 pub(crate) const TO_COME: &str =
     "<path class='receipt to-come' d='M10 -4m-7 -7h14v14h-14z'/><text class='note' x='36' y='0'>grey: to come, and not judged</text>";
+
 pub(crate) const MESSAGE: &str =
     "<path class='line' d='M0 -4h16'/><path class='tip' d='M11 -9l10 5l-10 5z'/><text class='note' x='36' y='0'>message, from its send to its receipt</text>";
+
 pub(crate) const UNDONE_MESSAGE: &str =
     "<path class='message undone' d='M-6 -4h28'/><rect class='receipt undone' x='15' y='-11' width='14' height='14'/><path class='crossed' d='M13 5l18 -18'/><text class='note' x='36' y='0'>message whose receipt was undone</text>";
+
 pub(crate) const AGAIN: &str =
     "<path class='message again' d='M-10 -4h32'/><rect class='receipt' x='15' y='-11' width='14' height='14'/><text class='note' x='36' y='0'>message sent again by a recovery</text>";
+
 pub(crate) const IN_FLIGHT: &str =
     "<path class='message in-flight' d='M0 -4h20'/><text class='note' x='36' y='0'>message in flight</text>";
+
 pub(crate) const DOWN: &str =
     "<path class='line down' d='M0 -4h20'/><text class='note' x='36' y='0'>struck member, down</text>";
+
 pub(crate) const STRIKE: &str =
     "<path class='strike' d='M13 -17l-10 14h6l-3 12l11 -16h-7z'/><text class='note' x='36' y='0'>strike</text>";
+
 pub(crate) const RECOVERY: &str =
     "<path class='recovery' d='M10 -13l9 16h-18z'/><text class='note' x='36' y='0'>recovery: the receipts it replays</text>";
+
 pub(crate) const CHECKPOINT: &str =
     "<rect class='checkpoint' x='8' y='-14' width='5' height='20'/><text class='note' x='36' y='0'>checkpoint</text>";
+
 pub(crate) const ORPHAN: &str =
     "<path class='line orphan' d='M0 -4h20'/><text class='note' x='36' y='0'>orphan: depends on a lost receipt</text>";
+
 pub(crate) const PATH: &str =
     "<path class='line path' d='M0 -4h14'/><path class='path-tip' d='M9 -10l12 6l-12 6z'/><text class='note' x='36' y='0'>path from a lost receipt to an orphan</text>";
+
 pub(crate) const MOMENT: &str =
     "<path class='moment' d='M10 -14v20'/><text class='note' x='36' y='0'>the moment</text>";
+
 pub(crate) const HOLD: &str =
     "<path class='hold' d='M5 -5a5 5 0 0 0 10 0z'/><text class='note' x='36' y='0'>hold of this receipt, from here on</text>";
+
 pub(crate) const STORE: &str =
     "<rect class='store' x='6' y='-8' width='8' height='8'/><text class='note' x='36' y='0'>store of this receipt, from here on</text>";
 
@@ -245,7 +264,9 @@ fn is_sign(wanted: Sign, found: Option<Sign>) -> bool
 fn is_shown(wanted: Sign, shapes: &[Shape]) -> bool
     ensures { result ≡ is_shown_in shapes.now wanted }
 {
-    shapes.iter().any(|shape| is_sign(wanted, shape_sign(*shape)))
+    shapes
+        .iter()
+        .any(|shape| is_sign(wanted, shape_sign(*shape)))
 }
 
 /// Adds the sign if one of the shapes has it.

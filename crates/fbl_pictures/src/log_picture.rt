@@ -74,11 +74,7 @@ fn safe_picture(alloc: Global, log: &RunLog) -> Result<String, AllocError>
 }
 
 /// The shapes of the log with what is said of one of its receipts, at its moment.
-fn unsafe_shapes(
-    alloc: Global,
-    log: &RunLog,
-    said: &UnsafeMoment,
-) -> Result<Vec<Shape>, AllocError>
+fn unsafe_shapes(alloc: Global, log: &RunLog, said: &UnsafeMoment) -> Result<Vec<Shape>, AllocError>
     requires { IsSaidOf log.now said.now.determinant said.now }
     ensures { IfOk result (λ shapes. AreUnsafeShapes log.now said.now shapes.items) }
 {
@@ -92,14 +88,7 @@ fn unsafe_shapes(
         strike: said.strike,
         orphans: said.orphans,
     };
-    found_shapes(
-        alloc,
-        &audit,
-        &recorded,
-        log.entries(),
-        &found,
-        columns,
-    )
+    found_shapes(alloc, &audit, &recorded, log.entries(), &found, columns)
 }
 
 /// The heading of the log with what is said of one of its receipts, whose moment stands in one of these files.
@@ -114,7 +103,13 @@ fn unsafe_heading(
     let spot = spot_text(alloc, sources, said.place)?;
     let spot = escaped_text(alloc, spot.as_str())?;
     let at = format!(in alloc; " at {spot}")?;
-    let words = unsafe_words(alloc, &said.determinant, at.as_str(), said.strike, said.orphans)?;
+    let words = unsafe_words(
+        alloc,
+        &said.determinant,
+        at.as_str(),
+        said.strike,
+        said.orphans,
+    )?;
     log_heading(alloc, log, words.as_str())
 }
 

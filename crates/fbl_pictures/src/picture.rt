@@ -9,8 +9,8 @@ use crate::lines::{
 };
 use crate::look::look;
 use crate::marks::{
-    checkpoint_text, held_text, hold_text, in_flight_text, moment_text, receipt_text, recovery_text, send_text,
-    store_text, strike_text,
+    checkpoint_text, held_text, hold_text, in_flight_text, moment_text, receipt_text,
+    recovery_text, send_text, store_text, strike_text,
 };
 use crate::places::{height, width};
 use fbl_shapes::Shape;
@@ -131,12 +131,7 @@ fn push_shapes(text: &mut String, alloc: Global, shapes: &[Shape]) -> Result<(),
 
 /// The start of a picture, as wide and as high as this: its title, its look, the background and the heading.
 #[tactic(auto, unfolding(crate::specs::Pictures::opening))]
-fn opening_text(
-    alloc: Global,
-    title: &str,
-    width: u128,
-    height: u128,
-) -> Result<String, AllocError>
+fn opening_text(alloc: Global, title: &str, width: u128, height: u128) -> Result<String, AllocError>
     ensures { IfOk result (λ text. string_bytes text ≡ opening title.now width height) }
 {
     let look = look();

@@ -77,11 +77,7 @@ fn receipt_places(alloc: Global, entries: &[Entry]) -> Result<ReceiptPlaces, All
 }
 
 /// Adds the shape of an entry, in grey if the entry has not come.
-fn push_in_time(
-    shapes: &mut Vec<Shape>,
-    has_come: bool,
-    shape: Shape,
-) -> Result<(), AllocError>
+fn push_in_time(shapes: &mut Vec<Shape>, has_come: bool, shape: Shape) -> Result<(), AllocError>
     ensures { OnOk result (shapes.new.items ≡ shapes.old.items ++ in_time has_come shape) }
 {
     if has_come {

@@ -46,10 +46,10 @@ come_first (e ∷ t) cut q =
     elim (cases_lt 0 (cut m)) [
       | inl some ↦ elim (cases_eq m q) [
         | inl own ↦ ap (λ es. log_of es q) (come-more e t cut some) ∙ own_log e (come_at (less cut m) t) q own
-          ∙ ap (λ es. e ∷ es) (come_first t (less cut m) q ∙ ap (λ n. take n (log_of t q)) (less_own cut m q own))
-          ∙ sym (ap (take (cut q)) (own_log e t q own) ∙ take_one (cut q) e (log_of t q) (subst (λ (n : ℕ). 0 < cut n) own some))
+            ∙ ap (λ es. e ∷ es) (come_first t (less cut m) q ∙ ap (λ n. take n (log_of t q)) (less_own cut m q own))
+            ∙ sym (ap (take (cut q)) (own_log e t q own) ∙ take_one (cut q) e (log_of t q) (subst (λ (n : ℕ). 0 < cut n) own some))
         | inr apart ↦ ap (λ es. log_of es q) (come-more e t cut some) ∙ other_log e (come_at (less cut m) t) q apart
-          ∙ come_first t (less cut m) q ∙ ap (λ n. take n (log_of t q)) (less_other cut m q apart) ∙ sym (ap (take (cut q)) (other_log e t q apart))
+            ∙ come_first t (less cut m) q ∙ ap (λ n. take n (log_of t q)) (less_other cut m q apart) ∙ sym (ap (take (cut q)) (other_log e t q apart))
       ]
       | inr none ↦ ap (λ es. log_of es q) (come-same e t cut none) ∙ come_first t cut q ∙ elim (cases_eq m q) [
         | inl own ↦ (let nothing = subst (λ (n : ℕ). cut n ≤ 0) own none in take_none (cut q) (log_of t q) nothing ∙ sym (take_none (cut q) (log_of (e ∷ t) q) nothing))
@@ -120,7 +120,7 @@ pub come_holds : (entries : List Entry) (cut : Cut) → AreOfHolds entries (filt
 come_holds [] cut i h here = absurd cc
 come_holds (e ∷ t) cut i h here = elim (cases_lt 0 (cut (entry_member e))) [
   | inl some ↦ with_it e t (come_at (less cut (entry_member e)) t) (come_holds t (less cut (entry_member e))) i h
-    (subst (λ (es : List Entry). slice_get (filter_map pair_in es) i ≡ Some h) (come-more e t cut some) here)
+      (subst (λ (es : List Entry). slice_get (filter_map pair_in es) i ≡ Some h) (come-more e t cut some) here)
   | inr none ↦ behind e t i h (come_holds t cut i h
-    (subst (λ (es : List Entry). slice_get (filter_map pair_in es) i ≡ Some h) (come-same e t cut none) here))
+      (subst (λ (es : List Entry). slice_get (filter_map pair_in es) i ≡ Some h) (come-same e t cut none) here))
 ]

@@ -28,7 +28,10 @@ fn pair(entry: &Entry) -> Option<(Member, Determinant)>
 }
 
 /// Who holds what once these entries have come.
-pub(crate) fn pairs_of(alloc: Global, entries: &[Entry]) -> Result<Vec<(Member, Determinant)>, AllocError>
+pub(crate) fn pairs_of(
+    alloc: Global,
+    entries: &[Entry],
+) -> Result<Vec<(Member, Determinant)>, AllocError>
     ensures { IfOk result (λ v. v.items ≡ filter_map pair_in entries.now) }
 {
     let mut pairs = Vec::new(alloc);

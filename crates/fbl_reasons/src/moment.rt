@@ -11,11 +11,7 @@ use fbl_logs::{Clock, Entry, RunLog, marks_of};
 use std::alloc::{AllocError, Global};
 
 /// The entries that have come at the cut, in their order.
-fn entries_at(
-    alloc: Global,
-    entries: &[Entry],
-    cut: &[usize; 16],
-) -> Result<Vec<Entry>, AllocError>
+fn entries_at(alloc: Global, entries: &[Entry], cut: &[usize; 16]) -> Result<Vec<Entry>, AllocError>
     ensures { IfOk result (λ v. v.items ≡ come_at (cut_in cut.now) entries.now) }
 {
     let mut seen = Clock::none();
@@ -42,11 +38,7 @@ pub struct MomentDump {
 
 /// What was recorded at the moment of the cut: how many of its first entries each member has, by the member's number. The time taken is
 /// linear in the entries. `Err` comes only where there is no memory for the answer.
-pub fn moment_dump(
-    alloc: Global,
-    log: &RunLog,
-    cut: &[usize; 16],
-) -> Result<MomentDump, AllocError>
+pub fn moment_dump(alloc: Global, log: &RunLog, cut: &[usize; 16]) -> Result<MomentDump, AllocError>
     ensures come { IfOk result (λ moment. HaveCome log.now.entries (cut_in cut.now) moment.come.items) }
     ensures dump { IfOk result (λ moment. moment.dump ≡ dump_with log.now moment.come.items) }
 {

@@ -67,11 +67,7 @@ impl<'a> Sources<'a> {
 
 /// The words for where the entry at the place of the log stands: its place in its own file, and which file that is where there are
 /// several, as in `4 in "a.json"`. `Err` comes only where there is no memory for them.
-pub fn spot_text(
-    alloc: Global,
-    sources: &Sources<'_>,
-    place: usize,
-) -> Result<String, AllocError>
+pub fn spot_text(alloc: Global, sources: &Sources<'_>, place: usize) -> Result<String, AllocError>
     ensures { IfOk result (λ text. IsSpotText sources.now place (string_bytes text)) }
 {
     let spot = sources.spot(place);
