@@ -1,4 +1,4 @@
-pub use Rattle.std.proofs.Common.{Bool, Err, IfErr, IfSome, List, None, Ok, Option, Result, Some, [], ap, arith, codes, decimal, drop, false, map, not, option_map, refl, rules, option_and_then}
+pub use Rattle.std.proofs.Common.{Bool, Err, IfErr, IfOk, IfSome, List, None, Ok, Option, Result, Some, [], ap, arith, codes, decimal, drop, false, map, not, option_map, refl, rules, option_and_then}
 pub use Rattle.std.proofs.Common.{string_bytes, subst, suc, sym, true, unwrap_or, zero, ℕ, ◌&&◌, ◌+◌, ◌<◌, ◌||◌, ◌∙◌, ◌∷◌, ◌≡◌, ◌++◌, ◌⊎◌, inl, inr}
 pub use Rattle.std.proofs.Math.Bool.{or-false}
 pub use Rattle.std.proofs.lemmas.Fmt.{decimal_digit, parse-decimal}
@@ -12,7 +12,7 @@ pub use Rattle.clap.proofs.WalkLemmas.{first_value-rows, one_text-rows, raw_valu
 pub use Rattle.clap.specs.Simple.{built, entered, is_simple, names_of}
 pub use Rattle.clap.specs.Takes.{built_takes, takes}
 pub use Rattle.clap.specs.Walk.{nothing_held, stop_after}
-pub use Rattle.clap.specs.Words.{App, HasMatchesOf, ReadsOne, Row, Rule, Text, all_of, first_of, found_of, kind_of, new_rule, one_of, rule_of, subcommand_name_of, subcommand_of, subcommand_rows, subcommand_rows_of}
+pub use Rattle.clap.specs.Words.{App, HasKind, HasMatchesOf, ReadsOne, Row, Rule, Text, all_of, fault_of, first_of, found_of, is_simple_and_free, kind_of, new_rule, one_of, rule_of, subcommand_name_of, subcommand_of, subcommand_rows, subcommand_rows_of}
 pub use Rattle.clap.specs.declared.builder.ArgAction.TheVariants.{Set}
 pub use Rattle.clap.specs.declared.error.Error.{Error}
 pub use Rattle.clap.specs.declared.error.kind.ErrorKind.TheVariants.{OutOfMemory}
@@ -23,12 +23,15 @@ pub use Rattle.fbl_trace.specs.Configs.{WorkersAllowed}
 pub use Rattle.fbl_commands.specs.Steps.{is_refusal}
 pub use Rattle.fbl_commands.specs.declared.answer.Answer.{Answer}
 pub use Rattle.fbl_pictures.specs.HistoryPictures.{history_picture}
-pub use Rattle.fblrun.specs.CommandLines.{AreNames, IsRefusedFor, IsRequestOf, Names, all_given_in, given_in, is_merge, merge_line, texts_in, IsCommandLine, IsOrderAt, flag_text, is_play, is_show, order_for, program}
+pub use Rattle.fblrun.specs.CommandLines.{AreNames, AreWorkers, IsFlag, IsMisuseOf, IsOrderTo, IsRefusedFor, IsRequestOf, Names, is_merge, merge_line, IsCommandLine, IsOrderAt, flag_text, is_play, is_show, order_for, program}
 pub use Rattle.fblrun.specs.CommandLines.{with_explain, with_strict, IsRequestAt, audit_line, check_line, draw_line, is_audit, is_check, is_draw, is_show_workers, is_workers, play_line, show_line}
 pub use Rattle.fblrun.specs.Statuses.{status_after}
 pub use Rattle.fblrun.specs.declared.Order.{Order}
+pub use Rattle.fblrun.specs.declared.Task.{Task}
+pub use Rattle.fblrun.specs.declared.Task.TheVariants.{Dump, Merged, Script}
+pub use Rattle.fblrun.specs.declared.ScriptTask.TheVariants.{Play, Show}
 pub use Rattle.fblrun.specs.declared.command_line.Misuse.{Misuse}
-pub use Rattle.fblrun.specs.declared.command_line.Misuse.TheVariants.{Words}
+pub use Rattle.fblrun.specs.declared.command_line.Misuse.TheVariants.{NoCommand, Words}
 pub use Rattle.fblrun.specs.declared.command_line.Request.{Request}
 pub use Rattle.fbl_dumps.specs.declared.raw_dump.RawDump.{RawDump}
 pub use Rattle.fbl_input.proofs.Outputs.{keeps_itself, puts_as, puts_text}

@@ -3,7 +3,7 @@ use Rattle.fbl_trace.specs.declared.trace.Note.{Note}
 use Rattle.fbl_order.specs.declared.parts.PartsFault.TheVariants as parts
 use Rattle.fblrun.specs.declared.merging.MergeFault.TheVariants as faults
 use Rattle.fblrun.proofs.Common.{DumpTask, EndsLogs, EndsMerged, MergeFault, RawDump, RawLog, RefusesLogMerge, RefusesMerge, inl, inr, keeps_itself, merge_status, refl, ◌⊎◌, ◌≡◌, ℕ, ◌||◌, ◌&&◌, not}
-use Rattle.fblrun.proofs.Common.{Bool, false, List, [], ◌∷◌, Option, Some, None, Result, Ok, Err, IfSome, arith, IsErrAnd, OutputFault, PutsOut, puts_as, ap, ◌∙◌, list_any, or-false, sym, RunFault}
+use Rattle.fblrun.proofs.Common.{Bool, false, List, [], ◌∷◌, Option, Some, None, Result, Ok, Err, IfErr, IfOk, IfSome, arith, IsErrAnd, OutputFault, PutsOut, puts_as, ap, ◌∙◌, list_any, or-false, sym, RunFault}
 use Rattle.fblrun.proofs.Common.{Answer, is_refusal, Command, GroupRecord, Observes, PlaysScript, Ran, Transcript, Outline, PlaysWell, next_of, status_after, text, unobserved}
 
 -- what is known of what was done over an input is known of the status that it ends with
@@ -17,6 +17,12 @@ pub cut : {A : Type 0} (IsRight : A → List ℕ → Type 0) (IsSeen : Bool → 
     → (before after : Option (List ℕ)) (e : OutputFault) (r : Result Bool OutputFault) → IsErrAnd r (λ x. x ≡ e) → PutsOut IsRight before after (Err e) → PutsOut IsSeen before after r
 cut IsRight IsSeen f right before after e (Ok x) same puts = absurd same
 cut IsRight IsSeen f right before after e (Err x) same puts = rw same (puts_as IsRight IsSeen f right before after e puts)
+
+-- the fault is told, or memory ran out
+pub told_or_short : {P E : Type 0} (parts : Result P E) (fault : MergeFault) (status : ℕ) → IfOk parts (λ _. status ≡ merge_status fault) → IfErr parts (λ _. status ≡ 4)
+    → (status ≡ merge_status fault) ⊎ (status ≡ 4)
+told_or_short (Ok x) fault status told untold = inl told
+told_or_short (Err e) fault status told untold = inr untold
 
 -- what several dumps are together is refused, whether for the fault or for want of memory to tell it
 pub merge_refused : {A : Type 0} (task : DumpTask) (dumps : List (RawDump A)) (known : Option (List ℕ)) (fault : MergeFault) (status : ℕ) → RefusesMerge dumps fault

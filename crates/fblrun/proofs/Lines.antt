@@ -1,11 +1,11 @@
 -- What the parser of command lines makes of the program's command lines.
 use Rattle.fblrun.proofs.Common.{◌≡◌, ℕ, zero, suc, ◌+◌, ◌<◌, ◌&&◌, Bool, true, false, List, [], ◌∷◌, ◌++◌, Option, Some, None, option_map, Result, Ok, Err, IfErr, refl, sym, ap, ◌∙◌, arith, codes}
-use Rattle.fblrun.proofs.Common.{decimal, drop, subst, unwrap_or, decimal_digit, parse-decimal, Box, box_value, IsErrAnd, ParsesUnsigned, built, entered, is_simple, Bor, Misuse, Words, AreNames}
-use Rattle.fblrun.proofs.Common.{IsRefusedFor, Names, Request, IsRequestAt, IsRequestOf, all_given_in, all_of, is_merge, merge_line, given_in, texts_in, first_of, option_and_then, subcommand_of}
-use Rattle.fblrun.proofs.Common.{names_of, built_takes, takes, nothing_held, stop_after, App, HasMatchesOf, ReadsOne, Row, Text, kind_of, one_of, subcommand_name_of, subcommand_rows}
+use Rattle.fblrun.proofs.Common.{decimal, drop, inl, subst, unwrap_or, decimal_digit, parse-decimal, Box, box_value, IsErrAnd, ParsesUnsigned, built, entered, is_simple, Bor, Misuse, NoCommand, Words, AreNames}
+use Rattle.fblrun.proofs.Common.{AreWorkers, IsFlag, IsMisuseOf, IsOrderTo, IsRefusedFor, Names, Request, IsRequestAt, IsRequestOf, all_of, is_merge, merge_line, first_of, subcommand_of}
+use Rattle.fblrun.proofs.Common.{names_of, built_takes, takes, nothing_held, stop_after, App, HasKind, HasMatchesOf, ReadsOne, Row, Text, fault_of, is_simple_and_free, kind_of, one_of, subcommand_name_of, subcommand_rows}
 use Rattle.fblrun.proofs.Common.{subcommand_rows_of, Error, OutOfMemory, ArgMatches, out-ArgMatches, out-SubCommand, SubCommand, WorkersAllowed, Order, IsCommandLine, is_audit, is_check, is_draw}
 use Rattle.fblrun.proofs.Common.{is_play, is_show, is_show_workers, is_workers, IsOrderAt, audit_line, check_line, draw_line, flag_text, order_for, play_line, program, show_line, with_explain}
-use Rattle.fblrun.proofs.Common.{with_strict}
+use Rattle.fblrun.proofs.Common.{with_strict, Audit, Check, Draw, Write, Dump, Merged, Script, Play, Show, Task}
 use Rattle.clap.proofs.OnLiterals.{clap_on_literals}
 
 -- the subcommand that the words behind the program's name give, with what was found of it
@@ -105,6 +105,23 @@ pub refused : {T : Type 0} (words : List Text) (e : Error) (r : Result T Misuse)
 refused words e (Ok x) is h = tt
 refused words e (Err f) is h = λ line. subst IsRefusedFor (sym is) (h line)
 
+-- the parser of command lines refuses the words as it says
+program_free : is_simple_and_free program ≡ true
+unfolding clap_on_literals
+program_free = refl
+
+pub misused : {T : Type 0} (a : App) (words : List Text) (e : Error) (r : Result T Misuse) → a ≡ program → IsErrAnd r (λ f. f ≡ Words e)
+    → (is_simple_and_free a ≡ true → HasKind (fault_of a words) e) → IfErr r (IsMisuseOf words)
+misused a words e (Ok x) is same kinds = tt
+misused a words e (Err f) is same kinds =
+    subst (IsMisuseOf words) (sym same) (subst (λ (p : App). HasKind (fault_of p words) e) is (kinds (ap is_simple_and_free is ∙ program_free)))
+
+-- so it does for want of memory
+pub short : {T : Type 0} (words : List Text) (r : Result T Misuse) → IsErrAnd r IsRefusedFor → IfErr r (IsMisuseOf words)
+short words (Ok x) for = tt
+short words (Err (Words e)) for = inl for
+short words (Err NoCommand) for = absurd for
+
 -- ---- orders
 
 two : decimal 2 ≡ codes "2"
@@ -132,17 +149,37 @@ found_asked : (o : Option (Text × List Row)) (name : Text) (rows : List Row) (x
 found_asked None name rows x is found e = absurd (cc)
 found_asked (Some p) name rows x is found e = record { named = cc; workers = cc; strict = cc; explain = cc; input = cc; output = cc }
 
+-- the order to do this is that which explains, or does not, as the flag says
+to_order : (task : Task) (rows : List Row) (order : Option Order) (explain : Bool) → IsOrderTo task rows order → one_of (codes "explain") rows ≡ Some (flag_text explain)
+    → order ≡ Some (record { task = task; explain = explain })
+to_order task rows order explain to given = to.2 ∙ ap (λ e. Some (record { task = task; explain = e })) (to.1 explain given)
+
+-- so is that of a play, or of a picture, by the number of workers
+play_found : (rows : List Row) (order : Option Order) (n : ℕ) (strict explain : Bool)
+    → (workers : ℕ) × AreWorkers rows workers × (b : Bool) × IsFlag (codes "strict") rows b × IsOrderTo (Script (Play workers b)) rows order
+    → n < 10 → one_of (codes "workers") rows ≡ Some (decimal n) → one_of (codes "strict") rows ≡ Some (flag_text strict) → one_of (codes "explain") rows ≡ Some (flag_text explain)
+    → order ≡ Some (record { task = Script (Play n strict); explain = explain })
+play_found rows order n strict explain (workers, are, b, flag, to) small counted stated explained =
+    to_order (Script (Play workers b)) rows order explain to explained
+    ∙ ap (λ w. Some (record { task = Script (Play w b); explain = explain })) (are n small counted)
+    ∙ ap (λ s. Some (record { task = Script (Play n s); explain = explain })) (flag strict stated)
+
+show_found : (rows : List Row) (order : Option Order) (n : ℕ) (explain : Bool) → (workers : ℕ) × AreWorkers rows workers × IsOrderTo (Script (Show workers)) rows order
+    → n < 10 → one_of (codes "workers") rows ≡ Some (decimal n) → one_of (codes "explain") rows ≡ Some (flag_text explain) → order ≡ Some (record { task = Script (Show n); explain = explain })
+show_found rows order n explain (workers, are, to) small counted explained =
+    to_order (Script (Show workers)) rows order explain to explained ∙ ap (λ w. Some (record { task = Script (Show w); explain = explain })) (are n small counted)
+
 -- what was found is what a command line asks for, so that the order at it is the line's
 order_found : {words : List Text} (name : Text) (rows : List Row) (order : Option Order) → IsOrderAt name rows order
     → (line : IsCommandLine words) → IsFound name rows (asked_for line) → order ≡ Some (order_for line)
-order_found name rows order at (is_merge line) f = at.merge line.0 f.named f.explain
-order_found name rows order at (is_audit line) f = at.audit line.0 f.named f.explain
-order_found name rows order at (is_check line) f = at.check line.0 f.named f.explain
-order_found name rows order at (is_draw line) f = at.draw line.0 f.named f.explain
-order_found name rows order at (is_play s line) f = at.play s line.0 2 (omega arith) f.named (f.workers ∙ ap Some (sym two)) f.strict f.explain
-order_found name rows order at (is_workers s n count line) f = at.play s line.0 n (omega (arith, count.1)) f.named f.workers f.strict f.explain
-order_found name rows order at (is_show line) f = at.show line.0 2 (omega arith) f.named (f.workers ∙ ap Some (sym two)) f.explain
-order_found name rows order at (is_show_workers n count line) f = at.show line.0 n (omega (arith, count.1)) f.named f.workers f.explain
+order_found name rows order at (is_merge line) f = to_order (Merged Write) rows order line.0 (at.merge f.named) f.explain
+order_found name rows order at (is_audit line) f = to_order (Dump Audit) rows order line.0 (at.audit f.named) f.explain
+order_found name rows order at (is_check line) f = to_order (Dump Check) rows order line.0 (at.check f.named) f.explain
+order_found name rows order at (is_draw line) f = to_order (Dump Draw) rows order line.0 (at.draw f.named) f.explain
+order_found name rows order at (is_play s line) f = play_found rows order 2 s line.0 (at.play f.named) (omega arith) (f.workers ∙ ap Some (sym two)) f.strict f.explain
+order_found name rows order at (is_workers s n count line) f = play_found rows order n s line.0 (at.play f.named) (omega (arith, count.1)) f.workers f.strict f.explain
+order_found name rows order at (is_show line) f = show_found rows order 2 line.0 (at.show f.named) (omega arith) (f.workers ∙ ap Some (sym two)) f.explain
+order_found name rows order at (is_show_workers n count line) f = show_found rows order n line.0 (at.show f.named) (omega (arith, count.1)) f.workers f.explain
 
 -- no file is named by one of the lines
 no_input : {words : List Text} (line : IsCommandLine words) (name : Text) (rows : List Row) → IsFound name rows (asked_for line)
@@ -166,56 +203,65 @@ none_named : (names : List (Bor Text)) (texts : Option (List Text)) → AreNames
 none_named [] texts is none = refl
 none_named (x ∷ xs) texts is none = absurd (cc)
 
--- the values of an argument, at the rows of the subcommand that was found
-all_found : (id : Text) (o : Option (Text × List Row)) (rows : List Row) → Some rows ≡ option_map (λ p. p.1) o
-    → texts_in id rows ≡ unwrap_or (option_and_then (λ found. all_of id found.1) o) []
-all_found id None rows is = absurd (cc)
-all_found id (Some p) rows is = ap (λ o. unwrap_or (option_and_then (all_of id) o) []) is
+-- there is no pair without a name
+no_pair : (o : Option (Text × List Row)) → option_map (λ p. p.0) o ≡ None → o ≡ None
+no_pair None none = refl
+no_pair (Some p) none = absurd (cc)
 
--- the first value of an argument, at the rows of the subcommand that was found
-first_found : (id : Text) (o : Option (Text × List Row)) (rows : List Row) → Some rows ≡ option_map (λ p. p.1) o
-    → first_of id rows ≡ option_and_then (λ found. first_of id found.1) o
-first_found id None rows is = absurd (cc)
-first_found id (Some p) rows is = ap (λ o. option_and_then (first_of id) o) is
+-- a pair with this name and these rows
+paired : (o : Option (Text × List Row)) (name : Text) (rows : List Row) → option_map (λ p. p.0) o ≡ Some name → option_map (λ p. p.1) o ≡ Some rows → o ≡ Some (name, rows)
+paired None name rows is has = absurd (cc)
+paired (Some p) name rows is has =
+    let n : p.0 ≡ name = cc in
+    let r : p.1 ≡ rows = cc in ap (λ (x : Text). Some (x, p.1)) n ∙ ap (λ (x : List Row). Some (name, x)) r
 
 -- the matches are those of the program on the words
 module _ (a : App) (words : List Text) (m : ArgMatches) (is : a ≡ program) (matches : HasMatchesOf a words m) where
   rows_are : subcommand_rows_of m ≡ subcommand_of program words
   rows_are = (subst (λ (p : App). HasMatchesOf p words m) is matches program_simple).1
 
-  line_asked : (line : IsCommandLine words) → asked (subcommand_rows_of m) ≡ Some (asked_for line)
-  line_asked line = ap asked rows_are ∙ (line_gives words line).0
+  -- where no subcommand was found there is no order
+  pub none_found : subcommand_name_of m ≡ None → IsMisuseOf words NoCommand
+  none_found none name rows found =
+      let e : subcommand_of program words ≡ None = no_pair (subcommand_of program words) (ap (option_map (λ p. p.0)) (sym rows_are) ∙ matches_name m ∙ none) in absurd (cc)
 
   -- a subcommand was found, with these rows
   module _ (name : Text) (rows : List Row) (named_so : Some name ≡ subcommand_name_of m) (has : Some rows ≡ option_map (λ p. p.1) (subcommand_rows_of m)) where
+    found_here : subcommand_of program words ≡ Some (name, rows)
+    found_here = sym rows_are ∙ paired (subcommand_rows_of m) name rows (matches_name m ∙ sym named_so) (sym has)
+
     is_found : (line : IsCommandLine words) → IsFound name rows (asked_for line)
-    is_found line = found_asked _ name rows (asked_for line) (matches_name m ∙ sym named_so) (sym has) (line_asked line)
-
-    first_given : (id : Text) → first_of id rows ≡ given_in id words
-    first_given id = first_found id (subcommand_rows_of m) rows has ∙ ap (option_and_then (λ found. first_of id found.1)) rows_are
-
-    all_given : (id : Text) → texts_in id rows ≡ all_given_in id words
-    all_given id = all_found id (subcommand_rows_of m) rows has ∙ ap (λ o. unwrap_or (option_and_then (λ found. all_of id found.1) o) []) rows_are
+    is_found line = found_asked _ name rows (asked_for line) (ap (option_map (λ p. p.0)) found_here) (ap (option_map (λ p. p.1)) found_here) (line_gives words line).0
 
     -- the request is the one at its name and rows
-    pub request_is : (request : Option Request) (r : Request) → request ≡ Some r → IsRequestAt name rows request → IsRequestOf words r
-    request_is request r e at = record {
-      order = λ line.
-          let o : option_map (λ (q : Request). q.order) request ≡ Some (order_for line) = order_found name rows _ at.order line (is_found line) in
-          let s : Some r.order ≡ Some (order_for line) = ap (option_map (λ (q : Request). q.order)) (sym e) ∙ o in cc;
+    asked_is : (r : Request) → IsRequestAt name rows (Some r) → IsRequestOf words r
+    asked_is r at = record {
+      name = name;
+      rows = rows;
+      found = found_here;
+      asked = at;
+      order = λ line. (let o : Some r.order ≡ Some (order_for line) = order_found name rows (Some r.order) at.0 line (is_found line) in cc);
       none = λ line. (
-        none_named r.inputs.items _ (at.inputs r e) (no_input line name rows (is_found line)).0,
-        not_named r.output _ (at.output r e) (no_input line name rows (is_found line)).1,
+        none_named r.inputs.items _ at.1 (no_input line name rows (is_found line)).0,
+        not_named r.output _ at.2 (no_input line name rows (is_found line)).1,
       );
-      inputs = at.inputs r e ∙ all_given (codes "input");
-      output = at.output r e ∙ first_given (codes "output");
     }
+
+    pub request_is : (request : Option Request) (r : Request) → request ≡ Some r → IsRequestAt name rows request → IsRequestOf words r
+    request_is request r e at = asked_is r (subst (IsRequestAt name rows) e at)
 
     -- where there is none at its name, the words are none of the lines
     pub no_request : {A : Type 0} (request : Option Request) → request ≡ None → IsRequestAt name rows request → IsCommandLine words → A
     no_request request e at line =
-        let o : option_map (λ (q : Request). q.order) request ≡ Some (order_for line) = order_found name rows _ at.order line (is_found line) in
-        let n : option_map (λ (q : Request). q.order) request ≡ None = ap (option_map (λ (q : Request). q.order)) e in absurd (cc)
+        let n : ◌≡◌ {A = Option Order} None (Some (order_for line)) = order_found name rows None (subst (IsRequestAt name rows) e at) line (is_found line) in absurd (cc)
+
+    -- there is none whatever was found
+    pub no_order : (request : Option Request) → request ≡ None → IsRequestAt name rows request → IsMisuseOf words NoCommand
+    no_order request e at other others found =
+        let same : ◌≡◌ {A = Option (Text × List Row)} (Some (name, rows)) (Some (other, others)) = sym found_here ∙ found in
+        let n : name ≡ other = ap (λ (o : Option (Text × List Row)). unwrap_or (option_map (λ p. p.0) o) name) same in
+        let r : rows ≡ others = ap (λ (o : Option (Text × List Row)). unwrap_or (option_map (λ p. p.1) o) rows) same in
+        subst (λ (x : List Row). IsOrderAt other x None) r (subst (λ (x : Text). IsOrderAt x rows None) n (subst (IsRequestAt name rows) e at))
 
 -- ---- the number of workers
 

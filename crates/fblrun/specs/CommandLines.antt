@@ -1,18 +1,20 @@
 -- The program's command lines, and the orders that they give.
-use Rattle.std.specs.Prelude.{◌≡◌, ℕ, ◌<◌, Bool, true, false, List, [], ◌∷◌, ◌++◌, Option, None, Some, codes, decimal, drop, map, option_and_then, option_map, pos, unwrap_or}
+use Rattle.std.specs.Prelude.{◌≡◌, ℕ, ◌<◌, ◌⊎◌, Bool, true, false, List, [], ◌∷◌, ◌++◌, Option, None, Some, codes, decimal, drop, map, option_map, pos, unwrap_or}
 use Rattle.std.specs.Borrow.{Bor}
 use Rattle.clap.specs.Simple.{on_top}
-use Rattle.clap.specs.Words.{App, Row, Rule, Text, all_of, first_of, kind_of, new_app, new_rule, one_of, subcommand_of, with_rule, with_subcommand}
+use Rattle.clap.specs.Words.{App, HasKind, Row, Rule, Text, all_of, fault_of, first_of, kind_of, new_app, new_rule, one_of, subcommand_of, with_rule, with_subcommand}
 use Rattle.clap.specs.declared.builder.ArgAction.TheVariants.{Append, Set, SetTrue}
 use Rattle.clap.specs.declared.builder.value_parser.ValueParser.TheVariants as parsers
 use Rattle.fbl_trace.specs.Configs.{WorkersAllowed}
-use Rattle.clap.specs.declared.error.kind.ErrorKind.TheVariants.{OutOfMemory}
+use Rattle.clap.specs.declared.error.kind.ErrorKind.{ErrorKind}
+use Rattle.clap.specs.declared.error.kind.ErrorKind.TheVariants.{DisplayHelp, DisplayVersion, OutOfMemory}
 use Rattle.fblrun.specs.declared.Order.{Order}
 use Rattle.fblrun.specs.declared.command_line.Misuse.{Misuse}
 use Rattle.fblrun.specs.declared.command_line.Misuse.TheVariants.{Words, NoCommand}
 use Rattle.fblrun.specs.declared.command_line.Request.{Request}
 use Rattle.fblrun.specs.declared.DumpTask.TheVariants.{Audit, Check, Draw, Write}
 use Rattle.fblrun.specs.declared.ScriptTask.TheVariants.{Play, Show}
+use Rattle.fblrun.specs.declared.Task.{Task}
 use Rattle.fblrun.specs.declared.Task.TheVariants.{Script, Dump, Merged}
 
 -- ---- what the parser of command lines is told
@@ -136,13 +138,37 @@ order_for (is_show_workers n allowed line) = record { task = Script (Show n); ex
 abbrev pub IsOrderOf : List Text → Order → Type 0
 IsOrderOf words order = (line : IsCommandLine words) → order ≡ order_for line
 
--- the text of the argument with this id, as the parser of command lines finds it in the words, if it is given
-abbrev pub given_in : Text → List Text → Option Text
-given_in id words = option_and_then (λ found. first_of id found.1) (subcommand_of program words)
+-- ---- what a subcommand's arguments say
 
--- the texts of an argument that may be given more than once, in their order
-abbrev pub all_given_in : Text → List Text → List Text
-all_given_in id words = unwrap_or (option_and_then (λ found. all_of id found.1) (subcommand_of program words)) []
+-- what a flag that is given or not has as its text
+abbrev pub flag_text : Bool → Text
+flag_text true = codes "true"
+flag_text false = codes "false"
+
+-- whether the flag of this name is given
+abbrev pub IsFlag : Text → List Row → Bool → Type 0
+IsFlag name rows flag = (given : Bool) → one_of name rows ≡ Some (flag_text given) → flag ≡ given
+
+-- the number of workers, where it has one digit
+abbrev pub AreWorkers : List Row → ℕ → Type 0
+AreWorkers rows workers = (n : ℕ) → n < 10 → one_of (codes "workers") rows ≡ Some (decimal n) → workers ≡ n
+
+-- the texts of an argument that may be given more than once
+abbrev pub texts_in : Text → List Row → List Text
+texts_in id rows = unwrap_or (all_of id rows) []
+
+-- the order is to do this, and to explain where that flag is given
+abbrev pub IsOrderTo : Task → List Row → Option Order → Type 0
+IsOrderTo task rows order = (explain : Bool) × IsFlag (codes "explain") rows explain × (order ≡ Some (record { task = task; explain = explain }))
+
+-- the order is that of a subcommand of this name with these arguments
+pub record IsOrderAt (name : Text) (rows : List Row) (order : Option Order) : Type 0 where
+  pub play : name ≡ codes "play" → (workers : ℕ) × AreWorkers rows workers × (strict : Bool) × IsFlag (codes "strict") rows strict × IsOrderTo (Script (Play workers strict)) rows order
+  pub show : name ≡ codes "show" → (workers : ℕ) × AreWorkers rows workers × IsOrderTo (Script (Show workers)) rows order
+  pub merge : name ≡ codes "merge" → IsOrderTo (Merged Write) rows order
+  pub audit : name ≡ codes "audit" → IsOrderTo (Dump Audit) rows order
+  pub check : name ≡ codes "check" → IsOrderTo (Dump Check) rows order
+  pub draw : name ≡ codes "draw" → IsOrderTo (Dump Draw) rows order
 
 -- a name that is given or not is this text
 abbrev pub Names : Option (Bor Text) → Option Text → Type 0
@@ -152,47 +178,44 @@ Names name text = option_map (λ s. s.now) name ≡ text
 abbrev pub AreNames : List (Bor Text) → List Text → Type 0
 AreNames names texts = map (λ s. s.now) names ≡ texts
 
--- the request has the order of the words, if they are one of these lines, in which no file is named; and the names of the files
--- are those that the words give
+-- the request is that of a subcommand of this name with these arguments, if there is one of this name
+abbrev pub IsRequestAt : Text → List Row → Option Request → Type 0
+IsRequestAt name rows None = IsOrderAt name rows None
+IsRequestAt name rows (Some request) =
+    IsOrderAt name rows (Some request.order) × AreNames request.inputs.items (texts_in (codes "input") rows) × Names request.output (first_of (codes "output") rows)
+
+-- ---- requests
+
+-- the request is that of the subcommand that the parser of command lines finds in the words, with its arguments; if the words are one
+-- of these lines, it has their order, and no file is named
 pub record IsRequestOf (words : List Text) (request : Request) : Type 0 where
+  pub name : Text
+  pub rows : List Row
+  pub found : subcommand_of program words ≡ Some (name, rows)
+  pub asked : IsRequestAt name rows (Some request)
   pub order : IsOrderOf words request.order
   pub none : IsCommandLine words → (request.inputs.items ≡ []) × (request.output ≡ None)
-  pub inputs : AreNames request.inputs.items (all_given_in (codes "input") words)
-  pub output : Names request.output (given_in (codes "output") words)
+
+-- ---- refusals
 
 -- why words are refused, if they are one of these lines: memory ran out
 abbrev pub IsRefusedFor : Misuse → Type 0
 IsRefusedFor (Words error) = kind_of error ≡ OutOfMemory
 IsRefusedFor NoCommand = ⊥
 
--- ---- what a subcommand's arguments say
+-- why words are refused: as the parser of command lines refuses them, or memory ran out
+abbrev pub IsMisuseOf : List Text → Misuse → Type 0
+IsMisuseOf words (Words error) = HasKind (fault_of program words) error
+IsMisuseOf words NoCommand = (name : Text) (rows : List Row) → subcommand_of program words ≡ Some (name, rows) → IsOrderAt name rows None
 
--- what a flag that is given or not has as its text
-abbrev pub flag_text : Bool → Text
-flag_text true = codes "true"
-flag_text false = codes "false"
+-- the exit status after what the parser of command lines tells: help and the version are asked for, and may fail to be printed
+abbrev pub EndsKind : ErrorKind → ℕ → Type 0
+EndsKind DisplayHelp status = (status ≡ 0) ⊎ (status ≡ 3)
+EndsKind DisplayVersion status = (status ≡ 0) ⊎ (status ≡ 3)
+EndsKind OutOfMemory status = status ≡ 4
+EndsKind kind status = status ≡ 2
 
--- a flag of this name was given, or not
-abbrev pub IsFlagged : Text → Bool → List Row → Type 0
-IsFlagged name given rows = one_of name rows ≡ Some (flag_text given)
-
--- the texts of an argument that may be given more than once
-abbrev pub texts_in : Text → List Row → List Text
-texts_in id rows = unwrap_or (all_of id rows) []
-
--- the order is that of a subcommand of this name with these arguments
-pub record IsOrderAt (name : Text) (rows : List Row) (order : Option Order) : Type 0 where
-  pub merge : (explain : Bool) → name ≡ codes "merge" → IsFlagged (codes "explain") explain rows → order ≡ Some (record { task = Merged Write; explain = explain })
-  pub audit : (explain : Bool) → name ≡ codes "audit" → IsFlagged (codes "explain") explain rows → order ≡ Some (record { task = Dump Audit; explain = explain })
-  pub check : (explain : Bool) → name ≡ codes "check" → IsFlagged (codes "explain") explain rows → order ≡ Some (record { task = Dump Check; explain = explain })
-  pub draw : (explain : Bool) → name ≡ codes "draw" → IsFlagged (codes "explain") explain rows → order ≡ Some (record { task = Dump Draw; explain = explain })
-  pub play : (strict explain : Bool) (n : ℕ) → n < 10 → name ≡ codes "play" → one_of (codes "workers") rows ≡ Some (decimal n)
-      → IsFlagged (codes "strict") strict rows → IsFlagged (codes "explain") explain rows → order ≡ Some (record { task = Script (Play n strict); explain = explain })
-  pub show : (explain : Bool) (n : ℕ) → n < 10 → name ≡ codes "show" → one_of (codes "workers") rows ≡ Some (decimal n)
-      → IsFlagged (codes "explain") explain rows → order ≡ Some (record { task = Script (Show n); explain = explain })
-
--- the request is that of a subcommand of this name with these arguments
-pub record IsRequestAt (name : Text) (rows : List Row) (request : Option Request) : Type 0 where
-  pub order : IsOrderAt name rows (option_map (λ r. r.order) request)
-  pub inputs : (r : Request) → request ≡ Some r → AreNames r.inputs.items (texts_in (codes "input") rows)
-  pub output : (r : Request) → request ≡ Some r → Names r.output (first_of (codes "output") rows)
+-- the exit status where words are refused
+abbrev pub EndsMisuse : Misuse → ℕ → Type 0
+EndsMisuse (Words error) status = EndsKind (kind_of error) status
+EndsMisuse NoCommand status = status ≡ 2

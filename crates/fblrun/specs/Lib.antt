@@ -2,3 +2,4 @@ pub mod Statuses
 pub mod Merging
 pub mod Orders
 pub mod CommandLines
+pub mod Requests

@@ -1,5 +1,5 @@
 -- What comes of several dumps, or of several logs: one of all their events, in an order.
-use Rattle.std.specs.Prelude.{◌≡◌, ℕ, List}
+use Rattle.std.specs.Prelude.{◌≡◌, ℕ, ◌<◌, Bool, false, true, not, List, ◌∷◌, ◌++◌, length, map}
 use Rattle.fbl_dumps.specs.declared.raw_dump.RawDump.{RawDump}
 use Rattle.fbl_dumps.specs.declared.refusal.DumpRefusal.TheVariants as dump
 use Rattle.fbl_trace.specs.declared.trace.Mark.{Mark}
@@ -18,9 +18,41 @@ use Rattle.fbl_logs.specs.Logs.{IsLog, LogParts}
 use Rattle.fbl_logs.specs.declared.log.EntryOrigin.{EntryOrigin}
 use Rattle.fbl_logs.specs.declared.log.RawLog.{RawLog}
 use Rattle.fbl_log_order.specs.declared.fault.LogOrderFault.TheVariants as log_orders
+use Rattle.fbl_texts.specs.declared.recorded.Recorded.{Recorded}
+use Rattle.fbl_texts.specs.declared.recorded.Recorded.TheVariants as raws
 use Rattle.fblrun.specs.declared.merging.MergeFault.{MergeFault}
 use Rattle.fblrun.specs.declared.merging.MergeFault.TheVariants as faults
 use Rattle.fblrun.specs.declared.merging.MergedLog.{MergedLog}
+use Rattle.fblrun.specs.declared.merging.Together.{Together}
+use Rattle.fblrun.specs.declared.merging.Together.TheVariants.{Dumps, Logs}
+
+-- what was found are these dumps, or these logs, of which there is one, in their order
+abbrev pub AreTogether : List Recorded → Together → Type 0
+AreTogether found (Dumps dumps) = found ≡ map raws.Dump dumps.items
+AreTogether found (Logs logs) = (0 < length logs.items) × (found ≡ map raws.Log logs.items)
+
+-- whether it is a log
+abbrev pub is_log : Recorded → Bool
+is_log (raws.Dump raw) = false
+is_log (raws.Log raw) = true
+
+-- the one with this number is the first of another version: it is a log, and those before it are dumps, or the reverse
+pub record IsOtherVersion (found : List Recorded) (log : Bool) (part : ℕ) : Type 0 where
+  pub before : List Recorded
+  pub other : Recorded
+  pub is : is_log other ≡ log
+  pub rest : List Recorded
+  pub found_is : found ≡ before ++ other ∷ rest
+  pub some : 0 < part
+  pub place : length before ≡ part
+  pub differ : map is_log before ≡ map (λ _. not log) before
+
+-- they have two versions; or memory ran out
+abbrev pub RefusesVersions : List Recorded → MergeFault → Type 0
+RefusesVersions found (faults.LogAmongDumps part) = IsOtherVersion found true part
+RefusesVersions found (faults.DumpAmongLogs part) = IsOtherVersion found false part
+RefusesVersions found (faults.Parts parts.Memory) = Unit {0}
+RefusesVersions found fault = ⊥
 
 -- the dump is the whole, but for its events, which stand in an order; where they obeyed the rules, they stand as they did; and in
 -- whichever order they stand, an audit and a check answer the same

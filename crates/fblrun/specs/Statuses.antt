@@ -1,5 +1,5 @@
 -- The exit statuses of the program.
-use Rattle.std.specs.Prelude.{ℕ, Bool, true, false, Result, Ok, Err}
+use Rattle.std.specs.Prelude.{◌≡◌, ◌≤◌, ◌⊎◌, ℕ, Bool, true, false, Result, Ok, Err}
 use Rattle.fbl_input.specs.declared.fault.RunFault.{RunFault}
 use Rattle.fbl_input.specs.declared.fault.RunFault.TheVariants as faults
 
@@ -15,3 +15,11 @@ abbrev pub status_after : Result Bool RunFault → ℕ
 status_after (Ok true) = 0
 status_after (Ok false) = 1
 status_after (Err e) = fault_status e
+
+-- a file could not be opened, read or written, or memory ran out
+abbrev pub IsChannelStatus : ℕ → Type 0
+IsChannelStatus status = (status ≡ 3) ⊎ (status ≡ 4)
+
+-- the status of the work stands, but where all was written, which the file may then fail to keep
+abbrev pub IsSettled : ℕ → ℕ → Type 0
+IsSettled given status = (status ≡ given) ⊎ ((given ≤ 1) × IsChannelStatus status)

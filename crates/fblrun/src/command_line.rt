@@ -1,9 +1,9 @@
 //! The command line.
 
-ghost use Rattle.std.specs.Prelude.{◌≡◌, ℕ, ◌<◌, Bool, map, false, Some, IfOk, IfErr, codes, decimal, option_map, string_bytes};
-ghost use Rattle.clap.specs.Words.{Rule, app_of, first_of, found_of, new_app, one_of, rows_of, rule_of, with_rule};
+ghost use Rattle.std.specs.Prelude.{◌≡◌, map, false, IfOk, IfErr, option_map, string_bytes};
+ghost use Rattle.clap.specs.Words.{app_of, first_of, found_of, new_app, rows_of, rule_of, with_rule};
 ghost use Rattle.clap.specs.declared.builder.command.Command.TheViews.{out-Command as fields_of};
-ghost use Rattle.fblrun.specs.CommandLines.{AreNames, IsCommandLine, IsFlagged, IsOrderAt, IsRefusedFor, IsRequestAt, IsRequestOf, explain_rule, input_rule, inputs_rule, output_rule, play_app, program, show_app, strict_rule, texts_in, top_app, with_players, with_reader, with_shared, workers_rule};
+ghost use Rattle.fblrun.specs.CommandLines.{AreNames, AreWorkers, IsCommandLine, IsFlag, IsMisuseOf, IsOrderAt, IsRefusedFor, IsRequestAt, IsRequestOf, explain_rule, input_rule, inputs_rule, output_rule, play_app, program, show_app, strict_rule, texts_in, top_app, with_players, with_reader, with_shared, workers_rule};
 
 use crate::{DumpTask, Order, ScriptTask, Task};
 use clap::{Arg, ArgAction, ArgMatches, Command};
@@ -326,14 +326,14 @@ fn command_line<'a>(alloc: Global) -> Result<Command<'a>, AllocError>
 
 /// How many workers are asked for.
 fn workers_in(found: &ArgMatches) -> u8
-    ensures { (n : ℕ) → n < 10 → one_of (codes "workers") (rows_of (found_of found.now)) ≡ Some (decimal n) → result ≡ n }
+    ensures { AreWorkers (rows_of (found_of found.now)) result }
 {
     found.get_one::<u8>("workers").unwrap_or(2)
 }
 
 /// Whether the flag of this name is given.
 fn flag_in(found: &ArgMatches, name: &str) -> bool
-    ensures { (given : Bool) → IsFlagged name.now given (rows_of (found_of found.now)) → result ≡ given }
+    ensures { IsFlag name.now (rows_of (found_of found.now)) result }
 {
     found.get_flag(name)
 }
@@ -402,6 +402,7 @@ fn request_at<'a>(
 pub(crate) fn request_of(alloc: Global, words: &[String]) -> Result<Request<'_>, Misuse>
     ensures given { IfOk result (IsRequestOf (map string_bytes words.now)) }
     ensures refused { IfErr result (λ e. IsCommandLine (map string_bytes words.now) → IsRefusedFor e) }
+    ensures misuse { IfErr result (IsMisuseOf (map string_bytes words.now)) }
 {
     let command = command_line(alloc)?;
     let matches = command.try_get_matches_from(words)?;

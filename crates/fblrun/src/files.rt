@@ -1,38 +1,70 @@
 //! Files by name: those that are read, and the one that is written. The last gets a whole text or stays as it was: the
 //! text goes to a new file beside it, which takes its name once the text is whole.
+//!
+//! No contract says what a file has, or what the system does with one. So no more is done here than to open, to read and to
+//! write, and to settle.
 
-ghost use Rattle.std.specs.Prelude.{◌≡◌, ◌<◌};
+ghost use Rattle.std.specs.Prelude.{IfErr};
+ghost use Rattle.fblrun.specs.Statuses.{IsChannelStatus, IsSettled};
 
-use crate::command_line::Request;
-use crate::doing::{end_merged, end_merged_logs, obey};
-use crate::merging::{Parts, Together, in_one_version};
-use crate::streams::{Failure, Named};
-use crate::telling::{refuse_input, refuse_merge};
-use crate::{DumpTask, INPUT_FAULT, NOT_WELL, Order, Task, fail};
+use crate::streams::{Failure, Named, Streams};
+use crate::{NOT_WELL, fail};
 use fbl_input::RunFault;
-use fbl_texts::{Recorded, read_recorded};
 use std::alloc::Global;
 use std::fs::{self, File, OpenFile, OpenOptions};
-use std::io::{self, ErrorKind, Read, Write};
+use std::io::{self, ErrorKind, Input, Printer, Read, Write};
 use std::rt::Files;
-use std::sync::Wait;
-use std::thread::Threads;
 
 /// How many names are tried for the file beside one that is written.
 const NAMES: u32 = 100;
 
+/// What an input is read from.
+#[derive(Drop)]
+pub(crate) enum Source<F, I> {
+    File(F),
+    Standard(I),
+}
+
+impl<F: Read, I: Read> Read for Source<F, I> {
+    fn read(&mut self, buf: &mut [u8]) -> io::Result<usize> {
+        match self {
+            Source::File(file) => file.read(buf),
+            Source::Standard(input) => input.read(buf),
+        }
+    }
+}
+
 /// What a text is written to.
 #[derive(Drop)]
-enum Target<F> {
+pub(crate) enum Target<F, P> {
+    Standard(P),
     /// What has the name is no file that can be replaced, as a terminal or a pipe: it is written itself.
     Itself(F),
     /// A new file, beside the one with the name.
     Beside(Beside<F>),
 }
 
+impl<F: Write, P: Write> Write for Target<F, P> {
+    fn write(&mut self, buf: &[u8]) -> io::Result<usize> {
+        match self {
+            Target::Standard(output) => output.write(buf),
+            Target::Itself(file) => file.write(buf),
+            Target::Beside(beside) => beside.file.write(buf),
+        }
+    }
+
+    fn flush(&mut self) -> io::Result<()> {
+        match self {
+            Target::Standard(output) => output.flush(),
+            Target::Itself(file) => file.flush(),
+            Target::Beside(beside) => beside.file.flush(),
+        }
+    }
+}
+
 /// A new file that takes the place of another.
 #[derive(Drop)]
-struct Beside<F> {
+pub(crate) struct Beside<F> {
     file: F,
     /// Its own name.
     own: String,
@@ -40,16 +72,23 @@ struct Beside<F> {
     place: String,
 }
 
-/// The name of a file that is no standard stream, if one is given: `-` stands for standard input and output.
-fn file_name(name: Option<&str>) -> Option<&str> {
-    name.filter(|name| *name != "-")
+/// The name of a file that is no standard stream: `-` stands for standard input and output.
+fn file_name(name: &str) -> Option<&str> {
+    if name == "-" { None } else { Some(name) }
 }
 
 /// Prints that a call on the file failed, and answers the exit status of that: lack of memory has its own.
-fn fail_on<R: Eprint>(rt: &R, fault: RunFault, name: &str, error: io::Error) -> u8 {
+fn fail_on<R: Eprint>(rt: &R, name: &str, error: io::Error, is_read: bool) -> u8
+    ensures { IsChannelStatus result }
+{
     if error.kind() == ErrorKind::OutOfMemory {
         return fail(rt, RunFault::Memory, None);
     }
+    let fault = if is_read {
+        RunFault::Read
+    } else {
+        RunFault::Write
+    };
     let failure = Failure {
         name,
         error: Some(error),
@@ -80,12 +119,12 @@ fn open_beside<R: Files>(rt: &R, alloc: Global, place: &str) -> io::Result<Besid
 
 /// A new file beside the old one that is open, with its permissions where the system allows it; or the old one itself, where it is
 /// no file that can be replaced. Links to the old one lead to the new one then.
-fn target_beside<R: Files>(
+fn target_beside<R: Files, P>(
     rt: &R,
     alloc: Global,
     name: &str,
     old: R::File,
-) -> io::Result<Target<R::File>> {
+) -> io::Result<Target<R::File, P>> {
     let metadata = OpenFile::metadata(&old)?;
     if !metadata.is_file() {
         return Ok(Target::Itself(old));
@@ -97,7 +136,7 @@ fn target_beside<R: Files>(
 }
 
 /// What a text for the file with this name is written to. Where there is such a file it has to be one that may be written.
-fn target_of<R: Files>(rt: &R, alloc: Global, name: &str) -> io::Result<Target<R::File>> {
+fn target_of<R: Files, P>(rt: &R, alloc: Global, name: &str) -> io::Result<Target<R::File, P>> {
     match OpenOptions::new().write(true).open(rt, name) {
         Ok(old) => target_beside(rt, alloc, name, old),
         Err(error) => {
@@ -118,8 +157,8 @@ fn replace<R: Files>(rt: &R, file: R::File, own: &str, place: &str) -> io::Resul
 
 /// Gives the new file its place where the status is that of a whole text, and else takes it away; so it does where that fails.
 /// Answers the exit status.
-fn settle<T: Eprint + Files>(rt: &T, beside: Beside<T::File>, name: &str, status: u8) -> u8
-    ensures { 1 < status → result ≡ status }
+fn place<T: Eprint + Files>(rt: &T, beside: Beside<T::File>, name: &str, status: u8) -> u8
+    ensures { IsSettled status result }
 {
     let Beside { file, own, place } = beside;
     if status > NOT_WELL {
@@ -131,212 +170,58 @@ fn settle<T: Eprint + Files>(rt: &T, beside: Beside<T::File>, name: &str, status
         Ok(()) => status,
         Err(error) => {
             let _ = fs::remove_file(rt, own.as_str());
-            fail_on(rt, RunFault::Write, name, error)
+            fail_on(rt, name, error, false)
         }
     }
 }
 
-/// What is left to do once it is known where the text goes.
+/// The files of the system, with its standard streams.
 #[derive(Drop)]
-enum Work<'a, R> {
-    /// To obey the order over what a reader has.
-    Reader(Order, Named<'a, R>),
-    /// To do this with what several files record together.
-    Merge(Merge<'a>),
+pub(crate) struct SystemStreams<'r, T> {
+    pub(crate) rt: &'r T,
+    pub(crate) alloc: Global,
 }
 
-/// What is to be done with what several files record together.
-#[derive(Drop)]
-struct Merge<'a> {
-    task: DumpTask,
-    explain: bool,
-    files: Together,
-    names: &'a [&'a str],
-}
+impl<'r, T: Eprint + Print + Input + Files> Streams for SystemStreams<'r, T> {
+    ghost use Rattle.std.specs.Prelude.{⊤, None};
 
-/// Merges the dumps or the logs, writes the text, and answers the exit status.
-fn end_merge<T, W>(rt: &T, alloc: Global, merge: &Merge<'_>, writer: &mut Named<'_, W>) -> u8
-where
-    T: Eprint,
-    W: Write,
-{
-    let (task, explain, names) = (merge.task, merge.explain, merge.names);
-    match &merge.files {
-        Together::Dumps(dumps) if !dumps.is_empty() => {
-            end_merged(rt, alloc, task, explain, dumps.as_slice(), names, writer)
-        }
-        Together::Logs(logs) if !logs.is_empty() => {
-            end_merged_logs(rt, alloc, task, explain, logs.as_slice(), names, writer)
-        }
-        _ => INPUT_FAULT,
-    }
-}
+    type Reader = Source<T::File, <T as Input>::Reader>;
 
-/// Does the work, writes the text, and answers the exit status.
-fn end_work<T, R, W>(rt: &T, alloc: Global, work: Work<'_, R>, writer: &mut Named<'_, W>) -> u8
-where
-    T: Eprint + Threads + Wait + Sync,
-    R: Read + Drop,
-    W: Write,
-{
-    match work {
-        Work::Reader(order, reader) => {
-            let mut reader = reader;
-            obey(rt, alloc, order, &mut reader, writer)
-        }
-        Work::Merge(merge) => end_merge(rt, alloc, &merge, writer),
-    }
-}
+    type Writer = Target<T::File, Printer<'r, T>>;
 
-/// Does the work, and writes the text into the file with this name.
-fn end_into<T, R>(rt: &T, alloc: Global, name: &str, work: Work<'_, R>) -> u8
-where
-    T: Eprint + Files + Threads + Wait + Sync,
-    R: Read + Drop,
-{
-    match target_of(rt, alloc, name) {
-        Ok(Target::Itself(file)) => {
-            let mut writer = Named::new(file, Some(name));
-            end_work(rt, alloc, work, &mut writer)
-        }
-        Ok(Target::Beside(beside)) => {
-            let Beside { file, own, place } = beside;
-            let mut writer = Named::new(file, Some(name));
-            let status = end_work(rt, alloc, work, &mut writer);
-            let file = writer.stream;
-            settle(rt, Beside { file, own, place }, name, status)
-        }
-        Err(error) => fail_on(rt, RunFault::Write, name, error),
-    }
-}
+    // nothing is known of them
+    ghost input = { λ _ _. None };
 
-/// Does the work, and writes the text where it is to go.
-fn end_at<T, R>(rt: &T, alloc: Global, output: Option<&str>, work: Work<'_, R>) -> u8
-where
-    T: Eprint + Print + Files + Threads + Wait + Sync,
-    R: Read + Drop,
-{
-    match file_name(output) {
-        Some(name) => end_into(rt, alloc, name, work),
-        None => {
-            let mut writer = Named::new(io::writer(rt), None);
-            end_work(rt, alloc, work, &mut writer)
-        }
-    }
-}
+    ghost output = { λ _ _. None };
 
-/// Does what is asked for over one input. Where it can't be opened, nothing is done with what is written.
-fn obey_one<T>(rt: &T, alloc: Global, request: &Request<'_>, name: Option<&str>) -> u8
-where
-    T: Eprint + Print + Input + Files + Threads + Wait + Sync,
-{
-    let order = request.order;
-    let path = file_name(name);
-    match path {
-        Some(name) => match File::open(rt, name) {
-            Ok(file) => {
-                let reader = Named::new(file, Some(name));
-                end_at(rt, alloc, request.output, Work::Reader(order, reader))
-            }
-            Err(error) => fail_on(rt, RunFault::Read, name, error),
-        },
-        None => {
-            let reader = Named::new(rt.reader(), path);
-            end_at(rt, alloc, request.output, Work::Reader(order, reader))
-        }
-    }
-}
+    ghost settled = { λ _ _ _ _ _. ⊤ };
 
-/// What the reader has of a run, its rules not yet checked, where it is one of several files, with this name; or the exit status of its
-/// fault, which is told.
-fn recorded_of<T: Eprint, R: Read>(
-    rt: &T,
-    alloc: Global,
-    explain: bool,
-    name: &str,
-    reader: &mut Named<'_, R>,
-) -> Result<Recorded, u8> {
-    match read_recorded(alloc, reader) {
-        Ok(found) => Ok(found.recorded),
-        Err(fault) => {
-            Err(refuse_input(rt, alloc, explain, &fault, reader.failure(), Some(name)))
+    fn reader<'a>(&self, name: &'a str) -> Result<Named<'a, Self::Reader>, u8> {
+        let Some(path) = file_name(name) else {
+            return Ok(Named::new(Source::Standard(self.rt.reader()), None));
+        };
+        match File::open(self.rt, path) {
+            Ok(file) => Ok(Named::new(Source::File(file), Some(path))),
+            Err(error) => Err(fail_on(self.rt, path, error, true)),
         }
     }
-}
 
-/// The same of the file with this name, or of standard input.
-fn recorded_at<T>(rt: &T, alloc: Global, explain: bool, name: &str) -> Result<Recorded, u8>
-where
-    T: Eprint + Input + Files,
-{
-    match file_name(Some(name)) {
-        Some(path) => match File::open(rt, path) {
-            Ok(file) => {
-                let mut reader = Named::new(file, Some(path));
-                recorded_of(rt, alloc, explain, name, &mut reader)
-            }
-            Err(error) => Err(fail_on(rt, RunFault::Read, path, error)),
-        },
-        None => {
-            let mut reader = Named::new(rt.reader(), None);
-            recorded_of(rt, alloc, explain, name, &mut reader)
+    fn writer<'a>(&self, name: &'a str) -> Result<Named<'a, Self::Writer>, u8> {
+        let Some(path) = file_name(name) else {
+            return Ok(Named::new(Target::Standard(io::writer(self.rt)), None));
+        };
+        match target_of(self.rt, self.alloc, path) {
+            Ok(target) => Ok(Named::new(target, Some(path))),
+            Err(error) => Err(fail_on(self.rt, path, error, false)),
         }
     }
-}
 
-/// What the files with these names record, in their order, all in one version, or the exit status of the first fault.
-fn files_at<T>(rt: &T, alloc: Global, explain: bool, names: &[&str]) -> Result<Together, u8>
-where
-    T: Eprint + Input + Files,
-{
-    let mut files = Vec::new(alloc);
-    for name in names {
-        let recorded = recorded_at(rt, alloc, explain, name)?;
-        if files.push(recorded).is_err() {
-            return Err(fail(rt, RunFault::Memory, None));
+    fn settle(&self, name: &str, writer: Named<'_, Self::Writer>, status: u8) -> u8
+        ensures { IsSettled status result }
+    {
+        match writer.stream {
+            Target::Beside(beside) => place(self.rt, beside, name, status),
+            Target::Standard(_) | Target::Itself(_) => status,
         }
-    }
-    match in_one_version(alloc, files) {
-        Ok(files) => Ok(files),
-        Err(fault) => Err(refuse_merge(rt, explain, &fault, Ok(Parts::named(alloc, names)))),
-    }
-}
-
-/// Does this with what several files record together. They are read before anything is done with what is written.
-fn obey_several<T>(rt: &T, alloc: Global, request: &Request<'_>, task: DumpTask) -> u8
-where
-    T: Eprint + Print + Input + Files + Threads + Wait + Sync,
-{
-    let names = request.inputs.as_slice();
-    if names.iter().filter(|name| **name == "-").count() > 1 {
-        let _ = eprintln!(rt; "error: standard input can be read once, and - is named again");
-        return INPUT_FAULT;
-    }
-    let explain = request.order.explain;
-    match files_at(rt, alloc, explain, names) {
-        Ok(files) => {
-            let work: Work<'_, T::File> = Work::Merge(Merge {
-                task,
-                explain,
-                files,
-                names,
-            });
-            end_at(rt, alloc, request.output, work)
-        }
-        Err(status) => status,
-    }
-}
-
-/// Does what is asked for, from the files that are read to the one that is written, and answers the exit status.
-pub(crate) fn obey_request<T>(rt: &T, alloc: Global, request: &Request<'_>) -> u8
-where
-    T: Eprint + Print + Input + Files + Threads + Wait + Sync,
-{
-    match (request.order.task, request.inputs.as_slice()) {
-        (Task::Dump(task) | Task::Merged(task), [_, _, ..]) => {
-            obey_several(rt, alloc, request, task)
-        }
-        (_, [name, ..]) => obey_one(rt, alloc, request, Some(*name)),
-        (_, []) => obey_one(rt, alloc, request, None),
     }
 }

@@ -1,25 +1,32 @@
 //! Plays or shows a script, or merges, audits, checks or draws dumps, that are in files or come from standard input.
 #![tactic(auto)]
 
-ghost use Rattle.std.specs.Prelude.{◌≡◌};
+ghost use Rattle.std.specs.Prelude.{◌≡◌, ◌⊎◌, IfErr, IfOk, map, string_bytes};
 ghost use Rattle.fbl_input.specs.Faults.{run_result};
+ghost use Rattle.fblrun.specs.CommandLines.{EndsMisuse};
+ghost use Rattle.fblrun.specs.Requests.{EndsWords};
 ghost use Rattle.fblrun.specs.Statuses.{status_after, fault_status};
 
 mod command_line;
 mod doing;
 mod files;
 mod merging;
+mod requests;
 mod streams;
 mod telling;
 
 use clap::error::ErrorKind;
 use command_line::{Misuse, request_of};
 use fbl_input::{OutputFault, RunFault};
-use files::obey_request;
+use files::SystemStreams;
+use requests::obey_request;
+use std::alloc::Global;
 use std::io::IsTerminal;
 use std::process::ExitCode;
+use std::sync::Wait;
+use std::thread::Threads;
 use std::{env, io};
-use streams::Failure;
+use streams::{Failure, Streams};
 use telling::FaultLine;
 
 /// Everything was done, and all is well.
@@ -97,7 +104,9 @@ fn status_of(fault: &RunFault) -> u8
 }
 
 /// Prints why the words of the command line are refused, or the help or version that they ask for, and answers the exit status.
-fn refuse<R: Print + Eprint>(rt: &R, misuse: Misuse) -> u8 {
+fn refuse<R: Print + Eprint>(rt: &R, misuse: Misuse) -> u8
+    ensures { EndsMisuse misuse result }
+{
     let error = match misuse {
         Misuse::Words(error) => error,
         Misuse::NoCommand => {
@@ -105,21 +114,27 @@ fn refuse<R: Print + Eprint>(rt: &R, misuse: Misuse) -> u8 {
             return INPUT_FAULT;
         }
     };
-    if error.kind() == ErrorKind::OutOfMemory {
-        return fail(rt, RunFault::Memory, None);
-    }
-    let printed = error.print(rt);
     match error.kind() {
+        ErrorKind::OutOfMemory => fail(rt, RunFault::Memory, None),
         ErrorKind::DisplayHelp | ErrorKind::DisplayVersion => {
-            if printed.is_ok() { DONE } else { CHANNEL_FAULT }
+            if error.print(rt).is_ok() {
+                DONE
+            } else {
+                CHANNEL_FAULT
+            }
         }
-        _ => INPUT_FAULT,
+        _ => {
+            let _ = error.print(rt);
+            INPUT_FAULT
+        }
     }
 }
 
 /// The words of the process, or the exit status where they can't be had: memory runs out, or they are not UTF-8, which is a fault
 /// of the command line.
-fn words_of(rt: &HostRuntime) -> Result<Vec<String>, u8> {
+fn words_of(rt: &HostRuntime) -> Result<Vec<String>, u8>
+    ensures { IfErr result (λ status. (status ≡ 2) ⊎ (status ≡ 4)) }
+{
     let words = match env::args(rt) {
         Ok(words) => words,
         Err(error) => {
@@ -159,25 +174,43 @@ fn end<R: Eprint>(rt: &R, done: Result<bool, OutputFault>, file: Option<Failure<
 
 /// Names `--explain` where a fault line has been written to a terminal, and would be explained with it: where the status is that
 /// of a fault of the input.
-fn name_explain(rt: &HostRuntime, order: Order, status: u8) {
-    if status == INPUT_FAULT && !order.explain && rt.stderr().is_terminal() {
+fn name_explain<R: Eprint>(rt: &R, order: Order, is_terminal: bool, status: u8) {
+    if status == INPUT_FAULT && !order.explain && is_terminal {
         let _ = eprintln!(rt;
             "with --explain behind the command, what stands there and what is wanted is told too"
         );
     }
 }
 
-fn main(rt: HostRuntime) -> ExitCode {
-    let words = match words_of(&rt) {
+/// Does what the words ask for, or prints why they are refused, and answers the exit status; so it answers that of words that
+/// can't be had. Is told whether standard error is a terminal.
+fn run<T: Print + Eprint + Threads + Wait + Sync, S: Streams>(
+    rt: &T,
+    alloc: Global,
+    streams: &S,
+    is_terminal: bool,
+    words: Result<Vec<String>, u8>,
+) -> u8
+    ensures done { IfOk words (λ words. EndsWords (S.input streams.now) (S.output streams.now) (S.settled streams.now) (map string_bytes words.items) result) }
+    ensures unread { IfErr words (λ status. result ≡ status) }
+{
+    let words = match words {
         Ok(words) => words,
-        Err(status) => return ExitCode::from(status),
+        Err(status) => return status,
     };
-    match request_of(rt.alloc(), words.as_slice()) {
+    match request_of(alloc, words.as_slice()) {
         Ok(request) => {
-            let status = obey_request(&rt, rt.alloc(), &request);
-            name_explain(&rt, request.order, status);
-            ExitCode::from(status)
+            let status = obey_request(rt, alloc, streams, &request);
+            name_explain(rt, request.order, is_terminal, status);
+            status
         }
-        Err(misuse) => ExitCode::from(refuse(&rt, misuse)),
+        Err(misuse) => refuse(rt, misuse),
     }
+}
+
+fn main(rt: HostRuntime) -> ExitCode {
+    let alloc = rt.alloc();
+    let streams = SystemStreams { rt: &rt, alloc };
+    let is_terminal = rt.stderr().is_terminal();
+    ExitCode::from(run(&rt, alloc, &streams, is_terminal, words_of(&rt)))
 }

@@ -1,8 +1,9 @@
 //! What several files record of a run, as one: what they have together, with the events in an order that obeys the rules.
 
-ghost use Rattle.std.specs.Prelude.{◌≡◌, ◌<◌, IfErr, IfOk, length};
+ghost use Rattle.std.specs.Prelude.{◌≡◌, ◌<◌, IfErr, IfOk, List, [], ◌∷◌, ◌++◌, length};
 ghost use Rattle.fbl_logs.specs.Logs.{parts_of_log};
-ghost use Rattle.fblrun.specs.Merging.{IsLogMergeOf, IsMergeOf, IsOrderedFrom, RefusesLogMerge, RefusesMerge, RefusesOrder, merge_status};
+ghost use Rattle.fbl_texts.specs.declared.recorded.Recorded.{Recorded};
+ghost use Rattle.fblrun.specs.Merging.{AreTogether, IsLogMergeOf, IsMergeOf, IsOrderedFrom, RefusesLogMerge, RefusesMerge, RefusesOrder, RefusesVersions, merge_status};
 
 use crate::{INPUT_FAULT, MEMORY_FAULT};
 use fbl_dumps::{Dump, DumpRefusal, RawDump};
@@ -137,31 +138,48 @@ pub(crate) enum Together {
     Logs(Vec<RawLog>),
 }
 
-/// What these files record, where they are of one version.
-pub(crate) fn in_one_version(alloc: Global, files: Vec<Recorded>) -> Result<Together, MergeFault> {
-    let mut dumps = Vec::new(alloc);
-    let mut logs = Vec::new(alloc);
-    for (part, recorded) in files.into_iter().enumerate() {
-        match recorded {
-            Recorded::Dump(raw) => {
-                if !logs.is_empty() {
-                    return Err(MergeFault::DumpAmongLogs(part));
-                }
+impl Together {
+    /// These and the next one, where it is of their version.
+    fn with(self, alloc: Global, next: Recorded) -> Result<Together, MergeFault>
+        ensures together { (found : List Recorded) → AreTogether found self → IfOk result (AreTogether (found ++ next ∷ [])) }
+        ensures refused { (found rest : List Recorded) → AreTogether found self → IfErr result (RefusesVersions (found ++ next ∷ rest)) }
+    {
+        match (self, next) {
+            (Together::Dumps(dumps), Recorded::Dump(raw)) => {
+                let mut dumps = dumps;
                 dumps.push(raw)?;
+                Ok(Together::Dumps(dumps))
             }
-            Recorded::Log(raw) => {
-                if !dumps.is_empty() {
-                    return Err(MergeFault::LogAmongDumps(part));
-                }
+            (Together::Logs(logs), Recorded::Log(raw)) => {
+                let mut logs = logs;
                 logs.push(raw)?;
+                Ok(Together::Logs(logs))
+            }
+            (Together::Dumps(dumps), Recorded::Log(raw)) => {
+                if !dumps.is_empty() {
+                    return Err(MergeFault::LogAmongDumps(dumps.len()));
+                }
+                let mut logs = Vec::new(alloc);
+                logs.push(raw)?;
+                Ok(Together::Logs(logs))
+            }
+            (Together::Logs(logs), Recorded::Dump(_)) => {
+                Err(MergeFault::DumpAmongLogs(logs.len()))
             }
         }
     }
-    if logs.is_empty() {
-        Ok(Together::Dumps(dumps))
-    } else {
-        Ok(Together::Logs(logs))
+}
+
+/// What these files record, where they are of one version.
+pub(crate) fn in_one_version(alloc: Global, files: Vec<Recorded>) -> Result<Together, MergeFault>
+    ensures together { IfOk result (AreTogether files.items) }
+    ensures refused { IfErr result (RefusesVersions files.items) }
+{
+    let mut together = Together::Dumps(Vec::new(alloc));
+    for recorded in files {
+        together = together.with(alloc, recorded)?;
     }
+    Ok(together)
 }
 
 /// The dump of all parts together, its events in an order in which each member's own stand as the parts have them, one part's

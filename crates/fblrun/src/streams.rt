@@ -2,6 +2,46 @@
 
 use std::io::{self, Read, Write};
 
+/// What is read and written by name. `-` names standard input and output.
+///
+/// No contract says what a file has. `input` and `output` say what a value of this type knows of a file's bytes, as a reader or a
+/// writer says what it knows of its own; `settled` says what came of a file that was written. A program that knows no more of them
+/// can have the bytes of a file only by a call of `reader`, and an end of what it wrote only by a call of `settle`.
+pub(crate) trait Streams {
+    ghost use Rattle.std.specs.Prelude.{◌≡◌, ℕ, List, Option, IfErr, IfOk};
+    ghost use Rattle.fblrun.specs.Statuses.{IsChannelStatus, IsSettled};
+
+    type Reader: Read + Drop;
+
+    type Writer: Write;
+
+    // what the file with a name has
+    ghost input: { Self → List ℕ → Option (List ℕ) };
+
+    // what a writer of the file with a name has before it is written
+    ghost output: { Self → List ℕ → Option (List ℕ) };
+
+    // what comes of the file with a name where its writer has this and the work ended with this exit status, with the exit status
+    // that is answered for both
+    ghost settled: { Self → List ℕ → Option (List ℕ) → ℕ → ℕ → Type 0 };
+
+    /// A reader of the file with this name. Where there is none that is told, and this is the exit status.
+    fn reader<'a>(&self, name: &'a str) -> Result<Named<'a, Self::Reader>, u8>
+        ensures opened { IfOk result (λ r. Self.Reader.remaining r.stream ≡ input self.now name.now) }
+        ensures refused { IfErr result IsChannelStatus };
+
+    /// A writer of the file with this name. Where there is none that is told, and this is the exit status.
+    fn writer<'a>(&self, name: &'a str) -> Result<Named<'a, Self::Writer>, u8>
+        ensures opened { IfOk result (λ w. Self.Writer.contents w.stream ≡ output self.now name.now) }
+        ensures refused { IfErr result IsChannelStatus };
+
+    /// Ends the writing of the file with this name, where this is the exit status of the work. A failure is told. Answers the exit
+    /// status.
+    fn settle(&self, name: &str, writer: Named<'_, Self::Writer>, status: u8) -> u8
+        ensures left { settled self.now name.now (Self.Writer.contents writer.entry.stream) status result }
+        ensures status { IsSettled status result };
+}
+
 /// A stream, which is a file with a name or is standard input or output. It keeps why a call failed, for the line of the fault.
 #[derive(Drop)]
 pub(crate) struct Named<'a, S> {

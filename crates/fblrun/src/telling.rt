@@ -1,6 +1,6 @@
 //! What is told on standard error, where the command line asks for explanations, beside the fault line.
 
-ghost use Rattle.std.specs.Prelude.{◌≡◌, ◌⊎◌, false};
+ghost use Rattle.std.specs.Prelude.{◌≡◌, IfErr, IfOk, false};
 ghost use Rattle.fbl_input.specs.Misfits.{run_fault};
 ghost use Rattle.fblrun.specs.Merging.{merge_status};
 ghost use Rattle.fblrun.specs.Statuses.{fault_status};
@@ -205,7 +205,8 @@ pub(crate) fn refuse_merge<'a, R: Eprint>(
     fault: &'a MergeFault,
     parts: Result<Parts<'a>, AllocError>,
 ) -> u8
-    ensures { (result ≡ merge_status fault.now) ⊎ (result ≡ 4) }
+    ensures told { IfOk parts.entry (λ _. result ≡ merge_status fault.now) }
+    ensures untold { IfErr parts.entry (λ _. result ≡ 4) }
 {
     let Ok(parts) = parts else {
         return fail(rt, RunFault::Memory, None);

@@ -1,11 +1,16 @@
-use Rattle.fblrun.proofs.Common.{map, string_bytes}
-use Rattle.fblrun.proofs.Lines.{no_request, refused, request_is, taken}
+use Rattle.fblrun.proofs.Common.{map, string_bytes, sym}
+use Rattle.fblrun.proofs.Lines.{misused, no_order, no_request, none_found, refused, request_is, taken}
 use Rattle.fblrun.proofs.command_line.request_of.Goals as goal
 
 pub returns-in_err-matches-clause-refused : goal.returns-in_err-matches-clause-refused
 returns-in_err-matches-clause-refused c =
     refused (map string_bytes c.args.words.now) c.in_err-matches.field-0.0 c.from_residual-in_err-matches.result
     c.from_residual-in_err-matches.ensures.1 (λ line. c.in_err-matches.ensures.passes (taken _ (map string_bytes c.args.words.now) c.in_ok-command.ensures line))
+
+pub returns-in_err-matches-clause-misuse : goal.returns-in_err-matches-clause-misuse
+returns-in_err-matches-clause-misuse c =
+    misused _ (map string_bytes c.args.words.now) c.in_err-matches.field-0.0 c.from_residual-in_err-matches.result c.in_ok-command.ensures
+    c.from_residual-in_err-matches.ensures.1 c.in_err-matches.ensures.kinds
 
 pub returns-in-Some-2-clause-given : goal.returns-in-Some-2-clause-given
 returns-in-Some-2-clause-given c =
@@ -16,3 +21,11 @@ pub returns-in-Some-clause-refused : goal.returns-in-Some-clause-refused
 returns-in-Some-clause-refused c =
     no_request _ _ c.in_ok-matches.matches c.in_ok-command.ensures c.in_ok-matches.ensures.matches _ _ c.in-Some.ensures.name c.in-Some.ensures.rows
     c.in_ok-request-in-Some.field-0 c.in-None-2.is c.in_ok-request-in-Some.ensures
+
+pub returns-in-Some-clause-misuse : goal.returns-in-Some-clause-misuse
+returns-in-Some-clause-misuse c =
+    no_order _ _ c.in_ok-matches.matches c.in_ok-command.ensures c.in_ok-matches.ensures.matches _ _ c.in-Some.ensures.name c.in-Some.ensures.rows
+    c.in_ok-request-in-Some.field-0 c.in-None-2.is c.in_ok-request-in-Some.ensures
+
+pub returns-clause-misuse : goal.returns-clause-misuse
+returns-clause-misuse c = none_found _ _ c.in_ok-matches.matches c.in_ok-command.ensures c.in_ok-matches.ensures.matches (sym c.in-None.ensures.name)
