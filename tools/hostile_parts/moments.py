@@ -362,7 +362,7 @@ def judge_cut_log(log):
     parts = [{"version": 2, "members": log.members, "f": log.f, "events": own, "strike": []} for own in logs_of(log.members, log.entries)]
     with files_of(texts_of(parts)) as paths:
         merged, checked = run(["merge", *paths]), run(["check", *paths])
-        audited = run(["audit", *paths])
+        audited, drawn = run(["audit", *paths]), run(["draw", *paths])
     entries = [tuple(entry) for entry in json.loads(merged.text)["events"]] if merged.status == 0 else []
     alone = run(["check"], merged.text.encode())
     names = {place: f'{own} in "{paths[member]}"' for place, (member, own) in enumerate(places_of(log.members, entries))}
@@ -372,7 +372,7 @@ def judge_cut_log(log):
     same_audit = sorted(audited.text.splitlines()) == sorted(run(["audit"], log.text().encode()).text.splitlines())
     yield merged.status == 0 and logs_of(log.members, entries) == logs_of(log.members, log.entries), f"{log.text()} is merged to {merged}"
     yield (checked.status, checked.text) == (alone.status, wanted), f"{log.text()}, checked in files: {checked}, and not {wanted}"
-    drawn, first = run(["draw", *paths]), wanted.splitlines()[0] if wanted.startswith("unsafe ") else None
+    first = wanted.splitlines()[0] if wanted.startswith("unsafe ") else None
     heading = first and first.replace(" strike ", ", strike ").replace(" orphans ", ", orphans ")
     well = drawn.status == 0 and (not heading or Picture(drawn.text).heading.endswith(f": {heading}"))
     yield well, f"{log.text()}, drawn from files: {drawn}, and not with {heading}"
