@@ -15,10 +15,10 @@ const COUNT: u32 = 1_000_000;
 /// How many members there are words for.
 const MEMBERS: u8 = 16;
 
-/// Times both, on one thread.
+/// Times both, on one thread; the claims with their making.
 pub fn time_claims<W: Wait>(rt: &HostRuntime, waits: &W) -> Result<()> {
-    let (claims, pass) = Claims::new(rt.alloc(), MEMBERS)?;
     let start = Instant::now(rt)?;
+    let (claims, pass) = Claims::new(rt.alloc(), MEMBERS)?;
     let won = claim_often(claims, pass);
     let taken = microseconds_since(rt, start)?;
     println!(rt; "claims: won {won}")?;
