@@ -69,7 +69,7 @@ pub struct Idle<O: Workers> {
     ghost pass_is_of: { pass ≡ O.claims },
 }
 
-/// A worker that has claimed the member of its turn. It is not dropped: its turn ends with a commit.
+/// A worker that has claimed the member of its turn. It is not dropped: it commits a step, or gives the member back.
 pub struct Claiming<O: Workers> {
     claim: Claim,
     turns: Turns<O>,
