@@ -156,13 +156,18 @@ def moments_of(logs):
 
 
 class Found(NamedTuple):
-    """Where a receipt is first unsafe: the entry at whose least moment its member is an orphan, that moment, the least set that loses the
-    receipt there, and the orphans that this leaves."""
+    """Where a receipt is unsafe: a member with its first entry that depends on the receipt, the least moment that has it, the least set
+    that loses the receipt there and leaves the member, and the orphans."""
     receipt: Receipt
-    place: int
+    member: int
+    number: int
     cut: tuple
     strike: set
     orphans: list
+
+    def place_in(self, entries):
+        """The place of the member's entry among these."""
+        return [place for place, entry in enumerate(entries) if entry[1] == self.member][self.number]
 
 
 class Judge:
@@ -199,26 +204,28 @@ class Judge:
         """The least moment that has the member's entry."""
         return tuple(map(min, zip(*(cut for cut in self.moments if cut[member] > number))))
 
-    def found(self, receipt):
-        """Where the receipt is first unsafe: the first entry, as they are listed, at whose least moment its member is an orphan."""
-        numbers = [0] * self.log.members
-        for place, entry in enumerate(self.log.entries):
-            member = entry[1]
-            numbers[member] += 1
-            if depends(self.logs, receipt, member, numbers[member]):
-                cut = self.least_moment(member, numbers[member] - 1)
+    def candidates(self, receipt):
+        """The members that depend on the receipt, each at the least moment at which it does, where that can leave it an orphan."""
+        for member, own in enumerate(self.logs):
+            number = next((number for number in range(len(own)) if depends(self.logs, receipt, member, number + 1)), None)
+            if number is not None:
+                cut = self.least_moment(member, number)
                 losses = [lost for lost in self.losses(receipt, cut) if member not in lost]
                 if losses:
                     least = set.intersection(*losses)
-                    return Found(receipt, place, cut, least, self.orphans(receipt, cut, least))
-        return None
+                    yield Found(receipt, member, number, cut, least, self.orphans(receipt, cut, least))
+
+    def found(self, receipt):
+        """The candidate that a check names: by the least number of members struck, then the least of such sets, then the least member."""
+        return min(self.candidates(receipt), key=lambda one: (len(one.strike), sorted(one.strike), one.member), default=None)
 
     def line(self, receipt):
         """The line of an unsafe receipt."""
         found = self.found(receipt)
         if not found:
             return f"{receipt} is unsafe nowhere\n"
-        return f"unsafe {' '.join(map(str, receipt))} at {found.place} strike {words_of(found.strike)} orphans {words_of(found.orphans)}\n"
+        place = found.place_in(self.log.entries)
+        return f"unsafe {' '.join(map(str, receipt))} at {place} strike {words_of(found.strike)} orphans {words_of(found.orphans)}\n"
 
     def receipts(self):
         return [receipt_of(entry) for entry in self.log.entries if entry[0] == "receipt"]
@@ -227,7 +234,7 @@ class Judge:
         """What the picture of the log is to show: its first unsafe receipt at its moment, or its last moment."""
         first = next((self.found(receipt) for receipt in self.receipts() if self.is_unsafe(receipt)), None)
         if first:
-            said = f"unsafe {' '.join(map(str, first.receipt))} at {first.place}, strike {words_of(first.strike)}, orphans {words_of(first.orphans)}"
+            said = f"unsafe {' '.join(map(str, first.receipt))} at {first.place_in(self.log.entries)}, strike {words_of(first.strike)}, orphans {words_of(first.orphans)}"
             return self.moment(first.cut, first.strike, first.orphans, said)
         last = tuple(map(len, self.logs))
         strike = set(self.log.strike)
@@ -357,26 +364,51 @@ def random_log(source, most):
     return log_of(source, some_records(source, own, ["hold", "hold", "store"]), source.randint(1, members - 1))
 
 
-def judge_cut_log(log):
-    """Whether the files of the members' own logs, merged, are the run, and are safe and unsafe where it is."""
-    parts = [{"version": 2, "members": log.members, "f": log.f, "events": own, "strike": []} for own in logs_of(log.members, log.entries)]
-    with files_of(texts_of(parts)) as paths:
-        merged, checked = run(["merge", *paths]), run(["check", *paths])
-        audited, drawn = run(["audit", *paths]), run(["draw", *paths])
+class CutLog(NamedTuple):
+    """A log, the file of each member, and the order in which the files are named."""
+    log: Log
+    files: list
+    order: list
+
+    def parts(self):
+        """What each file has: the entries of its members, as they are listed."""
+        log = self.log
+        own = lambda file: [entry for entry in log.entries if self.files[entry[1]] == file]
+        return [{"version": 2, "members": log.members, "f": log.f, "events": own(file), "strike": log.strike if file == 0 else []} for file in range(len(self.order))]
+
+    def lines_in(self, text, entries, paths):
+        """The lines of a check, with the places of these entries in their files in place of those among all."""
+        spots = {member: [] for member in range(self.log.members)}
+        for path, part in zip(paths, self.parts()):
+            for place, entry in enumerate(part["events"]):
+                spots[entry[1]].append(f'{place} in "{path}"')
+        names = [spots[entry[1]].pop(0) for entry in entries]
+        return [line_in_file(line, names) for line in text.splitlines(True)]
+
+
+def cut_log(source):
+    log = random_log(source, 24)
+    count = source.randint(2, log.members)
+    files = [source.randrange(count) for _ in range(log.members)]
+    return CutLog(log, files, source.sample(range(count), count))
+
+
+def judge_cut_log(case):
+    """Whether the files, in the order in which they are named, are merged to the run, and are safe and unsafe where it is, by whole lines."""
+    log = case.log
+    with files_of(texts_of(case.parts())) as paths:
+        named = [paths[file] for file in case.order]
+        merged, checked, audited, drawn = (run([word, *named]) for word in ("merge", "check", "audit", "draw"))
     entries = [tuple(entry) for entry in json.loads(merged.text)["events"]] if merged.status == 0 else []
-    alone = run(["check"], merged.text.encode())
-    names = {place: f'{own} in "{paths[member]}"' for place, (member, own) in enumerate(places_of(log.members, entries))}
-    wanted = "".join(line_in_file(line, names) for line in alone.text.splitlines(True))
-    lines = lambda text: sorted(line.split(" at ")[0] for line in text.splitlines())
-    whole = run(["check"], log.text().encode())
-    same_audit = sorted(audited.text.splitlines()) == sorted(run(["audit"], log.text().encode()).text.splitlines())
-    yield merged.status == 0 and logs_of(log.members, entries) == logs_of(log.members, log.entries), f"{log.text()} is merged to {merged}"
-    yield (checked.status, checked.text) == (alone.status, wanted), f"{log.text()}, checked in files: {checked}, and not {wanted}"
-    first = wanted.splitlines()[0] if wanted.startswith("unsafe ") else None
-    heading = first and first.replace(" strike ", ", strike ").replace(" orphans ", ", orphans ")
+    yield logs_of(log.members, entries) == logs_of(log.members, log.entries), f"{case} is merged to {merged}"
+    alone, whole, whole_audit = run(["check"], merged.text.encode()), *(run([word], log.text().encode()) for word in ("check", "audit"))
+    wanted = case.lines_in(alone.text, entries, paths)
+    yield (checked.status, checked.text) == (alone.status, "".join(wanted)), f"{case}, checked in files: {checked}, and not {wanted}"
+    same = sorted(wanted) == sorted(case.lines_in(whole.text, log.entries, paths))
+    yield same and sorted(audited.text.splitlines()) == sorted(whole_audit.text.splitlines()), f"{case} in files: {checked} and not {whole}; {audited}"
+    heading = wanted[0].strip().replace(" strike ", ", strike ").replace(" orphans ", ", orphans ") if wanted != ["safe\n"] else None
     well = drawn.status == 0 and (not heading or Picture(drawn.text).heading.endswith(f": {heading}"))
-    yield well, f"{log.text()}, drawn from files: {drawn}, and not with {heading}"
-    yield lines(checked.text) == lines(whole.text) and same_audit, f"{log.text()} in files: {checked} and not {whole}; {audited}"
+    yield well, f"{case}, drawn from files: {drawn}, and not with {heading}"
 
 
 def places_of(members, entries):
@@ -396,7 +428,7 @@ def line_in_file(line, names):
 
 def try_cut_logs(tally):
     source = random.Random(7)
-    note_each(tally, judge_cut_log, [random_log(source, 24) for _ in range(CUT_LOGS)])
+    note_each(tally, judge_cut_log, [cut_log(source) for _ in range(CUT_LOGS)])
 
 
 def judge_early(case):

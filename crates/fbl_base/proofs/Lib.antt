@@ -1,2 +1,2 @@
-pub mod Common
-pub mod AuditLaws
+pub mod HeldOutside
+pub mod DumpRuns

@@ -1,1 +1,1 @@
-pub mod Audit
+pub mod DumpRuns

@@ -2,11 +2,11 @@
 
 use anyhow::Result;
 use fbl_group::{DeliverRefusal, Group};
-use fbl_trace::{Behaviour, Config, Member, Note, Start};
+use fbl_trace::{Behaviour, Config, MOST_EVENTS, Member, Note, Start};
 use std::alloc::{AllocError, Global};
 
 /// How many events a trace may have here.
-pub const LIMIT: u32 = 8192;
+pub const LIMIT: u32 = MOST_EVENTS;
 
 /// What the message holds where nothing else is wanted.
 pub const NOTE: Note = Note { value: 1, hops: 1 };

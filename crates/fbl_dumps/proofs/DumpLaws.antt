@@ -1,11 +1,10 @@
--- Which determinants a trace and the pairs of a dump have, and who holds them.
+-- Which determinants a trace has, and whose its events are.
 use Rattle.fbl_dumps.proofs.Common.{ℕ, ◌≡◌, Bool, ◌&&◌, ◌||◌, refl, Decides, arith, nat_tests, Any-from_list_any, list_any-from_Any, Determinant, and_parts, Parts}
 use Rattle.fbl_dumps.proofs.Common.{same_determinant, ◌+◌, ◌<◌, true, List, [], ◌∷◌, length, take, get_or, Some, ap, ◌∙◌, list_any, cons_option, take_more, list_any-append}
 use Rattle.fbl_dumps.proofs.Common.{filter_map-append, get_or_from_slice_get, Mark, determinant_of, Has, is_received, slice_get-get_or, receipt_of, receipts, ◌==◌, ◌↔◌, map}
-use Rattle.fbl_dumps.proofs.Common.{eqb-true, filter, Contains, holders_of}
-use Rattle.std.specs.FinSet as set
+use Rattle.fbl_dumps.proofs.Common.{At, WellFormed, member_of, Send, Receipt}
 use Rattle.fbl_trace.proofs.Gets.{At-below, At-filter_map, filter_map-At}
-use Rattle.fbl_trace.proofs.RulesLaws.{Decides-same_determinant, eqb-self, is_receipt}
+use Rattle.fbl_trace.proofs.RulesLaws.{Decides-same_determinant, is_receipt}
 
 pub more : (events : List Mark) (i : ℕ) (e : Mark) (d : Determinant) → i < length events → e ≡ get_or events i e
     → is_received (take (i + 1) events) d ≡ (is_received (take i events) d || list_any (λ x. same_determinant x d) (cons_option (determinant_of e) []))
@@ -27,20 +26,9 @@ Decides-is_received events d = (has, received) where
       list_any-from_Any (λ x. same_determinant x d) (receipts events)
       (a.0, d, At-below _ a.0 d a.1, get_or_from_slice_get (receipts events) a.0 d d a.1, (Decides-same_determinant d d).1 refl)
 
-abbrev pub is_pair : Determinant → ℕ → ℕ × Determinant → Bool
-is_pair d holder h = same_determinant h.1 d && (h.0 == holder)
+-- ---- members
 
-any_holder : (d : Determinant) (holder : ℕ) (held : List (ℕ × Determinant))
-    → list_any (λ y. y == holder) (map (λ h. h.0) (filter (λ h. same_determinant h.1 d) held)) ≡ list_any (is_pair d holder) held
-any_holder d holder [] = refl
-any_holder d holder (x ∷ xs) = (let rest = any_holder d holder xs in grind (arith, rest))
-
-pub contains-holders : (dump : Parts) (d : Determinant) (holder : ℕ) → set.contains (holders_of dump d) holder ≡ list_any (is_pair d holder) dump.held
-contains-holders dump d holder = set.contains-from_list_nat _ holder ∙ any_holder d holder dump.held
-
--- the holders are exactly those that the pairs name
-pub holds : (dump : Parts) (d : Determinant) (holder : ℕ) → (set.contains (holders_of dump d) holder ≡ true) ↔ Contains dump.held (holder, d)
-holds dump d holder = (
-  grind (arith, nat_tests, Any-from_list_any, contains-holders, and_parts, Decides-same_determinant, eqb-true),
-  λ r. contains-holders dump d holder ∙ list_any-from_Any (is_pair d holder) dump.held (r.0, (holder, d), r.1, r.2, (rw ((Decides-same_determinant d d).1 refl, eqb-self holder))),
-)
+-- an event is one of the group's members
+pub member_below : (n : ℕ) (t : List Mark) (i : ℕ) (e : Mark) → WellFormed n t → At t i e → member_of e < n
+member_below n t i (Send from ssn to) obeys at = (obeys i (Send from ssn to) at).0
+member_below n t i (Receipt to rsn from ssn) obeys at = (obeys i (Receipt to rsn from ssn) at).1

@@ -1,3 +1,2 @@
 pub mod Common
-pub mod ClockLaws
 pub mod DumpLaws

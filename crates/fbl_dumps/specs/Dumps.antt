@@ -1,6 +1,6 @@
--- The rules of a dump, who holds which determinants in it, and why one is refused: of several broken rules the first in the order given here.
-use Rattle.std.specs.Prelude.{◌≡◌, Some, slice_get, ℕ, ◌<◌, ◌≤◌, Bool, List, map, unwrap_or}
-use Rattle.std.specs.List.{list_any, filter}
+-- The rules of a dump, and why one is refused: of several broken rules the first in the order given here.
+use Rattle.std.specs.Prelude.{◌≡◌, Some, slice_get, ℕ, ◌<◌, ◌≤◌, Bool, List}
+use Rattle.std.specs.List.{list_any}
 use Rattle.std.specs.Ordering.{nat_cmp}
 use Rattle.std.specs.FinSet as set
 use Rattle.fbl_trace.specs.declared.trace.Determinant.{Determinant}
@@ -9,7 +9,7 @@ use Rattle.fbl_trace.specs.Events.{receipt_of, receipts, same_determinant}
 use Rattle.fbl_trace.specs.Precedence.{Has}
 use Rattle.fbl_trace.specs.Rules.{ObeysAt, WellFormed}
 use Rattle.fbl_trace.specs.Configs.{MembersAllowed, FAllowed, IsFirstBreach}
-use Rattle.fbl_trace.specs.MemberSets.{AllBelow, Members}
+use Rattle.fbl_trace.specs.MemberSets.{AllBelow}
 use Rattle.fbl_dumps.specs.declared.refusal.DumpRefusal.{DumpRefusal}
 use Rattle.fbl_dumps.specs.declared.refusal.DumpRefusal.TheVariants.{BadMembers, BadF, BadEvent, BadHeld, BadStrike, Memory}
 use Rattle.fbl_trace.specs.declared.fault.Breach.{Breach}
@@ -19,8 +19,6 @@ use Rattle.fbl_trace.specs.declared.fault.PairRule.TheVariants as pair_rule
 use Rattle.fbl_trace.specs.declared.fault.PairFault.{PairFault}
 use Rattle.fbl_trace.specs.Breaches.{IsEventFault, IsLeastOutside, IsOutside}
 use Rattle.fbl_dumps.specs.declared.raw_dump.RawDump.{RawDump}
-use Rattle.std.specs.HashMap as hash_map
-use Rattle.fbl_dumps.specs.declared.holders.Holders.{Holders}
 
 -- the five parts of a dump
 pub record Parts : Type 0 where
@@ -63,18 +61,6 @@ parts_of raw = record { members = raw.members; f = raw.f; events = raw.events.it
 -- whether some receipt among the events has the determinant
 abbrev pub is_received : List Mark → Determinant → Bool
 is_received events d = list_any (λ x. same_determinant x d) (receipts events)
-
--- the members that hold the determinant, struck or not: Log of Alvisi and Marzullo (1998)
-abbrev pub holders_of : Parts → Determinant → Members
-holders_of dump d = set.from_list (map (λ h. h.0) (filter (λ h. same_determinant h.1 d) dump.held))
-
--- the members that the index has for the determinant
-abbrev pub holders_in : {A : Type 0} → Holders A → Determinant → Members
-holders_in found d = unwrap_or (hash_map.get same_determinant found.index d) set.empty
-
--- the index has of each determinant those that hold it
-abbrev pub AreHolders : {A : Type 0} → Parts → Holders A → Type 0
-AreHolders dump found = (d : Determinant) → holders_in found d ≡ holders_of dump d
 
 -- ---- the rule that a refused dump breaks
 

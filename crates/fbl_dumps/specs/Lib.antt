@@ -1,2 +1,2 @@
 pub mod Dumps
-pub mod Clocks
+pub mod Losses

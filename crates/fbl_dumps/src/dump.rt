@@ -13,16 +13,13 @@ ghost use Rattle.fbl_dumps.specs.Dumps.{FitsPair, HeldAt, IsDump, RefusesDump, i
 use crate::raw_dump::RawDump;
 use crate::refusal::DumpRefusal;
 use fbl_trace::{
-    Breach, Counts, Determinant, EventFault, LEAST_MEMBERS, MOST_MEMBERS, Mark, Member, MemberSet,
-    Outsider, PairFault, PairRule,
+    Breach, Counts, Determinant, EventFault, GroupRule, MOST_PAIRS, Mark, Member, MemberSet,
+    Outsider, PairFault, PairRule, group_breach,
 };
 use std::alloc::{AllocError, Allocator, Global};
 use std::collections::HashSet;
 use std::hash::{BuildHasherDefault, FoldHasher};
 use std::marker::Model;
-
-/// The most pairs of holder and determinant that a dump may have.
-const MOST_PAIRS: usize = 131_072;
 
 /// A dump that obeys the rules. Contracts see its five parts.
 #[derive(Drop)]
@@ -216,12 +213,14 @@ fn dump_breach<A: Allocator + Copy>(alloc: A, raw: &RawDump<A>) -> Option<(DumpR
     ensures refused { MatchOption result (IsDump (parts_of raw.now)) (λ e. RefusesDump (parts_of raw.now) e.0) }
     ensures breach { IfSome result (λ e. IsDumpBreach (parts_of raw.now) e.0 e.1) }
 {
-    let members = raw.members;
-    if members < LEAST_MEMBERS || members > MOST_MEMBERS {
-        return Some((DumpRefusal::BadMembers, Breach::Members { members }));
-    }
-    if raw.f < 1 || raw.f >= members {
-        return Some((DumpRefusal::BadF, Breach::F { f: raw.f, members }));
+    let (members, f) = (raw.members, raw.f);
+    match group_breach(members, f) {
+        Some(GroupRule::Members) => return Some((
+            DumpRefusal::BadMembers,
+            Breach::Members { members },
+        )),
+        Some(GroupRule::F) => return Some((DumpRefusal::BadF, Breach::F { f, members })),
+        None => {}
     }
     match first_bad_event(alloc, members, raw.events.as_slice()) {
         Ok(None) => {}

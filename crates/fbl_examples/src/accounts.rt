@@ -5,7 +5,7 @@ ghost use Rattle.std.specs.Prelude.{◌≡◌, ◌≤◌, IfOk, OnOk};
 ghost use Rattle.std.specs.FinSet as set;
 ghost use Rattle.fbl_behaviours.specs.Accounts.{opened};
 
-use crate::draining::drain_to_quiet;
+use crate::drains::drain_to_quiet;
 use anyhow::Result;
 use fbl_behaviours::Account;
 use fbl_group::Group;

@@ -4,7 +4,7 @@
 ghost use Rattle.std.specs.Prelude.{IfOk};
 ghost use Rattle.fbl_behaviours.specs.Commits.{AreAgreed};
 
-use crate::draining::drain_to_quiet;
+use crate::drains::drain_to_quiet;
 use anyhow::Result;
 use fbl_behaviours::{Party, Word};
 use fbl_group::Group;

@@ -7,7 +7,7 @@ ghost use Rattle.fbl_law.specs.Groups.{member as record_of};
 ghost use Rattle.fbl_law.specs.StepLaws.{HoldsOf};
 ghost use Rattle.fbl_behaviours.specs.Elections.{HasTaken, IsPassedOn, ReachesAll, greatest};
 
-use crate::draining::drain_to_quiet;
+use crate::drains::drain_to_quiet;
 use anyhow::Result;
 use fbl_behaviours::Candidate;
 use fbl_group::Group;

@@ -4,7 +4,7 @@
 
 mod accounts;
 mod commits;
-mod draining;
+mod drains;
 mod election;
 mod store;
 

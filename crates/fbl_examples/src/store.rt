@@ -9,7 +9,7 @@ ghost use Rattle.fbl_law.specs.Knowledge.{IsUp};
 ghost use Rattle.fbl_behaviours.specs.Commands.{amount_of, made_of};
 ghost use Rattle.fbl_behaviours.specs.Shards.{amount_brought, key_owner};
 
-use crate::draining::drain_to_quiet;
+use crate::drains::drain_to_quiet;
 use anyhow::Result;
 use fbl_behaviours::{Command, Shard};
 use fbl_group::Group;

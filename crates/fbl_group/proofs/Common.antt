@@ -10,7 +10,8 @@ pub use Rattle.std.proofs.lemmas.Fn.{filter_same}
 pub use Rattle.std.proofs.lemmas.List.{at_drop_more, get_or-replicate, get_or-set_other, get_or-set_same, get_or_default, get_or_past, length-map, length-replicate, length-set, map-append, set-get_or, length-take, map_more, take_all}
 pub use Rattle.std.proofs.lemmas.List.Sums.{AllPass-from_list_all, count_by_more_no, count_by_more_yes, fold-append, list_all-from_AllPass, sum_by-cons, count_by-le-length}
 pub use Rattle.std.specs.FinSet.{contains, empty_of_len, len-empty}
-pub use Rattle.fbl_base.proofs.Common.{IsDumpOrphan, Parts}
+pub use Rattle.fbl_dumps.specs.Losses.{IsDumpOrphan}
+pub use Rattle.fbl_dumps.specs.Dumps.{Parts}
 pub use Rattle.fbl_trace.specs.Steps.{SendsAllowed, SendsWell}
 pub use Rattle.fbl_trace.specs.declared.outcome.Outcome.{Outcome}
 pub use Rattle.fbl_trace.specs.declared.trace.Determinant.{Determinant}
@@ -38,13 +39,13 @@ pub use Rattle.fbl_member.proofs.Once.{IsOnce-none, IsOnce-piggybacked}
 pub use Rattle.fbl_member.specs.Members.{MemberRecord, Message, blank, logged_note, messages_from, received_by, replayed_by, table_after}
 pub use Rattle.fbl_table.specs.Receipts.{IsByNumber, receipt_at}
 pub use Rattle.fbl_table.specs.declared.entry.Entry.{Entry}
-pub use Rattle.fbl_answers.specs.Refusals.{of_commit}
-pub use Rattle.fbl_answers.specs.declared.answers.Receipted.{Receipted}
-pub use Rattle.fbl_answers.specs.declared.refusals.CommitRefusal.{CommitRefusal}
-pub use Rattle.fbl_parts.proofs.Queues.{Replacing, in-channels, reads, replacing-kept, replacing-other}
-pub use Rattle.fbl_parts.proofs.Starting.{put-in, written-shape}
-pub use Rattle.fbl_parts.specs.Lost.{is_lost_receipt_of}
-pub use Rattle.fbl_parts.specs.Channels.{AreReplaced, each, first_message, front, front_message, room_in, rows, send_of_message, taken_and_sent, with_at, with_sent}
-pub use Rattle.fbl_group.specs.Deliveries.{Delivered, Delivers, IsDeliverRefusal, IsPlanned, MayTakeIn, TakesIn, deliver_refusal, IsCurrent, IsFresh, IsTicket, MayCommit, RefusesCommit, is_full, record_at, sends_at, take_refusal}
+pub use Rattle.fbl_group.specs.Refusals.{of_commit}
+pub use Rattle.fbl_group.specs.declared.answers.Receipted.{Receipted}
+pub use Rattle.fbl_group.specs.declared.refusals.CommitRefusal.{CommitRefusal}
+pub use Rattle.fbl_channels.proofs.Queues.{Replacing, in-channels, reads, replacing-kept, replacing-other}
+pub use Rattle.fbl_channels.proofs.Starting.{put-in, written-shape}
+pub use Rattle.fbl_group.specs.Lost.{is_lost_receipt_of}
+pub use Rattle.fbl_channels.specs.Channels.{AreReplaced, each, room_in, rows, send_of_message, taken_and_sent, with_at, with_sent}
+pub use Rattle.fbl_group.specs.Deliveries.{first_message, front, front_message, Delivered, Delivers, IsDeliverRefusal, IsPlanned, MayTakeIn, TakesIn, deliver_refusal, IsCurrent, IsFresh, IsTicket, MayCommit, RefusesCommit, is_full, record_at, sends_at, take_refusal}
 pub use Rattle.fbl_group.specs.Strikes.{AreByNumber, AreReplaying, AreSentAgain, IsReady, Rounds, Tries, Recovers, messages_at, AreRecordsReplaced, is_within, lost_receipts, strike_refusal}
 pub use Rattle.fbl_trace.specs.declared.ticket.Ticket.{Ticket}

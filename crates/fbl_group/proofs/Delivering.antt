@@ -5,8 +5,8 @@ pub use Rattle.fbl_group.proofs.Common.{deliver_refusal, of_commit, IsDeliverRef
 use Rattle.fbl_law.specs.GroupSteps.{made as made_by}
 use Rattle.fbl_group.proofs.Queues.{first-is, messages-all, sends-messages, settled-in}
 use Rattle.std.specs.FinSet as set
-use Rattle.fbl_answers.specs.declared.refusals.CommitRefusal.TheVariants as commit
-use Rattle.fbl_answers.specs.declared.refusals.DeliverRefusal.TheVariants.{Full}
+use Rattle.fbl_group.specs.declared.refusals.CommitRefusal.TheVariants as commit
+use Rattle.fbl_group.specs.declared.refusals.DeliverRefusal.TheVariants.{Full}
 
 module _ {S N : Type 0} {next : Next S N} {r now : GroupRecord S N} {q p : ℕ} {outcome : Outcome S N} (well : SendsWell next) (sound : IsSound next r) (view : r ≡ now)
     {note : N} (planned : IsPlanned next note now q p outcome) where

@@ -2,9 +2,9 @@
 pub use Rattle.fbl_group.proofs.Common.{◌≡◌, ℕ, zero, suc, ◌+◌, ◌<◌, ◌≤◌, Bool, List, [], ◌∷◌, ◌++◌, length, map, drop, replicate, refl, sym, ap, ◌∙◌, arith, Some, slice_get, get_or, append_assoc, All, map-append, get_or_past, filter-append, Entry, Message, messages_from, between, is_on, taken_off, HasChannels, channel_in, room_in, each, with_sent, taken_and_sent, send_of_message, append-nil, get_or-replicate, length-replicate, step_events, first_message, with_at, Made, made-more, filter_map-append, Event, message_of_send, filter_map, Start, Settings, IsConfig, StartAllowed, slice_get-get_or, at_drop_more, start_events, drop_of_length-le, IsOnce-none, IsSound, group_delivery_keeps, in-channels, reads, put-in, written-shape}
 use Rattle.fbl_group.proofs.Common.{◌⊎◌, inl, inr, true, false, Option, None, channel, sum_below, nat_tests, len-empty, take_refusal, deliver_refusal, is_full, step_of, Next, GroupRecord, IsDeliverRefusal, if◌then◌else◌, cases_eq, some-at}
 use Rattle.std.specs.FinSet as set
-use Rattle.fbl_answers.specs.declared.refusals.DeliverRefusal.{DeliverRefusal}
-use Rattle.fbl_answers.specs.declared.refusals.DeliverRefusal.TheVariants.{BadMember, Down, Empty, Full, Memory}
-use Rattle.fbl_answers.specs.declared.refusals.TakeRefusal.{TakeRefusal}
+use Rattle.fbl_group.specs.declared.refusals.DeliverRefusal.{DeliverRefusal}
+use Rattle.fbl_group.specs.declared.refusals.DeliverRefusal.TheVariants.{BadMember, Down, Empty, Full, Memory}
+use Rattle.fbl_group.specs.declared.refusals.TakeRefusal.{TakeRefusal}
 use Rattle.fbl_group.specs.Deliveries.{take_or_room}
 use Rattle.fbl_group.specs.Laws.{SomeDeliveryIsOpen}
 

@@ -7,7 +7,7 @@ use Rattle.fbl_trace.specs.declared.trace.Event.TheVariants as event
 use Rattle.std.specs.Prelude.{Bool}
 use Rattle.fbl_group.proofs.Common.{inl, inr, contains-union, is_replayed, IsRecovery, len-within, recovery_exists, recovery_is_one, strikes_join}
 use Rattle.fbl_group.proofs.Recovering.{read_at}
-use Rattle.fbl_answers.specs.declared.answers.Recovered.{Recovered}
+use Rattle.fbl_group.specs.declared.answers.Recovered.{Recovered}
 use Rattle.fbl_group.specs.Strikes.{Recovers, messages_at}
 use Rattle.fbl_group.specs.Laws.{StrikesAreOne}
 use Rattle.fbl_group.specs.Theorem.{AreStruck, HasOneRecovery, IsRecoverable, Restores}

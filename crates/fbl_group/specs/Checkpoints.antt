@@ -2,8 +2,8 @@
 use Rattle.std.specs.Prelude.{◌≡◌, ℕ, ◌==◌, not, nat_lt, Option, Some, None, if◌then◌else◌}
 use Rattle.std.specs.FinSet as set
 use Rattle.fbl_law.specs.Groups.{GroupRecord}
-use Rattle.fbl_answers.specs.declared.refusals.CheckpointRefusal.{CheckpointRefusal}
-use Rattle.fbl_answers.specs.declared.refusals.CheckpointRefusal.TheVariants.{BadMember, Down, Memory}
+use Rattle.fbl_group.specs.declared.refusals.CheckpointRefusal.{CheckpointRefusal}
+use Rattle.fbl_group.specs.declared.refusals.CheckpointRefusal.TheVariants.{BadMember, Down, Memory}
 
 -- the first refusal of a checkpoint of the member that holds, but for lack of memory
 abbrev pub checkpoint_refusal : {S N : Type 0} → GroupRecord S N → ℕ → Option CheckpointRefusal

@@ -1,22 +1,33 @@
 -- Steps that are taken apart from the record, and deliveries: when they are refused, and what they leave and answer.
-use Rattle.std.specs.Prelude.{◌≡◌, ◌≢◌, ℕ, List, ◌+◌, ◌==◌, ◌&&◌, ◌||◌, not, nat_lt, Bool, true, false, length, Option, Some, None, if◌then◌else◌, ◌<◌, ◌≤◌, [], slice_index_or, slice_set}
+use Rattle.std.specs.Prelude.{◌≡◌, ◌≢◌, ℕ, List, ◌+◌, ◌==◌, ◌&&◌, ◌||◌, not, nat_lt, Bool, true, false, length, Option, Some, None, if◌then◌else◌, ◌<◌, ◌≤◌, [], slice_get, slice_index_or, slice_set}
 use Rattle.std.specs.FinSet as set
 use Rattle.fbl_trace.specs.Fold.{Next}
 use Rattle.fbl_member.specs.Members.{Message, MemberRecord, blank, last_from, messages_from, next_determinant, received_by, table_after}
 use Rattle.fbl_table.specs.Tables.{is_held, piggybacked}
-use Rattle.fbl_law.specs.Groups.{GroupRecord, member}
-use Rattle.fbl_answers.specs.declared.refusals.TakeRefusal.{TakeRefusal}
-use Rattle.fbl_answers.specs.declared.refusals.TakeRefusal.TheVariants as take
-use Rattle.fbl_answers.specs.declared.refusals.CommitRefusal.{CommitRefusal}
-use Rattle.fbl_answers.specs.declared.refusals.CommitRefusal.TheVariants as commit
+use Rattle.fbl_law.specs.Groups.{GroupRecord, channel, member}
+use Rattle.fbl_group.specs.declared.refusals.TakeRefusal.{TakeRefusal}
+use Rattle.fbl_group.specs.declared.refusals.TakeRefusal.TheVariants as take
+use Rattle.fbl_group.specs.declared.refusals.CommitRefusal.{CommitRefusal}
+use Rattle.fbl_group.specs.declared.refusals.CommitRefusal.TheVariants as commit
 use Rattle.fbl_trace.specs.declared.ticket.Ticket.{Ticket}
-use Rattle.fbl_parts.specs.Channels.{front, front_message}
 use Rattle.fbl_trace.specs.declared.outcome.Outcome.{Outcome}
 use Rattle.fbl_law.specs.GroupSteps.{step_of, IsDelivery}
-use Rattle.fbl_answers.specs.declared.refusals.DeliverRefusal.{DeliverRefusal}
-use Rattle.fbl_answers.specs.declared.refusals.DeliverRefusal.TheVariants.{Full, Memory}
-use Rattle.fbl_answers.specs.declared.answers.Receipted.{Receipted}
-use Rattle.fbl_answers.specs.Refusals.{of_take}
+use Rattle.fbl_group.specs.declared.refusals.DeliverRefusal.{DeliverRefusal}
+use Rattle.fbl_group.specs.declared.refusals.DeliverRefusal.TheVariants.{Full, Memory}
+use Rattle.fbl_group.specs.declared.answers.Receipted.{Receipted}
+use Rattle.fbl_group.specs.Refusals.{of_take}
+
+-- the front of the channel from q to p
+abbrev pub front : {S N : Type 0} → GroupRecord S N → ℕ → ℕ → Option (Message N)
+front r q p = slice_get (channel r q p) 0
+
+-- the front of a channel that has one, and else a message with this content
+abbrev pub first_message : {N : Type 0} → N → List (Message N) → Message N
+first_message note messages = slice_index_or messages 0 (record { from = 0; to = 0; ssn = 0; note = note; carried = [] })
+
+-- the front of the channel from q to p that has one, and else a message with this content
+abbrev pub front_message : {S N : Type 0} → N → GroupRecord S N → ℕ → ℕ → Message N
+front_message note r q p = first_message note (channel r q p)
 
 -- no message is on the channel
 abbrev pub empty_refusal : {N : Type 0} → Option (Message N) → Option TakeRefusal

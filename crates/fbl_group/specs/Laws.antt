@@ -4,9 +4,9 @@ use Rattle.std.specs.FinSet as set
 use Rattle.fbl_trace.specs.Fold.{Next}
 use Rattle.fbl_trace.specs.MemberSets.{Members}
 use Rattle.fbl_law.specs.Groups.{GroupRecord, messages_in_flight}
-use Rattle.fbl_answers.specs.declared.answers.Struck.{Struck}
-use Rattle.fbl_answers.specs.declared.refusals.DeliverRefusal.{DeliverRefusal}
-use Rattle.fbl_answers.specs.declared.refusals.DeliverRefusal.TheVariants.{Full, Memory}
+use Rattle.fbl_group.specs.declared.answers.Struck.{Struck}
+use Rattle.fbl_group.specs.declared.refusals.DeliverRefusal.{DeliverRefusal}
+use Rattle.fbl_group.specs.declared.refusals.DeliverRefusal.TheVariants.{Full, Memory}
 use Rattle.fbl_group.specs.Deliveries.{IsDeliverRefusal, deliver_refusal}
 use Rattle.fbl_group.specs.Strikes.{Strikes, strike_refusal}
 use Rattle.fbl_group.specs.Theorem.{AreStruck}

@@ -5,3 +5,5 @@ pub mod Checkpoints
 pub mod Theorem
 pub mod Records
 pub mod Laws
+pub mod Lost
+pub mod Refusals

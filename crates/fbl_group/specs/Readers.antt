@@ -3,8 +3,8 @@ use Rattle.std.specs.Prelude.{◌==◌, ◌&&◌, Bool}
 use Rattle.std.specs.FinSet as set
 use Rattle.fbl_trace.specs.MemberSets.{AllBelow, Members}
 use Rattle.fbl_law.specs.Groups.{GroupRecord, messages_in_flight}
-use Rattle.fbl_answers.specs.declared.refusals.DumpGroupRefusal.{DumpGroupRefusal}
-use Rattle.fbl_answers.specs.declared.refusals.DumpGroupRefusal.TheVariants.{BadStrike, Memory}
+use Rattle.fbl_group.specs.declared.refusals.DumpGroupRefusal.{DumpGroupRefusal}
+use Rattle.fbl_group.specs.declared.refusals.DumpGroupRefusal.TheVariants.{BadStrike, Memory}
 
 -- whether nothing is in flight and nobody is down
 abbrev pub is_quiet : {S N : Type 0} → GroupRecord S N → Bool

@@ -5,12 +5,12 @@ use Rattle.fbl_trace.specs.MemberSets.{Members}
 use Rattle.fbl_trace.specs.declared.ticket.Ticket.{Ticket}
 use Rattle.fbl_law.specs.Groups.{GroupRecord, knowledge, member}
 use Rattle.fbl_law.specs.Promises.{KeepsHolders}
-use Rattle.fbl_answers.specs.declared.answers.Receipted.{Receipted}
-use Rattle.fbl_answers.specs.declared.answers.Recovered.{Recovered}
-use Rattle.fbl_answers.specs.declared.answers.Struck.{Struck}
-use Rattle.fbl_answers.specs.declared.record.CrashRecord.{CrashRecord}
-use Rattle.fbl_answers.specs.declared.record.RecoveryRecord.{RecoveryRecord}
-use Rattle.fbl_answers.specs.declared.record.TurnRecord.{TurnRecord}
+use Rattle.fbl_group.specs.declared.answers.Receipted.{Receipted}
+use Rattle.fbl_group.specs.declared.answers.Recovered.{Recovered}
+use Rattle.fbl_group.specs.declared.answers.Struck.{Struck}
+use Rattle.fbl_group.specs.declared.answers.CrashRecord.{CrashRecord}
+use Rattle.fbl_group.specs.declared.answers.RecoveryRecord.{RecoveryRecord}
+use Rattle.fbl_group.specs.declared.answers.TurnRecord.{TurnRecord}
 use Rattle.fbl_group.specs.Deliveries.{Delivers, MayCommit}
 use Rattle.fbl_group.specs.Strikes.{strike_refusal, Crashes, IsStrikeAlone}
 

@@ -8,17 +8,17 @@ use Rattle.fbl_trace.specs.Fold.{Next}
 use Rattle.fbl_member.specs.Members.{MemberRecord, Message, blank}
 use Rattle.fbl_law.specs.Groups.{GroupRecord, marks, receipts, is_recorded, channel, channel_in, sum_below, member_checkpoint, knowledge}
 use Rattle.fbl_law.specs.GroupSteps.{IsStrike, IsRecovery, is_replayed, IsReplaying, IsWaiting, replayed_in, recovery_table, sent_again, working}
-use Rattle.fbl_answers.specs.declared.refusals.StrikeRefusal.{StrikeRefusal}
-use Rattle.fbl_answers.specs.declared.refusals.StrikeRefusal.TheVariants as strike
-use Rattle.fbl_answers.specs.Refusals.{of_strike}
-use Rattle.fbl_answers.specs.declared.answers.Struck.{Struck}
-use Rattle.fbl_answers.specs.declared.answers.Recovered.{Recovered}
-use Rattle.fbl_answers.specs.declared.refusals.RecoverRefusal.{RecoverRefusal}
-use Rattle.fbl_answers.specs.declared.refusals.RecoverRefusal.TheVariants.{NotDown, Memory}
+use Rattle.fbl_group.specs.declared.refusals.StrikeRefusal.{StrikeRefusal}
+use Rattle.fbl_group.specs.declared.refusals.StrikeRefusal.TheVariants as strike
+use Rattle.fbl_group.specs.Refusals.{of_strike}
+use Rattle.fbl_group.specs.declared.answers.Struck.{Struck}
+use Rattle.fbl_group.specs.declared.answers.Recovered.{Recovered}
+use Rattle.fbl_group.specs.declared.refusals.RecoverRefusal.{RecoverRefusal}
+use Rattle.fbl_group.specs.declared.refusals.RecoverRefusal.TheVariants.{NotDown, Memory}
 use Rattle.fbl_table.specs.Receipts.{IsByNumber}
 use Rattle.fbl_law.specs.Knowledge.{IsDown}
-use Rattle.fbl_answers.specs.declared.refusals.CrashRefusal.{CrashRefusal}
-use Rattle.fbl_answers.specs.declared.refusals.CrashRefusal.TheVariants as crash
+use Rattle.fbl_group.specs.declared.refusals.CrashRefusal.{CrashRefusal}
+use Rattle.fbl_group.specs.declared.refusals.CrashRefusal.TheVariants as crash
 
 -- whether each member of the set is below n
 abbrev pub is_within : Members → ℕ → Bool

@@ -8,8 +8,8 @@ use Rattle.fbl_law.specs.Knowledge.{IsDown, IsOrphan, IsUp}
 use Rattle.fbl_law.specs.GroupSteps.{IsEventCut, Stays}
 use Rattle.fbl_law.specs.Groups.{GroupRecord, channel, knowledge, member, IsFold}
 use Rattle.fbl_law.specs.Promises.{HoldsEachReceipt, LeavesRecorded}
-use Rattle.fbl_answers.specs.declared.answers.Recovered.{Recovered}
-use Rattle.fbl_answers.specs.declared.answers.Struck.{Struck}
+use Rattle.fbl_group.specs.declared.answers.Recovered.{Recovered}
+use Rattle.fbl_group.specs.declared.answers.Struck.{Struck}
 use Rattle.fbl_group.specs.Strikes.{Recovers, Strikes, strike_refusal}
 
 -- strikes lead from one group to the other: none, or several, each of which was allowed

@@ -11,7 +11,7 @@ ghost use Rattle.fbl_law.specs.GroupSteps.{IsCheckpoint};
 ghost use Rattle.fbl_group.specs.Checkpoints.{checkpoint_refusal, IsCheckpointRefusal};
 
 use crate::group::Group;
-use fbl_answers::CheckpointRefusal;
+use crate::refusals::CheckpointRefusal;
 use fbl_trace::{Behaviour, Member};
 use std::alloc::{AllocError, Allocator};
 
@@ -47,14 +47,14 @@ impl<B: Behaviour, A: Allocator + Copy> Group<B, A> {
         requires { member < self.now.config.members }
         ensures value { result ≡ (member_checkpoint self.now member).received }
         ensures fold { IsCheckpointFold B.next self.now member }
-        ensures recorded { (d : Determinant) → Has (marks self.now) (receipt_of d) → d.to ≡ member → d.rsn ≤ result → IsRecorded (knowledge self.now) d }
+        ensures recorded { (d : Determinant) → Has (marks self.now) (receipt_of d) → d.to ≡ member → d.rsn ≤ result
+            → IsRecorded (knowledge self.now) d }
     {
         // the group is sound
         self.recoverable();
-        self.saved(member).received()
+        self.checkpoint_of(member).received()
     }
 
-    /// Copies the member's record, and then puts the copy in its place.
     fn save(&mut self, member: Member) -> Result<(), AllocError>
         requires below { member < self.old.config.members }
         requires nobody_down { set.len self.old.down ≡ 0 }

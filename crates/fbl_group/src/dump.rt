@@ -1,20 +1,22 @@
 //! Dumps of a group, for the audit.
 
-ghost use Rattle.std.specs.Prelude.{◌≡◌, ℕ, ◌≤◌, IfOk, IfErr};
+ghost use Rattle.std.specs.Prelude.{◌≡◌, ℕ, ◌≤◌, ◌++◌, IfOk, IfErr, OnOk, length, map};
 ghost use Rattle.std.specs.FinSet as set;
 ghost use Rattle.fbl_dumps.specs.Dumps.{parts_of};
-ghost use Rattle.fbl_base.specs.Audit.{IsDumpOrphan};
+ghost use Rattle.fbl_dumps.specs.Losses.{IsDumpOrphan};
+ghost use Rattle.fbl_trace.specs.Events.{mark_of};
 ghost use Rattle.fbl_trace.specs.MemberSets.{AllBelow};
 ghost use Rattle.fbl_law.specs.Knowledge.{Includes, IsDown};
 ghost use Rattle.fbl_law.specs.Groups.{knowledge, IsSound};
-ghost use Rattle.fbl_law.specs.Promises.{dump_of};
+ghost use Rattle.fbl_law.specs.Promises.{dump_of, pairs_of, pairs_from};
 ghost use Rattle.fbl_group.specs.Readers.{IsDumpRefusal};
 
 use crate::group::Group;
-use fbl_answers::DumpGroupRefusal;
+use crate::refusals::DumpGroupRefusal;
 use fbl_dumps::{Dump, RawDump};
-use fbl_parts::{held_pairs, marks};
-use fbl_trace::{Behaviour, MemberSet};
+use fbl_member::MemberRec;
+use fbl_table::Table;
+use fbl_trace::{Behaviour, Content, Determinant, Event, Mark, Member, MemberSet};
 use std::alloc::{AllocError, Allocator};
 
 impl<B: Behaviour, A: Allocator + Copy> Group<B, A> {
@@ -24,7 +26,9 @@ impl<B: Behaviour, A: Allocator + Copy> Group<B, A> {
     pub fn dump(&self, strike: MemberSet) -> Result<Dump<A>, DumpGroupRefusal>
         ensures dumped { IfOk result (λ dump. AllBelow strike self.now.config.members × (dump ≡ dump_of self.now strike)) }
         ensures refused { IfErr result (IsDumpRefusal self.now strike) }
-        ensures no_orphan { ((q : ℕ) → IsDown (knowledge self.now) q → Includes strike q) → set.len strike ≤ self.now.config.f → IfOk result (λ dump. (m : ℕ) → ¬ (IsDumpOrphan dump m)) }
+        ensures no_orphan { ((q : ℕ) → IsDown (knowledge self.now) q → Includes strike q)
+            → set.len strike ≤ self.now.config.f
+            → IfOk result (λ dump. (m : ℕ) → ¬ (IsDumpOrphan dump m)) }
     {
         // what is so of each group: its tables have no orphan to show
         self.promises();
@@ -37,7 +41,6 @@ impl<B: Behaviour, A: Allocator + Copy> Group<B, A> {
         }
     }
 
-    /// The parts of a dump.
     fn raw_dump(&self, strike: MemberSet) -> Result<RawDump<A>, AllocError>
         ensures { IfOk result (λ raw. parts_of raw ≡ dump_of self.now strike) }
     {
@@ -50,4 +53,39 @@ impl<B: Behaviour, A: Allocator + Copy> Group<B, A> {
             strike,
         })
     }
+}
+
+fn marks<N: Copy, A: Allocator>(alloc: A, trace: &[Event<N>]) -> Result<Vec<Mark, A>, AllocError>
+    ensures { IfOk result (λ marks. marks.items ≡ map mark_of trace.now) }
+{
+    trace.iter().map(|event| event.mark()).collect(alloc)
+}
+
+fn held_pairs<S: Copy, N: Content, A: Allocator + Copy>(
+    alloc: A,
+    members: &[MemberRec<S, N, A>],
+) -> Result<Vec<(Member, Determinant), A>, AllocError>
+    requires { length members.now ≤ 16 }
+    ensures { IfOk result (λ held. held.items ≡ pairs_from 0 members.now) }
+{
+    let mut held = Vec::new(alloc);
+    for place in 0..members.len() {
+        let holder = Member::at(place as u8);
+        push_pairs(&mut held, holder, members[place].table())?;
+    }
+    Ok(held)
+}
+
+fn push_pairs<A: Allocator + Copy>(
+    held: &mut Vec<(Member, Determinant), A>,
+    holder: Member,
+    table: &Table<A>,
+) -> Result<(), AllocError>
+    ensures { OnOk result (held.new.items ≡ held.old.items ++ pairs_of holder table.now) }
+{
+    held.reserve(table.len())?;
+    for place in 0..table.len() {
+        held.push_reserved((holder, table.entry_at(place).det));
+    }
+    Ok(())
 }

@@ -2,8 +2,8 @@
 
 ghost use Rattle.std.specs.Prelude.{◌≡◌, ℕ, ◌<◌, length, IfOk, IsTrue, ◌↔◌};
 
+use fbl_channels::Channels;
 use fbl_member::MemberRec;
-use fbl_parts::Channels;
 use fbl_trace::{Behaviour, Config, Event, MemberSet};
 use std::alloc::{Allocator, Global};
 use std::marker::{Model, PhantomData};
@@ -26,7 +26,7 @@ pub struct Group<B: Behaviour, A: Allocator = Global> {
 impl<B: Behaviour, A: Allocator> Model for Group<B, A> {
     ghost use Rattle.fbl_law.specs.Groups.{GroupRecord};
     ghost use Rattle.fbl_law.specs.Groups.{IsSound};
-    ghost use Rattle.fbl_parts.specs.Channels.{rows};
+    ghost use Rattle.fbl_channels.specs.Channels.{rows};
 
     ghost Value = { GroupRecord B.State B.Note };
 

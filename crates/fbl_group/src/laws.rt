@@ -2,6 +2,8 @@
 
 ghost use Rattle.fbl_group.specs.Laws.{SomeDeliveryIsOpen, StrikesAreOne};
 
+mod step_laws;
+
 /// Strikes in several calls do what one strike of all the members does, and this one is allowed where those were.
 pub fn strikes_law<S, N>()
     ensures { StrikesAreOne S N }

@@ -1,29 +1,24 @@
 //! A group of members over one record: deliveries, checkpoints, strikes and recoveries, each of which keeps the record sound.
 #![tactic(auto)]
 
+mod answers;
 mod checkpoint;
-mod commit;
-mod counts;
 mod crash;
-mod deliver;
+mod delivery;
 mod dump;
 mod group;
 pub mod laws;
 mod readers;
-mod rebuilt;
-mod recover;
-mod replay;
-mod resend;
+mod recovery;
+mod refusals;
 mod start;
-mod step_laws;
 mod strike;
-mod ticket;
 
-pub use fbl_answers::{
-    CheckpointRefusal, CommitRefusal, CrashRecord, CrashRefusal, DeliverRefusal, DumpGroupRefusal,
-    Receipted, RecoverRefusal, Recovered, RecoveryRecord, StrikeRefusal, Struck, TakeRefusal,
-    TurnRecord,
-};
+pub use answers::{CrashRecord, Receipted, Recovered, RecoveryRecord, Struck, TurnRecord};
+pub use delivery::{Done, run_step};
 pub use fbl_trace::Ticket;
 pub use group::Group;
-pub use ticket::{Done, run_step};
+pub use refusals::{
+    CheckpointRefusal, CommitRefusal, CrashRefusal, DeliverRefusal, DumpGroupRefusal,
+    RecoverRefusal, StrikeRefusal, TakeRefusal,
+};

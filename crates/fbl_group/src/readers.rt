@@ -10,9 +10,11 @@ ghost use Rattle.fbl_law.specs.StepLaws.{weight_held, weight_flying};
 ghost use Rattle.fbl_law.specs.Promises.{SurvivorsHold, RecordsFirst, RecordsCauses};
 ghost use Rattle.fbl_law.specs.CrashFree.{LooksCrashFree};
 ghost use Rattle.fbl_group.specs.Readers.{is_quiet as is_quiet_now};
+ghost use Rattle.fbl_group.specs.Records.{CountsEach};
 ghost use Rattle.fbl_group.specs.Theorem.{HasNoOrphan, IsRecoverable};
 
 use crate::group::Group;
+use arrayvec::ArrayVec;
 use fbl_member::MemberRec;
 use fbl_table::Table;
 use fbl_trace::{Behaviour, Config, Event, Member, MemberSet, Note};
@@ -33,7 +35,9 @@ impl<B: Behaviour, A: Allocator + Copy> Group<B, A> {
     pub fn state(&self, member: Member) -> B::State
         requires { member < self.now.config.members }
         ensures value { result ≡ (record_of self.now member).state }
-        ensures causes { IsUp (knowledge self.now) member → result ≡ state_after B.next member self.now.config.members (received_notes self.now.trace member) }
+        ensures causes { IsUp (knowledge self.now) member
+            → result ≡ state_after B.next member self.now.config.members
+            (received_notes self.now.trace member) }
         ensures down { IsDown (knowledge self.now) member → result ≡ B.next.initial member self.now.config.members }
     {
         self.record(member).state()
@@ -53,6 +57,28 @@ impl<B: Behaviour, A: Allocator + Copy> Group<B, A> {
         ensures { result ≡ length (record_of self.now member).log }
     {
         self.record(member).sent()
+    }
+
+    /// How many messages each member has received, by its number, 0 if it is down.
+    pub fn received_each(&self) -> ArrayVec<u32, 16>
+        ensures { CountsEach self.now (λ m. (record_of self.now m).received) result.items }
+    {
+        let mut received = ArrayVec::new();
+        for number in 0..self.size() {
+            received.push(self.received(Member::at(number)));
+        }
+        received
+    }
+
+    /// How many messages each member has sent, by its number, 0 if it is down.
+    pub fn sent_each(&self) -> ArrayVec<u32, 16>
+        ensures { CountsEach self.now (λ m. length (record_of self.now m).log) result.items }
+    {
+        let mut sent = ArrayVec::new();
+        for number in 0..self.size() {
+            sent.push(self.sent(Member::at(number)));
+        }
+        sent
     }
 
     /// How many determinants the member holds, 0 if it is down. The member is one of the group.
@@ -157,7 +183,6 @@ impl<B: Behaviour, A: Allocator + Copy> Group<B, A> {
         self.trace.len() - 2 * self.receipt_count() as usize
     }
 
-    /// How many receipts the trace has: those ever made but those undone.
     pub(crate) fn receipt_count(&self) -> u64
         ensures { result ≡ length (receipts (marks self.now)) }
     {
@@ -178,7 +203,6 @@ impl<B: Behaviour, A: Allocator + Copy> Group<B, A> {
         self.undone_ever
     }
 
-    /// How many members there are.
     pub(crate) fn size(&self) -> u8
         ensures value { result ≡ self.now.config.members }
         ensures few { result ≤ 16 }
@@ -186,7 +210,6 @@ impl<B: Behaviour, A: Allocator + Copy> Group<B, A> {
         self.config.members()
     }
 
-    /// The member's record.
     pub(crate) fn record(&self, member: Member) -> &MemberRec<B::State, B::Note, A>
         requires { member < self.now.config.members }
         ensures value { result.now ≡ record_of self.now member }
@@ -195,8 +218,7 @@ impl<B: Behaviour, A: Allocator + Copy> Group<B, A> {
         &self.members[usize::from(member.number())]
     }
 
-    /// The member's checkpoint.
-    pub(crate) fn saved(&self, member: Member) -> &MemberRec<B::State, B::Note, A>
+    pub(crate) fn checkpoint_of(&self, member: Member) -> &MemberRec<B::State, B::Note, A>
         requires { member < self.now.config.members }
         ensures { result.now ≡ member_checkpoint self.now member }
     {

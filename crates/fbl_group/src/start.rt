@@ -4,8 +4,8 @@ ghost use Rattle.std.specs.Prelude.{◌≡◌, IfOk};
 ghost use Rattle.fbl_law.specs.GroupSteps.{IsGroupStart};
 
 use crate::group::Group;
+use fbl_channels::send_starts;
 use fbl_member::fresh_members;
-use fbl_parts::send_starts;
 use fbl_trace::{Behaviour, Config, MemberSet};
 use std::alloc::{AllocError, Allocator};
 use std::marker::PhantomData;

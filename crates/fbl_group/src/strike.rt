@@ -4,15 +4,19 @@ ghost use Rattle.std.specs.Prelude.{◌≡◌, ℕ, ◌<◌, ◌≤◌, [], IfOk
 ghost use Rattle.fbl_member.specs.Members.{blank};
 ghost use Rattle.fbl_law.specs.Promises.{SurvivorsHold, RecordsFirst, RecordsCauses};
 ghost use Rattle.fbl_law.specs.Groups.{HasChannels, knowledge};
-ghost use Rattle.fbl_parts.specs.Channels.{rows, AreReplaced};
+ghost use Rattle.fbl_channels.specs.Channels.{rows, AreReplaced};
 ghost use Rattle.fbl_group.specs.Strikes.{strike_refusal, Strikes, AreRecordsReplaced, is_within, lost_receipts};
 ghost use Rattle.fbl_group.specs.Theorem.{HasNoOrphan};
 
+mod lost;
+
+use crate::answers::Struck;
 use crate::group::Group;
-use fbl_answers::{StrikeRefusal, Struck};
+use crate::refusals::StrikeRefusal;
+use fbl_channels::{Channels, has_either};
 use fbl_member::MemberRec;
-use fbl_parts::{Channels, count_lost, has_either, lost_among};
 use fbl_trace::{Behaviour, Content, Determinant, Member, MemberSet};
+use lost::{count_lost, lost_among};
 use std::alloc::{AllocError, Allocator};
 
 impl<B: Behaviour, A: Allocator + Copy> Group<B, A> {
@@ -21,7 +25,8 @@ impl<B: Behaviour, A: Allocator + Copy> Group<B, A> {
     /// named again. Checkpoints stay. The answer counts all receipts that are lost then: those that neither the table of a
     /// survivor nor a checkpoint has. It takes no memory. After a refusal the group is unchanged.
     pub fn strike(&mut self, set: MemberSet) -> Result<Struck, StrikeRefusal>
-        ensures struck { IfOk result (λ answer. (strike_refusal self.old set ≡ None) × Strikes B.next self.old self.new set answer) }
+        ensures struck { IfOk result (λ answer. (strike_refusal self.old set ≡ None)
+            × Strikes B.next self.old self.new set answer) }
         ensures refused { IfErr result (λ refusal. strike_refusal self.old set ≡ Some refusal) }
         ensures unchanged { OnErr result (self.new ≡ self.old) }
         ensures no_orphan { HasNoOrphan self.new }
@@ -52,7 +57,6 @@ impl<B: Behaviour, A: Allocator + Copy> Group<B, A> {
         lost_among(alloc, &self.members, &self.checkpoints, &self.trace)
     }
 
-    /// Whether these members may be struck.
     #[tactic(auto, using(std::proofs::lemmas::Bool::Decides::nat_tests))]
     fn allow_strike(&self, set: MemberSet) -> Result<(), StrikeRefusal>
         ensures allowed { OnOk result (strike_refusal self.now set ≡ None) }
@@ -71,14 +75,12 @@ impl<B: Behaviour, A: Allocator + Copy> Group<B, A> {
     }
 }
 
-/// Whether each of these members is below `n`.
 fn are_within(set: MemberSet, n: u8) -> bool
     ensures { result ≡ is_within set n }
 {
     set.within(n)
 }
 
-/// Makes the records of the members named blank, of `n`: each is in its member's first state.
 fn blank_members<B: Behaviour, A: Allocator + Copy>(
     members: &mut Vec<MemberRec<B::State, B::Note, A>, A>,
     set: MemberSet,
@@ -100,7 +102,6 @@ fn blank_members<B: Behaviour, A: Allocator + Copy>(
     }
 }
 
-/// Makes the member's record blank.
 fn make_blank<S: Copy, N: Content, A: Allocator + Copy>(
     member: &mut MemberRec<S, N, A>,
     alloc: A,
@@ -112,7 +113,6 @@ fn make_blank<S: Copy, N: Content, A: Allocator + Copy>(
     *member = MemberRec::blank(alloc, f, first);
 }
 
-/// Drops the messages in flight with an end among the members named, of `n`.
 fn drop_at<N: Copy, A: Allocator>(channels: &mut Channels<N, A>, set: MemberSet, n: u8)
     requires shape { HasChannels n (rows channels.old) }
     requires few { n ≤ 16 }

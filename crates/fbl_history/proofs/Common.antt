@@ -23,9 +23,9 @@ pub use Rattle.fbl_trace.specs.declared.trace.Determinant.{Determinant}
 pub use Rattle.fbl_group.proofs.Striking.{within-below}
 pub use Rattle.fbl_group.specs.Records.{CrashLeads, StrikeLeads, TurnLeads, TurnsLead}
 pub use Rattle.fbl_group.proofs.Common.{strike_refusal, group_delivery_keeps, group_strike_keeps, down_or_up, up_if_none}
-pub use Rattle.fbl_answers.specs.declared.record.CrashRecord.{CrashRecord}
-pub use Rattle.fbl_answers.specs.declared.record.RecoveryRecord.{RecoveryRecord}
-pub use Rattle.fbl_answers.specs.declared.record.TurnRecord.{TurnRecord}
+pub use Rattle.fbl_group.specs.declared.answers.CrashRecord.{CrashRecord}
+pub use Rattle.fbl_group.specs.declared.answers.RecoveryRecord.{RecoveryRecord}
+pub use Rattle.fbl_group.specs.declared.answers.TurnRecord.{TurnRecord}
 pub use Rattle.fbl_trace.specs.declared.trace.Event.{Event}
 pub use Rattle.fbl_trace.specs.declared.trace.Mark.{Mark}
 pub use Rattle.fbl_trace.specs.declared.trace.Note.{Note}
@@ -44,3 +44,20 @@ pub use Rattle.fbl_history.specs.Turns.{IsAfterCrash, IsAfterRecoveryRecord, IsA
 pub use Rattle.fbl_history.specs.Traces.{CountsAsBefore, IsAfterRecovery, IsHistoryOf, IsRecoveryColumn, event_column, go_on_to, replay_of, replays_of, send_column, start_columns, state_after_receipt, trace_columns}
 pub use Rattle.fbl_history.specs.declared.column.Column.{Column}
 pub use Rattle.fbl_history.specs.declared.column.Column.TheVariants.{Checkpoint, Receipt, Recovery, Send, Strike}
+pub use Rattle.std.proofs.Common.{◌||◌, Decides, ◌≢◌, ◌↔◌, max}
+pub use Rattle.std.proofs.lemmas.Bool.{not-false, cases_lt, le-ltb, lt-ltb, ne_eqb, or_left, or_right}
+pub use Rattle.std.proofs.lemmas.Bool.Decides.{Decides-and, Decides-eqb, Decides-not, Decides-or}
+pub use Rattle.std.proofs.lemmas.List.Sums.{fold_push}
+pub use Rattle.std.specs.Bool.{beq}
+pub use Rattle.std.specs.Cmp.{booleans_Decides}
+pub use Rattle.std.specs.List.{flat_map, fold}
+pub use Rattle.std.specs.Option.{option_to_list}
+pub use Rattle.std.specs.Prelude.{◌*◌, ◌/◌, nat_lt}
+pub use Rattle.fbl_trace.specs.Events.{same_message}
+pub use Rattle.fbl_trace.specs.declared.trace.MessageName.{MessageName}
+pub use Rattle.fbl_history.specs.Arrows.{arrow_from, back_before, has_standing_receipt, last_before, last_sent, later, receipt_arrow, sent_before, stub, stub_where, arrow_between, arrow_kind, is_comeback, sends}
+pub use Rattle.fbl_history.specs.Marks.{column_marks, event_mark, recovery_mark, strike_mark}
+pub use Rattle.fbl_history.specs.MemberLines.{brings_back, history_member_shapes, is_back, is_down_after, line_parts, members_shapes, strikes}
+pub use Rattle.fbl_history.specs.Names.{label_and_names}
+pub use Rattle.fbl_history.specs.Shapes.{drawn, line_kind_of}
+pub use Rattle.fbl_history.specs.declared.shape.Shape.{Shape}

@@ -10,3 +10,6 @@ pub mod Deliveries
 pub mod Steps
 pub mod Recoveries
 pub mod Turning
+pub mod Lasts
+pub mod Layers
+pub mod ShapeLaws

@@ -6,9 +6,9 @@ use Rattle.fbl_trace.specs.Configs.{Settings}
 use Rattle.fbl_trace.specs.Fold.{Next}
 use Rattle.fbl_trace.specs.MemberSets.{Members}
 use Rattle.fbl_trace.specs.Steps.{SendsWell}
-use Rattle.fbl_answers.specs.declared.record.CrashRecord.{CrashRecord}
-use Rattle.fbl_answers.specs.declared.record.RecoveryRecord.{RecoveryRecord}
-use Rattle.fbl_answers.specs.declared.record.TurnRecord.{TurnRecord}
+use Rattle.fbl_group.specs.declared.answers.CrashRecord.{CrashRecord}
+use Rattle.fbl_group.specs.declared.answers.RecoveryRecord.{RecoveryRecord}
+use Rattle.fbl_group.specs.declared.answers.TurnRecord.{TurnRecord}
 use Rattle.fbl_group.specs.Records.{TurnsLead}
 use Rattle.fbl_law.specs.Groups.{GroupRecord, IsSound}
 use Rattle.fbl_law.specs.GroupSteps.{IsCheckpoint, IsDelivery, IsGroupStart, IsRecovery, IsStrike}

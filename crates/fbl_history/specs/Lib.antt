@@ -3,3 +3,10 @@ pub mod Traces
 pub mod Replays
 pub mod Turns
 pub mod Laws
+pub mod Shapes
+pub mod Names
+pub mod MemberLines
+pub mod Arrows
+pub mod Marks
+pub mod HistoryShapes
+pub mod ShapeLaws

@@ -6,9 +6,9 @@ use Rattle.fbl_trace.specs.declared.outcome.Outcome.{Outcome}
 use Rattle.fbl_trace.specs.declared.ticket.Ticket.{Ticket}
 use Rattle.fbl_trace.specs.Fold.{Next, step_events}
 use Rattle.fbl_trace.specs.MemberSets.{Members}
-use Rattle.fbl_answers.specs.declared.record.CrashRecord.{CrashRecord}
-use Rattle.fbl_answers.specs.declared.record.RecoveryRecord.{RecoveryRecord}
-use Rattle.fbl_answers.specs.declared.record.TurnRecord.{TurnRecord}
+use Rattle.fbl_group.specs.declared.answers.CrashRecord.{CrashRecord}
+use Rattle.fbl_group.specs.declared.answers.RecoveryRecord.{RecoveryRecord}
+use Rattle.fbl_group.specs.declared.answers.TurnRecord.{TurnRecord}
 use Rattle.fbl_group.specs.Records.{TurnsLead}
 use Rattle.fbl_law.specs.Groups.{GroupRecord, IsSound}
 use Rattle.fbl_history.specs.declared.column.Column.{Column}

@@ -2,6 +2,9 @@
 
 ghost use Rattle.fbl_history.specs.Laws.{StandingIsTrace, NothingComesBack, OthersAreUndone, TraceHasEachOnce};
 ghost use Rattle.fbl_history.specs.Laws.{BeginsAtStart, FollowsCheckpoints, FollowsDeliveries, FollowsRecoveries, FollowsStrikes, FollowsTurns};
+ghost use Rattle.fbl_history.specs.ShapeLaws.{HasArrowFromItsSend, IsDashedWhileDown, MarksEachEvent};
+
+use crate::history::History;
 
 /// After a history has gone on to a group, its events that are not undone are exactly the group's trace, in order. Nothing
 /// that stood before it changes but that events become undone, and none that is undone comes back.
@@ -31,3 +34,18 @@ pub fn following_law()
     ensures recoveries { FollowsRecoveries }
     ensures turns { FollowsTurns }
 {}
+
+/// Of every history that can be made, and so many members: each event that stands has one mark in its column, each undone one its
+/// crossed mark; each receipt has one arrow, which comes from the last send of its message before it, or from a recovery between
+/// the two that sent it again; and each member's line is dashed exactly from its strike to its recovery. The shapes are those
+/// of the picture of a history.
+pub fn shapes_law(history: &History, members: u8)
+    ensures events { MarksEachEvent history.now }
+    ensures messages { HasArrowFromItsSend members history.now }
+    ensures lines { IsDashedWhileDown members history.now }
+{
+    // the contract alone says how many members have a line
+    let _members = members;
+    // and each receipt of a history comes after a send of its message
+    history.columns();
+}

@@ -3,6 +3,7 @@ pub use Rattle.std.proofs.Common.{length-drop, length-take, map, option_and_then
 pub use Rattle.std.proofs.Math.Seq.{take-add}
 pub use Rattle.fbl_trace.proofs.Common.{common_steps, length-map, take_all, nat_cmp_total, nat_cmp}
 pub use Rattle.std.proofs.lemmas.Option.{slice_get-get_or, slice_get-map}
+pub use Rattle.std.proofs.lemmas.Result.{IfOk-weaker}
 pub use Rattle.std.proofs.lemmas.Str.{IsUtf8-from_is_utf8, is_utf8-from_IsUtf8}
 pub use Rattle.std.specs.Io.KnownBytes.{Appends, Consumes, IsAtEnd, Keeps}
 pub use Rattle.std.specs.List.{find}
@@ -15,14 +16,13 @@ pub use Rattle.serde_json.specs.Find.{get}
 pub use Rattle.serde_json.specs.Read.{read}
 pub use Rattle.serde_json.specs.View.{items_of, members_view, view}
 pub use Rattle.serde_json.specs.declared.value.Value.{Value}
-pub use Rattle.fbl_input.specs.Misfits.{Gives, IsFirstOther, IsMisfit, IsOfShape, run_fault}
-pub use Rattle.fbl_input.specs.Shapes.{Fails, all_shaped, as_list, elements, field, is_key_of, json_of, list_of, longest, member_shape, name_of, or_fault, other_key, value_of_input, ◌>>=◌}
-pub use Rattle.fbl_input.specs.declared.fault.Key.{Key}
+pub use Rattle.fbl_input.specs.Shapes.{Fails, Gives, all_shaped, as_list, count_shape, elements, field, is_key_of, json_of, list_of, longest, member_shape, name_of, number_within, or_fault, other_key, value_of_input, ◌>>=◌}
+pub use Rattle.fbl_input.specs.declared.key.Key.{Key}
 pub use Rattle.fbl_input.specs.declared.fault.RunFault.{RunFault}
 pub use Rattle.fbl_input.specs.declared.fault.RunFault.TheVariants.{NotJson}
-pub use Rattle.fbl_input.specs.Faults.{HasInput, IsFaultOf, IsFirstFault, IsReadFault, IsUnread, OverInput, PutsOut, run_result}
-pub use Rattle.fbl_input.specs.declared.misfit.InputKind.{InputKind}
-pub use Rattle.fbl_input.specs.declared.misfit.Misfit.{Misfit}
+pub use Rattle.fbl_input.specs.Faults.{HasInput, IsFaultOf, IsFirstFault, IsUnread, OverInput, PutsOut, run_result}
+pub use Rattle.fbl_input.specs.declared.input_fault.InputFault.{InputFault}
+pub use Rattle.fbl_input.specs.declared.kind.InputKind.{InputKind}
 pub use Rattle.fbl_input.specs.declared.output.OutputFault.{OutputFault}
 pub use Rattle.json.proofs.Numbered.{HasNumbers-at, HasNumbers-get}
 pub use Rattle.json.specs.Json.{Json}

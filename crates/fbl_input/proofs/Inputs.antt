@@ -1,5 +1,5 @@
--- What is done over an input that a reader has, and the fault of one whose shape is right.
-use Rattle.fbl_input.proofs.Common.{Data, InputKind, IsFaultOf, IsFirstFault, IsMisfit, Misfit, run_fault, subst, ◌≡◌, ℕ, inl, inr, List, Option, Some, None, Result, Ok, Err, IfSome, IsErrAnd, RunFault, OutputFault, run_result, OverInput}
+-- What is done over an input that a reader has.
+use Rattle.fbl_input.proofs.Common.{◌≡◌, ℕ, inl, inr, List, Option, Some, None, Result, Ok, Err, IfSome, IsErrAnd, RunFault, OutputFault, run_result, OverInput}
 use Rattle.fbl_input.proofs.Outputs.{keeps_itself}
 
 module _ {X A : Type 0} (IsInput : List ℕ → X → Type 0) (IsFault : List ℕ → RunFault → Type 0) (Does : X → Result A OutputFault → Type 0) (before after : Option (List ℕ)) where
@@ -19,12 +19,3 @@ pub over_fault : {X A : Type 0} (IsInput : List ℕ → X → Type 0) (IsFault :
 over_fault IsInput IsFault Does before None fault result is same = tt
 over_fault IsInput IsFault Does before (Some input) fault (Ok x) is same = absurd same
 over_fault IsInput IsFault Does before (Some input) fault (Err e) is same = inr (rw same (is, keeps_itself before))
-
--- what the input gives is refused
-pub refused : {A : Type 0} (kind : InputKind) (asked : Result A RunFault) (Refuses : A → RunFault → Type 0) (IsOf : A → Misfit → Type 0) (input : List ℕ) (misfit : Misfit) (a : A)
-    → asked ≡ Ok a → IsFirstFault asked Refuses (run_fault misfit) → ((d : Data) → IsMisfit kind d misfit) → IsOf a misfit → IsFaultOf kind asked Refuses IsOf input misfit
-refused kind asked Refuses IsOf input misfit a is first says of = record {
-  first = first;
-  value = λ d _. says d;
-  given = λ x e. (let same : a ≡ x = cc in subst (λ b. IsOf b misfit) same of);
-}

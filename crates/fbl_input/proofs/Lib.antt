@@ -3,3 +3,4 @@ pub mod Lists
 pub mod Firsts
 pub mod Outputs
 pub mod Inputs
+pub mod Unread

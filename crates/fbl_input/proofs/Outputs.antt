@@ -36,6 +36,11 @@ keeps_itself (Some xs) = refl
 
 -- ---- answers
 
+-- nothing is put out where there is no memory
+pub puts_none : {A : Type 0} (IsRight : A → List ℕ → Type 0) (known : Option (List ℕ)) (r : Result A OutputFault) → IsErrAnd r (λ e. e ≡ outputs.Memory) → PutsOut IsRight known known r
+puts_none IsRight known (Ok x) same = absurd same
+puts_none IsRight known (Err e) same = rw same (keeps_itself known)
+
 -- a prefix, and the fault is passed on
 pub puts_front : {A : Type 0} (IsRight : A → List ℕ → Type 0) (x : A) (text : List ℕ) → IsRight x text → (before after : Option (List ℕ)) (f : OutputFault) (r : Result A OutputFault)
     → IsErrAnd r (λ e. e ≡ f) → (n : ℕ) × (n < length text) × Appends before after (take n text) → f ≡ outputs.Write → PutsOut IsRight before after r
@@ -48,6 +53,13 @@ pub puts_text : (IsText : Unit {0} → List ℕ → Type 0) (text : List ℕ) �
     → PutsOut IsText before after r
 puts_text IsText text is before after (Ok x) whole front fault = (text, is, whole)
 puts_text IsText text is before after (Err f) whole front fault = puts_front IsText tt text is before after f (Err f) refl front fault
+
+-- an answer that is right is right in another way
+pub puts_right : {A : Type 0} (IsRight IsSeen : A → List ℕ → Type 0) → ((x : A) (text : List ℕ) → IsRight x text → IsSeen x text) → (before after : Option (List ℕ))
+    (r : Result A OutputFault) → PutsOut IsRight before after r → PutsOut IsSeen before after r
+puts_right IsRight IsSeen right before after (Ok x) (text, is, appends) = (text, right x text is, appends)
+puts_right IsRight IsSeen right before after (Err outputs.Write) (x, text, part, is, short, appends) = (x, text, part, right x text is, short, appends)
+puts_right IsRight IsSeen right before after (Err outputs.Memory) keeps = keeps
 
 -- an answer that was cut off, seen as another that is right where it is
 pub puts_as : {A B : Type 0} (IsRight : A → List ℕ → Type 0) (IsSeen : B → List ℕ → Type 0) (f : A → B) → ((x : A) (text : List ℕ) → IsRight x text → IsSeen (f x) text)

@@ -1,5 +1,7 @@
 pub mod Shapes
 pub mod Items
-pub mod Misfits
+pub mod Forms
 pub mod Faults
-pub mod Written
+pub mod Explanations
+pub mod Lines
+pub mod Sources

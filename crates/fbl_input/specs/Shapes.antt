@@ -7,8 +7,8 @@ use Rattle.std.specs.FinSet as set
 use Rattle.serde_json.specs.Data.{Data, Items, no_items, item, Members, no_members, member}
 use Rattle.serde_json.specs.Read.{read}
 use Rattle.serde_json.specs.Find.{get, as_number, as_u64, as_str, as_array}
-use Rattle.fbl_input.specs.declared.fault.Key.{Key}
-use Rattle.fbl_input.specs.declared.fault.Key.TheVariants as keys
+use Rattle.fbl_input.specs.declared.key.Key.{Key}
+use Rattle.fbl_input.specs.declared.key.Key.TheVariants as keys
 use Rattle.fbl_input.specs.declared.fault.RunFault.{RunFault}
 use Rattle.fbl_input.specs.declared.fault.RunFault.TheVariants as faults
 
@@ -29,6 +29,11 @@ or_fault e (Some a) = Ok a
 abbrev pub Fails : {Y : Type 0} → RunFault → Result Y RunFault → Type 0
 Fails faults.Memory asked = Unit {0}
 Fails e asked = asked ≡ Err e
+
+-- what a function returned, seen by view, is what is asked, unless memory ran out
+abbrev pub Gives : {X Y : Type 0} → (X → Y) → Result X RunFault → Result Y RunFault → Type 0
+Gives view (Ok x) asked = asked ≡ Ok (view x)
+Gives view (Err e) asked = Fails e asked
 
 -- ---- the input
 

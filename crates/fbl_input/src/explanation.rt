@@ -4,29 +4,56 @@ ghost use Rattle.std.specs.Prelude.{◌≡◌, IfNone, IfOk, IfSome, option_map,
 ghost use Rattle.json.specs.Print.{print};
 ghost use Rattle.json.specs.Tree.{HasNumbers, json_tokens};
 ghost use Rattle.json.specs.Value.{value_view};
-ghost use Rattle.fbl_input.specs.Faults.{IsUnexplained};
-ghost use Rattle.fbl_input.specs.Misfits.{run_fault};
-ghost use Rattle.fbl_input.specs.Written.{IsWrittenIn, IsWrittenOf, kind_of, part_at};
+ghost use Rattle.serde_json.specs.View.{view};
+ghost use Rattle.fbl_input.specs.Explanations.{IsCommandDetail, IsDetail, IsDetailIn, IsFieldDetail, IsUnexplained, IsWritten, kind_of, part_at};
+ghost use Rattle.fbl_input.specs.Items.{unknown_key};
 
-use crate::fault::{Key, RunFault};
+use crate::command_form::{MOST_COMMANDS, Wanted};
+use crate::fault::RunFault;
 use crate::input_fault::InputFault;
-use crate::misfit::{InputKind, Misfit};
+use crate::items::bad_place;
+use crate::key::Key;
+use crate::kind::InputKind;
 use crate::not_json::Stop;
+use crate::shapes::unknown_key_in;
 use crate::shown::ShownText;
-use json::{Scratch, Value, to_vec};
+use json::Scratch;
+use serde_json::{Error as JsonError, Value};
 use std::alloc::{AllocError, Global};
 use std::fmt;
 
 /// What is told of an input beside its fault.
 #[derive(Drop)]
 enum Detail {
+    /// Nothing: the fault or the broken rule says all.
     Nothing,
     /// It is an input of this kind, and not of the one that is wanted.
     OtherKind(InputKind),
-    /// This stands at the place, as it is written.
-    Written(String),
-    /// It is no JSON: what stands where the reader of JSON stopped.
-    NotJson(Stop),
+    /// It is no JSON: what the reader of JSON says of it, and what stands where that stopped.
+    NotJson(JsonError, Stop),
+    /// It is no object, but this.
+    NotObject(Option<String>),
+    /// Nothing stands at the key. The first key that is unknown may be what was meant.
+    Missing {
+        key: Key,
+        unknown: Option<String>,
+    },
+    /// At the key, or at a place of the list there, the first such, stands this, and not what is wanted.
+    Wrong {
+        key: Key,
+        place: Option<usize>,
+        found: Option<String>,
+    },
+    /// There is a command at place 1024.
+    TooManyCommands,
+    /// At the place of the commands, the first such, stands this, and no command.
+    WrongCommand {
+        place: usize,
+        wanted: Wanted,
+        found: Option<String>,
+    },
+    /// The first key that one of its kind may not have.
+    Unknown(String),
 }
 
 /// Why an input is not taken, in words for a person.
@@ -37,8 +64,8 @@ pub struct Explanation<'a> {
 }
 
 /// The kind of an input that has the list of a script, commands, or that of a dump of either version, events, and not both.
-fn kind_in(value: &Value<'_>) -> Option<InputKind>
-    ensures { result ≡ kind_of (value_view value.now) }
+fn kind_in(value: &Value) -> Option<InputKind>
+    ensures { result ≡ kind_of (view value.now) }
 {
     let has_commands = value.get(Key::Commands.name()).is_some();
     let has_events = value.get(Key::Events.name()).is_some();
@@ -49,70 +76,147 @@ fn kind_in(value: &Value<'_>) -> Option<InputKind>
     }
 }
 
-/// What stands at the place of the fault, where it names one.
-fn found_at<'v, 'a>(value: &'v Value<'a>, misfit: &Misfit) -> Option<&'v Value<'a>>
-    ensures { option_map (λ found. value_view found.now) result ≡ part_at misfit.now (value_view value.now) }
-{
-    match misfit {
-        Misfit::NotObject => Some(value),
-        Misfit::BadValue(key) => value.get(key.name()),
-        Misfit::BadItem { key, place } => value.get(key.name())?.at(*place),
-        Misfit::BadCommand { place, .. } => value.get(Key::Commands.name())?.at(*place),
-        _ => None,
-    }
-}
-
 /// The text of a value, without spaces, with each number as it was written.
-fn text_of(alloc: Global, value: &Value<'_>) -> Result<String, AllocError>
+fn text_of(alloc: Global, value: &json::Value<'_>) -> Result<String, AllocError>
     requires { HasNumbers (value_view value.now) }
     ensures { IfOk result (λ text. string_bytes text ≡ print (json_tokens (value_view value.now))) }
 {
-    let bytes = to_vec(alloc, value)?;
+    let bytes = json::to_vec(alloc, value)?;
     match String::from_utf8(bytes) {
         Ok(text) => Ok(text),
         Err(_) => Ok(String::new(alloc)),
     }
 }
 
-/// What is told of the input that has this value.
-fn detail_in(
+/// The part of the value at the key, if there is one, and at the place there, if there is one.
+fn part_in<'v, 'a>(
+    value: &'v json::Value<'a>,
+    key: Option<Key>,
+    place: Option<usize>,
+) -> Option<&'v json::Value<'a>>
+    ensures { option_map (λ part. value_view part.now) result ≡ part_at key place (value_view value.now) }
+{
+    match (key, place) {
+        (Some(key), Some(place)) => value.get(key.name())?.at(place),
+        (Some(key), None) => value.get(key.name()),
+        (None, Some(place)) => value.at(place),
+        (None, None) => Some(value),
+    }
+}
+
+/// What stands there in the input, as it is written.
+fn written_at(
     alloc: Global,
-    kind: InputKind,
-    value: &Value<'_>,
-    misfit: &Misfit,
+    input: &[u8],
+    key: Option<Key>,
+    place: Option<usize>,
+) -> Result<Option<String>, AllocError>
+    ensures { IfOk result (IsWritten input.now key place) }
+{
+    let mut scratch = Scratch::new(alloc);
+    match json::Value::from_slice(alloc, input, &mut scratch) {
+        Ok(value) => match part_in(&value, key, place) {
+            Some(part) => Ok(Some(text_of(alloc, part)?)),
+            None => Ok(None),
+        },
+        Err(json::Error::Invalid) => Ok(None),
+        Err(_) => Err(AllocError),
+    }
+}
+
+/// The first key of the value that an input of this kind may not have.
+fn unknown_in(alloc: Global, kind: InputKind, value: &Value) -> Result<Option<String>, AllocError>
+    ensures { IfOk result (λ name. option_map string_bytes name ≡ unknown_key kind (view value.now)) }
+{
+    match unknown_key_in(kind, value) {
+        Some(name) => Ok(Some(String::from_str(alloc, name.as_str())?)),
+        None => Ok(None),
+    }
+}
+
+/// What is told of a bad field.
+fn field_detail(
+    alloc: Global,
+    fault: &InputFault,
+    value: &Value,
+    key: Key,
 ) -> Result<Detail, AllocError>
-    requires { HasNumbers (value_view value.now) }
-    ensures { IfOk result (IsWrittenOf kind misfit.now (value_view value.now)) }
+    ensures { IfOk result (IsFieldDetail fault.now.kind fault.now.input.items (view value.now) key) }
+{
+    if value.get(key.name()).is_none() {
+        let unknown = unknown_in(alloc, fault.kind, value)?;
+        return Ok(Detail::Missing { key, unknown });
+    }
+    let place = bad_place(fault.kind, key, value);
+    let found = written_at(alloc, fault.input.as_slice(), Some(key), place)?;
+    Ok(Detail::Wrong { key, place, found })
+}
+
+/// What is told of a bad command.
+fn command_detail(
+    alloc: Global,
+    fault: &InputFault,
+    value: &Value,
+    place: usize,
+) -> Result<Detail, AllocError>
+    ensures { IfOk result (IsCommandDetail fault.now.input.items (view value.now) place) }
+{
+    if place >= MOST_COMMANDS {
+        return Ok(Detail::TooManyCommands);
+    }
+    let wanted = Wanted::at(value, place);
+    let found = written_at(
+        alloc,
+        fault.input.as_slice(),
+        Some(Key::Commands),
+        Some(place),
+    )?;
+    Ok(Detail::WrongCommand {
+        place,
+        wanted,
+        found,
+    })
+}
+
+/// What is told of the input of the fault that has this value.
+fn detail_in(alloc: Global, fault: &InputFault, value: &Value) -> Result<Detail, AllocError>
+    ensures { IfOk result (IsDetail fault.now (view value.now)) }
 {
     match kind_in(value) {
-        Some(other) if other.is_script() != kind.is_script() => {
+        Some(other) if other.is_script() != fault.kind.is_script() => {
             return Ok(Detail::OtherKind(other));
         }
         _ => (),
     }
-    match found_at(value, misfit) {
-        Some(found) => Ok(Detail::Written(text_of(alloc, found)?)),
-        None => Ok(Detail::Nothing),
+    match fault.fault {
+        RunFault::NotObject => {
+            Ok(Detail::NotObject(written_at(alloc, fault.input.as_slice(), None, None)?))
+        }
+        RunFault::BadField(key) => field_detail(alloc, fault, value, key),
+        RunFault::BadCommand(place) => command_detail(alloc, fault, value, place),
+        RunFault::UnknownKey => match unknown_in(alloc, fault.kind, value)? {
+            Some(name) => Ok(Detail::Unknown(name)),
+            None => Ok(Detail::Nothing),
+        },
+        _ => Ok(Detail::Nothing),
     }
 }
 
 /// What is told of the input of the fault.
 fn detail_of(alloc: Global, fault: &InputFault) -> Result<Detail, AllocError>
-    ensures { IfOk result (IsWrittenIn fault.now.kind fault.now.misfit fault.now.input.items) }
+    ensures { IfOk result (IsDetailIn fault.now) }
 {
-    let input = fault.input.as_slice();
-    match &fault.misfit {
-        Misfit::TooLong => return Ok(Detail::Nothing),
-        Misfit::NotJson(error) => {
-            return Ok(Detail::NotJson(Stop::of(alloc, input, error)?));
-        }
-        _ => (),
+    if let RunFault::TooLong = fault.fault {
+        return Ok(Detail::Nothing);
     }
-    let mut scratch = Scratch::new(alloc);
-    match Value::from_slice(alloc, input, &mut scratch) {
-        Ok(value) => detail_in(alloc, fault.kind, &value, &fault.misfit),
-        Err(json::Error::Invalid) => Ok(Detail::Nothing),
-        Err(_) => Err(AllocError),
+    let input = fault.input.as_slice();
+    match Value::from_slice(alloc, input) {
+        Ok(value) => detail_in(alloc, fault, &value),
+        Err(error) if error.is_memory() => Err(AllocError),
+        Err(error) => {
+            let stop = Stop::of(alloc, input, &error)?;
+            Ok(Detail::NotJson(error, stop))
+        }
     }
 }
 
@@ -121,11 +225,11 @@ impl InputFault {
     /// and want of memory have no more to tell. `Err` comes only where there is no memory for the words.
     pub fn explanation(&self, alloc: Global) -> Result<Option<Explanation<'_>>, AllocError>
         ensures own { IfOk result (λ found. IfSome found (λ explanation. explanation.fault.now ≡ self.now)) }
-        ensures written { IfOk result (λ found. IfSome found (λ explanation. IsWrittenIn self.now.kind self.now.misfit self.now.input.items explanation.detail)) }
-        ensures none { IfOk result (λ found. IfNone found (IsUnexplained (run_fault self.now.misfit))) }
+        ensures detail { IfOk result (λ found. IfSome found (λ explanation. IsDetailIn self.now explanation.detail)) }
+        ensures none { IfOk result (λ found. IfNone found (IsUnexplained self.now.fault)) }
     {
-        match self.misfit.fault() {
-            RunFault::Read | RunFault::Memory => Ok(None),
+        match self.fault {
+            RunFault::Read | RunFault::Write | RunFault::Memory => Ok(None),
             _ => {
                 let detail = detail_of(alloc, self)?;
                 Ok(Some(Explanation {
@@ -168,68 +272,75 @@ fn write_missing<W: fmt::Write>(
     }
 }
 
-/// Writes what is found at the place, if it is one in a list, and what is wanted there.
-fn write_wrong<W: fmt::Write>(
-    f: &mut fmt::Formatter<W>,
-    name: &str,
-    place: Option<usize>,
-    found: ShownText<'_>,
-    wanted: &str,
-) -> fmt::Result {
-    match place {
-        Some(place) => write!(f, "{name} {place} is {found}, and must be {wanted}"),
-        None => write!(f, "{name} is {found}, and must be {wanted}"),
+/// What is found somewhere, if it could be read again.
+fn shown(found: &Option<String>) -> ShownText<'_> {
+    match found {
+        Some(text) => ShownText(text.as_str()),
+        None => ShownText("another value"),
     }
 }
 
-/// Writes the fault, with what stands at its place.
-fn write_misfit<W: fmt::Write>(
+/// Writes what is found at the key, or at the place of the list there, and what is wanted.
+fn write_wrong<W: fmt::Write>(
     f: &mut fmt::Formatter<W>,
-    fault: &InputFault,
-    found: &str,
+    kind: InputKind,
+    key: Key,
+    place: Option<usize>,
+    found: ShownText<'_>,
 ) -> fmt::Result {
-    let found = ShownText(found);
-    let kind = fault.kind;
-    match &fault.misfit {
-        Misfit::TooLong => {
+    match place {
+        Some(place) => {
+            let (name, wanted) = kind.wanted_item(key);
+            write!(f, "{name} {place} is {found}, and must be {wanted}")
+        }
+        None => {
+            let wanted = kind.wanted_at(key);
+            write!(f, "{key} is {found}, and must be {wanted}")
+        }
+    }
+}
+
+/// Writes the rule that is broken.
+fn write_rule<W: fmt::Write>(f: &mut fmt::Formatter<W>, fault: &InputFault) -> fmt::Result {
+    match (&fault.breach, fault.fault) {
+        (Some(breach), _) => fmt::Display::fmt(breach, f),
+        (None, RunFault::TooLong) => {
             f.write_str("the input has more than 1048576 bytes, and may have no more")
         }
-        Misfit::NotJson(error) => {
-            write!(
-                f,
-                "the input must be one JSON object, and is no JSON: {error}"
-            )
-        }
-        Misfit::NotObject => write!(f, "the input must be one JSON object, and is {found}"),
-        Misfit::MissingKey { key, unknown } => write_missing(f, kind, *key, unknown.as_ref()),
-        Misfit::BadValue(key) => write_wrong(f, key.name(), None, found, kind.wanted_at(*key)),
-        Misfit::BadItem { key, place } => {
-            let (name, wanted) = kind.wanted_item(*key);
-            write_wrong(f, name, Some(*place), found, wanted)
-        }
-        Misfit::TooManyCommands => {
-            f.write_str("command 1024 is one too many: there may be 1024, numbered from 0")
-        }
-        Misfit::BadCommand { place, wanted } => {
-            write_wrong(f, "command", Some(*place), found, wanted.words())
-        }
-        Misfit::UnknownKey(name) => write!(f, "the key {name:?} is unknown: {kind}"),
-        Misfit::Config(_, breach) | Misfit::Dump(_, breach) => fmt::Display::fmt(breach, f),
-        Misfit::Log(_, breach) => fmt::Display::fmt(breach, f),
-        Misfit::Read | Misfit::Memory => fmt::Display::fmt(fault, f),
+        (None, other) => write!(f, "{other}"),
     }
 }
 
 impl fmt::Display for Explanation<'_> {
     fn fmt<W: fmt::Write>(&self, f: &mut fmt::Formatter<W>) -> fmt::Result {
+        let kind = self.fault.kind;
         match &self.detail {
-            Detail::Nothing => write_misfit(f, self.fault, "another value"),
+            Detail::Nothing => write_rule(f, self.fault),
             Detail::OtherKind(found) => write_other_kind(f, *found),
-            Detail::Written(text) => write_misfit(f, self.fault, text.as_str()),
-            Detail::NotJson(stop) => {
-                write_misfit(f, self.fault, "")?;
-                fmt::Display::fmt(stop, f)
+            Detail::NotJson(error, stop) => write!(
+                f,
+                "the input must be one JSON object, and is no JSON: {error}{stop}"
+            ),
+            Detail::NotObject(found) => {
+                let found = shown(found);
+                write!(f, "the input must be one JSON object, and is {found}")
             }
+            Detail::Missing { key, unknown } => write_missing(f, kind, *key, unknown.as_ref()),
+            Detail::Wrong { key, place, found } => {
+                write_wrong(f, kind, *key, *place, shown(found))
+            }
+            Detail::TooManyCommands => f.write_str(
+                "command 1024 is one too many: there may be 1024, numbered from 0",
+            ),
+            Detail::WrongCommand {
+                place,
+                wanted,
+                found,
+            } => {
+                let found = shown(found);
+                write!(f, "command {place} is {found}, and must be {wanted}")
+            }
+            Detail::Unknown(name) => write!(f, "the key {name:?} is unknown: {kind}"),
         }
     }
 }

@@ -1,66 +1,15 @@
-//! The keys of scripts and dumps, and why one is not taken to its end.
+//! Why a script or a dump is not taken to its end.
 
 ghost use Rattle.std.specs.Prelude.{◌≡◌};
+ghost use Rattle.fbl_input.specs.declared.fault.RunFault.TheVariants.{Memory};
 
 use crate::input_fault::InputFault;
+use crate::key::Key;
 use crate::output::OutputFault;
 use fbl_dumps::DumpRefusal;
 use fbl_trace::ConfigRefusal;
-use std::fmt;
+use std::alloc::{AllocError, AllocFailed};
 use thiserror::Error;
-
-/// A key of a script or of a dump.
-#[derive(Clone, Copy, Debug, PartialEq, Eq)]
-pub enum Key {
-    /// `version`, of a script
-    Version,
-    /// `members`, of both
-    Members,
-    /// `f`, of both
-    F,
-    /// `behaviour`, of a script
-    Behaviour,
-    /// `limit`, of a script
-    Limit,
-    /// `start`, of a script
-    Start,
-    /// `commands`, of a script
-    Commands,
-    /// `events`, of a dump
-    Events,
-    /// `held`, of a dump
-    Held,
-    /// `strike`, of a dump
-    Strike,
-}
-
-impl Key {
-    ghost use Rattle.fbl_input.specs.Shapes.{name_of};
-
-    /// The key as it is spelled in JSON.
-    pub fn name(self) -> &'static str
-        ensures { result.now ≡ name_of self }
-    {
-        match self {
-            Key::Version => "version",
-            Key::Members => "members",
-            Key::F => "f",
-            Key::Behaviour => "behaviour",
-            Key::Limit => "limit",
-            Key::Start => "start",
-            Key::Commands => "commands",
-            Key::Events => "events",
-            Key::Held => "held",
-            Key::Strike => "strike",
-        }
-    }
-}
-
-impl fmt::Display for Key {
-    fn fmt<W: fmt::Write>(&self, f: &mut fmt::Formatter<W>) -> fmt::Result {
-        f.write_str(self.name())
-    }
-}
 
 /// Why a script or a dump was not taken to its end. The faults of the input are tested in the order in which they stand
 /// here, but for lack of memory, which may come before any of them. The message is the text of the fault.
@@ -101,13 +50,53 @@ pub enum RunFault {
     Memory,
 }
 
-impl From<InputFault> for RunFault {
-    ghost use Rattle.fbl_input.specs.Misfits.{run_fault};
+impl From<AllocError> for RunFault {
+    ghost from_gives = { λ _ e. e ≡ Memory };
 
-    ghost from_gives = { λ fault e. e ≡ run_fault fault.misfit };
+    fn from(_e: AllocError) -> RunFault {
+        RunFault::Memory
+    }
+}
+
+impl<T: Drop> From<AllocFailed<T>> for RunFault {
+    ghost from_gives = { λ _ e. e ≡ Memory };
+
+    fn from(_e: AllocFailed<T>) -> RunFault {
+        RunFault::Memory
+    }
+}
+
+impl From<ConfigRefusal> for RunFault {
+    ghost use Rattle.fbl_input.specs.Faults.{config_fault};
+
+    ghost from_gives = { λ refusal e. e ≡ config_fault refusal };
+
+    fn from(refusal: ConfigRefusal) -> RunFault {
+        match refusal {
+            ConfigRefusal::Memory => RunFault::Memory,
+            _ => RunFault::Config(refusal),
+        }
+    }
+}
+
+impl From<DumpRefusal> for RunFault {
+    ghost use Rattle.fbl_input.specs.Faults.{dump_fault};
+
+    ghost from_gives = { λ refusal e. e ≡ dump_fault refusal };
+
+    fn from(refusal: DumpRefusal) -> RunFault {
+        match refusal {
+            DumpRefusal::Memory => RunFault::Memory,
+            _ => RunFault::Dump(refusal),
+        }
+    }
+}
+
+impl From<InputFault> for RunFault {
+    ghost from_gives = { λ fault e. e ≡ fault.fault };
 
     fn from(fault: InputFault) -> RunFault {
-        fault.misfit.fault()
+        fault.fault
     }
 }
 

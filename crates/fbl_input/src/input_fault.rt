@@ -1,19 +1,39 @@
-//! Why an input is not taken: the line that is printed of it, and the one that explains it.
+//! Why an input is not taken: the line that is printed of it, and what explains it.
 
-use crate::misfit::{InputKind, Misfit};
+ghost use Rattle.std.specs.Prelude.{◌≡◌, None};
+
+use crate::fault::RunFault;
+use crate::kind::InputKind;
+use fbl_runs::LogBreach;
 use std::fmt;
 use thiserror::Error;
 
 /// Why an input is not taken. The message is the text of the fault.
 #[derive(Drop, Error)]
-#[error("{}", .misfit.fault())]
+#[error("{fault}")]
 pub struct InputFault {
     /// What it was to be.
     pub kind: InputKind,
     /// Its first fault.
-    pub misfit: Misfit,
+    pub fault: RunFault,
+    /// Which rule is broken, where the fault is that one is.
+    pub breach: Option<LogBreach>,
     /// The bytes in which the fault was found: none where they could not be read, are too many or there was no memory for them.
     pub input: Vec<u8>,
+}
+
+impl InputFault {
+    /// A fault of these bytes that is no broken rule.
+    pub fn new(kind: InputKind, fault: RunFault, input: Vec<u8>) -> InputFault
+        ensures { result ≡ record { kind = kind; fault = fault; breach = None; input = input } }
+    {
+        InputFault {
+            kind,
+            fault,
+            breach: None,
+            input,
+        }
+    }
 }
 
 /// The text of the fault, without the input, which may be long.

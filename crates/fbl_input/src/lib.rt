@@ -1,20 +1,29 @@
-//! Reading an input whole, writing a text out, JSON values by their shapes, and why a script or a dump is not taken to
-//! its end.
+//! Reading an input whole, JSON values by their shapes, why a script or a recorded run is not taken to its end, writing a text out, and
+//! how sets of members and places in files are printed.
 #![tactic(auto)]
 
+mod command_form;
 mod explanation;
 mod fault;
 mod input;
 mod input_fault;
-mod misfit;
+pub mod items;
+mod key;
+mod kind;
 mod not_json;
 mod output;
+mod sets;
 pub mod shapes;
 mod shown;
+mod sources;
 
+pub use command_form::{CommandForm, MOST_COMMANDS, Version, VersionShape, form_named};
 pub use explanation::Explanation;
-pub use fault::{Key, RunFault};
+pub use fault::RunFault;
 pub use input::read_input;
 pub use input_fault::InputFault;
-pub use misfit::{CommandForm, InputKind, MOST_COMMANDS, Misfit};
+pub use key::Key;
+pub use kind::InputKind;
 pub use output::{OutputFault, put};
+pub use sets::{push_set, set_text};
+pub use sources::{InFile, Sources, Spot, spot_text};

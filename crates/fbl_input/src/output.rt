@@ -1,7 +1,8 @@
 //! Writing a text once.
 
-ghost use Rattle.std.specs.Prelude.{◌≡◌, ℕ, ◌<◌, length, take, OnOk, OnErr, IfErr};
+ghost use Rattle.std.specs.Prelude.{◌≡◌, OnOk, OnErr, IfErr};
 ghost use Rattle.std.specs.Io.KnownBytes.{Appends};
+ghost use Rattle.fbl_input.specs.Faults.{PutsFront};
 ghost use Rattle.fbl_input.specs.declared.output.OutputFault.TheVariants.{Memory, Write};
 
 use std::alloc::{AllocError, AllocFailed};
@@ -39,7 +40,7 @@ impl<T: Drop> From<AllocFailed<T>> for OutputFault {
 /// and some of the bytes are not written.
 pub fn put<W: io::Write>(writer: &mut W, bytes: &[u8]) -> Result<(), OutputFault>
     ensures whole { OnOk result (Appends (W.contents writer.old) (W.contents writer.new) bytes.now) }
-    ensures front { OnErr result ((n : ℕ) × (n < length bytes.now) × Appends (W.contents writer.old) (W.contents writer.new) (take n bytes.now)) }
+    ensures front { OnErr result (PutsFront (W.contents writer.old) (W.contents writer.new) bytes.now) }
     ensures fault { IfErr result (λ e. e ≡ Write) }
 {
     let mut done = 0;

@@ -1,7 +1,7 @@
 -- Events of which each waits for the next one.
 use Rattle.fbl_order.proofs.Common.{ℕ, List, [], ◌∷◌, ◌++◌, ◌+◌, ◌-◌, ◌≡◌, ◌≢◌, ◌<◌, ◌≤◌, ◌⊎◌, ◌∙◌, Some, drop, refl, sym, ap, inl, inr, arith, rules}
 use Rattle.fbl_order.proofs.Common.{length, length-append, slice_get, slice_get-get_or, slice_get_within, get_or, subst}
-use Rattle.fbl_order.proofs.Common.{Mark, At-below, At-front, At-push, AreLinked, IsNextAt, IsStuck, Merge, StandsIn, StartsAt, Stuck}
+use Rattle.fbl_order.proofs.Common.{Entry, Mark, At-below, At-front, At-push, AreLinked, IsNextAt, IsStuck, Merge, StandsIn, StartsAt, Stuck}
 use Rattle.fbl_trace.proofs.Gets.{At-seam, map-At}
 use Rattle.std.proofs.Common.{eqb, map}
 use Rattle.std.proofs.lemmas.Bool.{eqb-true}
@@ -16,17 +16,17 @@ use Rattle.fbl_order.specs.declared.fault.Obstacle.{Obstacle}
 use Rattle.fbl_order.specs.declared.fault.Obstacle.TheVariants.{Rule, NeverSent, Received, Waits}
 
 -- the chain so far, and the place for which its last event waits, where none of the chain stands
-pub record IsWalk {A : Type 0} (n : ℕ) (events : List Mark) (merge : Merge A) (first : ℕ) (chain : List Stuck) (place : ℕ) : Type 0 where
-  pub linked : AreLinked n events merge.run.items chain
+pub record IsWalk (n : ℕ) (entries : List Entry) (merge : Merge) (first : ℕ) (chain : List Stuck) (place : ℕ) : Type 0 where
+  pub linked : AreLinked n entries merge.run.items chain
   pub begins : ((chain ≡ []) × (place ≡ first)) ⊎ StartsAt chain first
   pub last : (s : Stuck) → slice_get chain (length chain - 1) ≡ Some s → s.obstacle ≡ Waits place
-  pub next : IsNextAt events merge place
+  pub next : IsNextAt entries merge place
   pub apart : ¬ (StandsIn chain place)
 
 -- before the first event
-pub begun_walk : {A : Type 0} (n : ℕ) (events : List Mark) (merge : Merge A) (first : ℕ) → IsNextAt events merge first
-    → IsWalk n events merge first [] first
-begun_walk n events merge first next = record {
+pub begun_walk : (n : ℕ) (entries : List Entry) (merge : Merge) (first : ℕ) → IsNextAt entries merge first
+    → IsWalk n entries merge first [] first
+begun_walk n entries merge first next = record {
   linked = record { each = λ k s at. cc; follows = λ k s t at there. cc; apart = search rules };
   begins = inl (refl, refl);
   last = λ s at. cc;
@@ -34,15 +34,15 @@ begun_walk n events merge first next = record {
   apart = λ stands. (let none = stands.2 in cc);
 }
 
--- there are no more of them than events
-pub few_linked : (n : ℕ) (events run : List Mark) (chain : List Stuck) → AreLinked n events run chain → length chain ≤ length events
-few_linked n events run chain linked = omega (arith, few, length-map chain (λ (s : Stuck). s.place)) where
-  few : length (map (λ (s : Stuck). s.place) chain) ≤ length events
-  few = length-le_from_distinct_below (map (λ (s : Stuck). s.place) chain) (length events) (IsDistinct-from_AllPairs Decides-eqb _ linked.apart) (λ q has.
+-- there are no more of them than entries
+pub few_linked : (n : ℕ) (entries : List Entry) (run : List Mark) (chain : List Stuck) → AreLinked n entries run chain → length chain ≤ length entries
+few_linked n entries run chain linked = omega (arith, few, length-map chain (λ (s : Stuck). s.place)) where
+  few : length (map (λ (s : Stuck). s.place) chain) ≤ length entries
+  few = length-le_from_distinct_below (map (λ (s : Stuck). s.place) chain) (length entries) (IsDistinct-from_AllPairs Decides-eqb _ linked.apart) (λ q has.
       let is = Any-from_list_any (eqb q) _ has in
       let s = map-At (λ (s : Stuck). s.place) chain is.0 is.1 (subst (λ x. slice_get (map (λ (s : Stuck). s.place) chain) is.0 ≡ Some x) is.3
       (slice_get-get_or _ is.0 is.1 is.2)) in
-      omega (arith, eqb-true q is.1 is.4, s.2, At-below events _ _ (linked.each is.0 s.0 s.1).here))
+      omega (arith, eqb-true q is.1 is.4, s.2, slice_get_within entries _ _ (linked.each is.0 s.0 s.1).here))
 
 -- what closes a chain stands in it
 pub closes-within : (chain : List Stuck) (obstacle : Obstacle) (number : ℕ) → ClosesAt chain obstacle number → number ≤ length chain
@@ -52,8 +52,8 @@ closes-within chain (NeverSent s) number closes = omega (arith, closes)
 closes-within chain Received number closes = omega (arith, closes)
 
 -- an event behind the chain
-module _ {A : Type 0} (n : ℕ) (events : List Mark) (merge : Merge A) (first place : ℕ) (chain : List Stuck) (s : Stuck)
-    (walk : IsWalk n events merge first chain place) (here : s.place ≡ place) (stuck : IsStuck n events merge.run.items s) where
+module _ (n : ℕ) (entries : List Entry) (merge : Merge) (first place : ℕ) (chain : List Stuck) (s : Stuck)
+    (walk : IsWalk n entries merge first chain place) (here : s.place ≡ place) (stuck : IsStuck n entries merge.run.items s) where
   follows : (k : ℕ) (a b : Stuck) → slice_get (chain ++ s ∷ []) k ≡ Some a → slice_get (chain ++ s ∷ []) (k + 1) ≡ Some b → a.obstacle ≡ Waits b.place
   follows k a b a_at b_at = elim (At-push chain s k a a_at) [
     | inl old ↦ elim (At-push chain s (k + 1) b b_at) [
@@ -70,7 +70,7 @@ module _ {A : Type 0} (n : ℕ) (events : List Mark) (merge : Merge A) (first pl
       let t = map-At (λ (s : Stuck). s.place) chain k _ (slice_get-get_or (map (λ (s : Stuck). s.place) chain) k d below) in
       walk.apart (k, t.0, t.1, t.2 ∙ is ∙ here)
 
-  pub linked : AreLinked n events merge.run.items (chain ++ s ∷ [])
+  pub linked : AreLinked n entries merge.run.items (chain ++ s ∷ [])
   linked = record {
     each = λ k a at. elim (At-push chain s k a at) [ inl old ↦ walk.linked.each k a old | inr new ↦ rw (← new.1) stuck ];
     follows = follows;
@@ -91,8 +91,8 @@ module _ {A : Type 0} (n : ℕ) (events : List Mark) (merge : Merge A) (first pl
   ]
 
   -- it waits for another
-  pub walked : (next : ℕ) → s.obstacle ≡ Waits next → IsNextAt events merge next → ¬ (StandsIn (chain ++ s ∷ []) next)
-      → IsWalk n events merge first (chain ++ s ∷ []) next
+  pub walked : (next : ℕ) → s.obstacle ≡ Waits next → IsNextAt entries merge next → ¬ (StandsIn (chain ++ s ∷ []) next)
+      → IsWalk n entries merge first (chain ++ s ∷ []) next
   walked next waits is_next apart = record {
     linked = linked;
     begins = inr starts;
@@ -103,7 +103,7 @@ module _ {A : Type 0} (n : ℕ) (events : List Mark) (merge : Merge A) (first pl
 
   -- it closes the chain
   pub closed : (number : ℕ) → ClosesAt (chain ++ s ∷ []) s.obstacle number
-      → IsEndOfChain n events merge.run.items first (drop number (chain ++ s ∷ []))
+      → IsEndOfChain n entries merge.run.items first (drop number (chain ++ s ∷ []))
   closed number closes = record {
     chain = chain ++ s ∷ [];
     linked = linked;

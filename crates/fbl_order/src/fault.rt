@@ -1,8 +1,9 @@
-//! Why the events of a run have no order.
+//! Why what is recorded of a run has no order.
 
 use fbl_dumps::DumpRefusal;
+use fbl_runs::LogBreach;
 use fbl_trace::{Breach, EventRule, Mark};
-use std::alloc::{AllocError, Allocator, Global};
+use std::alloc::AllocError;
 use std::convert::From;
 use thiserror::Error;
 
@@ -26,7 +27,7 @@ pub enum Obstacle {
 /// The first event of its member that comes in no part of an order.
 #[derive(Clone, Copy)]
 pub struct Stuck {
-    /// Its place, from 0, as the events were given.
+    /// Its place, from 0, as the events were given: in a log, among all entries.
     pub place: usize,
     /// What it is.
     pub event: Mark,
@@ -34,26 +35,28 @@ pub struct Stuck {
     pub obstacle: Obstacle,
 }
 
-/// Why events, or a dump of them, are refused.
+/// Why a dump or a log is refused, in whichever order its events stand. Each place is the one at which an event, an entry or a pair was
+/// given.
 #[derive(Drop)]
-pub enum OrderFault<A: Allocator = Global> {
+pub enum OrderFault {
     /// No order of the events obeys the rules, because of these: one event that waits for no other, or several that wait in a circle,
     /// each for the next one and the last for the first. The first event, as they were given, that comes in no part of an order waits
     /// for the first of these, or for one that does, and so on, unless it is that one itself.
-    NoOrder(Vec<Stuck, A>),
-    /// A dump of the events, in whichever order, is refused, for this.
-    Dump(DumpRefusal, Breach),
+    NoOrder(Vec<Stuck>),
+    /// It is refused in each order, for this.
+    Refused(DumpRefusal, LogBreach),
 }
 
-impl<A: Allocator> From<AllocError> for OrderFault<A> {
+impl From<AllocError> for OrderFault {
     ghost use Rattle.std.specs.Prelude.{◌≡◌};
     ghost use Rattle.fbl_trace.specs.declared.fault.Breach.TheVariants as breach;
     ghost use Rattle.fbl_dumps.specs.declared.refusal.DumpRefusal.TheVariants.{Memory};
-    ghost use Rattle.fbl_order.specs.declared.fault.OrderFault.TheVariants.{Dump};
+    ghost use Rattle.fbl_runs.specs.declared.fault.LogBreach.TheVariants.{Trace};
+    ghost use Rattle.fbl_order.specs.declared.fault.OrderFault.TheVariants.{Refused};
 
-    ghost from_gives = { λ _ e. e ≡ Dump Memory breach.Memory };
+    ghost from_gives = { λ _ e. e ≡ Refused Memory (Trace breach.Memory) };
 
-    fn from(_: AllocError) -> OrderFault<A> {
-        OrderFault::Dump(DumpRefusal::Memory, Breach::Memory)
+    fn from(_: AllocError) -> OrderFault {
+        OrderFault::Refused(DumpRefusal::Memory, LogBreach::Trace(Breach::Memory))
     }
 }

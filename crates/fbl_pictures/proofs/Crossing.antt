@@ -1,19 +1,19 @@
 -- Where the line of a moment crosses the members' lines, as a pass over the entries finds it.
 use Rattle.fbl_pictures.proofs.Common.{ℕ, ◌+◌, ◌<◌, ◌≤◌, ◌≡◌, ◌≢◌, List, Option, Some, None, length, slice_get, inl, inr, refl, sym, ap, ◌∙◌, subst, arith, get_or, cases_eq, cases_lt, nat_tests, true, false, cond, ◌==◌, Entry, column_in, is_some, set, get_or-set_same, get_or-set_other, add-one, length-set, entry_member, log_of, HasPassed, IsBehind, IsBeyond, IsCrossing, IsEnd, seen, Columns}
 use Rattle.std.specs.Prelude.{min}
-use Rattle.fbl_logs.proofs.Listing.{locate_all, seen_mono, seen-later, seen-other, seen-own, some_entry}
-use Rattle.fbl_logs.specs.HappenedBefore.{at}
-use Rattle.fbl_logs.specs.Moments.{Cut}
-use Rattle.fbl_pictures.specs.declared.cut.Pass.{Pass}
+use Rattle.fbl_runs.proofs.Listing.{locate_all, seen_mono, seen-later, seen-other, seen-own, some_entry}
+use Rattle.fbl_runs.specs.HappenedBefore.{at}
+use Rattle.fbl_runs.specs.Moments.{Cut}
+use Rattle.fbl_pictures.specs.declared.run.crossings.Pass.{Pass}
 
 -- ---- columns that are set
 
-module _ (old new : Columns) (member column : ℕ) (sets : (q : ℕ) → column_in new q ≡ cond (q == member) (Some column) (column_in old q)) where
-  pub column_set : (q : ℕ) → q ≡ member → column_in new q ≡ Some column
-  column_set q same = (let test : (q == member) ≡ true = grind (arith, nat_tests) in sets q ∙ ap (λ b. cond b (Some column) (column_in old q)) test)
+module _ (old new : Columns) (member : ℕ) (column : Option ℕ) (sets : (q : ℕ) → column_in new q ≡ cond (q == member) column (column_in old q)) where
+  pub put_same : (q : ℕ) → q ≡ member → column_in new q ≡ column
+  put_same q same = (let test : (q == member) ≡ true = grind (arith, nat_tests) in sets q ∙ ap (λ b. cond b column (column_in old q)) test)
 
-  pub column_kept : (q : ℕ) → q ≢ member → column_in new q ≡ column_in old q
-  column_kept q apart = (let test : (q == member) ≡ false = grind (arith, nat_tests) in sets q ∙ ap (λ b. cond b (Some column) (column_in old q)) test)
+  pub put_kept : (q : ℕ) → q ≢ member → column_in new q ≡ column_in old q
+  put_kept q apart = (let test : (q == member) ≡ false = grind (arith, nat_tests) in sets q ∙ ap (λ b. cond b column (column_in old q)) test)
 
 -- ---- one entry more
 
@@ -69,9 +69,9 @@ module _ (entries : List Entry) (cut : Cut) (p : ℕ) (e : Entry) (m : ℕ) (her
     | inl same ↦
         let few = subst (λ (o : Option ℕ). IsBeyond entries cut p m o) none (are m below) in
         let here : IsBeyond entries cut (p + 1) q (Some p) = subst (λ (k : ℕ). IsBeyond entries cut (p + 1) k (Some p)) (sym same) (beyond_new few beyond) in
-        subst (λ (o : Option ℕ). IsBeyond entries cut (p + 1) q o) (sym (column_set old new m p sets q same)) here
+        subst (λ (o : Option ℕ). IsBeyond entries cut (p + 1) q o) (sym (put_same old new m (Some p) sets q same)) here
     | inr apart ↦
-        subst (λ (o : Option ℕ). IsBeyond entries cut (p + 1) q o) (sym (column_kept old new m p sets q apart)) (beyond_kept q (column_in old q) (are q within) (λ none' same. absurd (apart same)))
+        subst (λ (o : Option ℕ). IsBeyond entries cut (p + 1) q o) (sym (put_kept old new m (Some p) sets q apart)) (beyond_kept q (column_in old q) (are q within) (λ none' same. absurd (apart same)))
   ]
 
   pub pass_more : (old new : Pass) → m < 16 → HasPassed entries cut p old → new.counts ≡ set old.counts m (get_or old.counts m 0 + 1) → IsEnd entries cut (p + 1) new.end

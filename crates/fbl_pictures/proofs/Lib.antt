@@ -1,5 +1,6 @@
 pub mod Common
+pub mod Texts
 pub mod Steps
-pub mod Finding
 pub mod Crossing
 pub mod Moments
+pub mod Findings

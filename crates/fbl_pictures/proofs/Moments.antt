@@ -1,18 +1,26 @@
--- What is said first of a log, as an audit of its last moment has it.
-use Rattle.fbl_pictures.proofs.Common.{ℕ, ◌<◌, ◌≤◌, ◌≡◌, true, List, [], ◌∷◌, Some, None, length, slice_get, inl, inr, refl, sym, ap, subst, arith, slice_get_within, receipt_of, Determinant, log_of, marks, Entry, StandsAt, UnsafeMoment}
+-- A least moment is within the run, who is an orphan, and what is said first of a run.
+use Rattle.fbl_pictures.proofs.Common.{ℕ, ◌<◌, ◌==◌, ◌≤◌, ◌≡◌, ◌∙◌, ◌↔◌, true, false, not, false≢true, List, [], ◌∷◌, Option, Some, None, length, nat_tests, slice_get, refl, sym, ap, subst, arith, slice_get_within, log_of, Entry}
 use Rattle.std.specs.FinSet as set
-use Rattle.fbl_trace.proofs.PrecedenceLaws.{Has-first}
-use Rattle.fbl_trace.specs.Precedence.{Depends, Has}
-use Rattle.fbl_reasons.proofs.LastChecks.{depends_iff}
-use Rattle.fbl_logs.proofs.Listing.{stands_at}
-use Rattle.fbl_logs.specs.HappenedBefore.{Position}
-use Rattle.fbl_reasons.specs.LastMoments.{last_of}
-use Rattle.fbl_logs.specs.Logs.{IsLog, LogParts}
-use Rattle.fbl_logs.specs.Moments.{Cut, IsLeastMoment, IsMoment}
-use Rattle.fbl_moments.specs.Unsafe.{IsSaidOf, SaysUnsafe}
+use Rattle.std.specs.Prelude.{Bool}
+use Rattle.std.specs.Ordering.{nat_cmp}
+use Rattle.fbl_trace.proofs.Sets.{some_outside}
+use Rattle.fbl_trace.specs.MemberSets.{Members}
+use Rattle.fbl_runs.proofs.Listing.{stands_at}
+use Rattle.fbl_runs.specs.Logs.{RunParts, run_of}
+use Rattle.fbl_runs.specs.Runs.{IsOrphanAt}
+use Rattle.fbl_runs.specs.declared.judged.Judged.TheVariants.{AtEachMoment, AtItsEnd}
+use Rattle.fbl_runs.specs.Moments.{Cut, IsMoment, last_cut}
+use Rattle.fbl_judge.proofs.ReasonLaws.{said_moment}
+use Rattle.fbl_judge.proofs.SafeAlways.{first_is_receipt}
+use Rattle.fbl_judge.specs.Audits.{IsAudit, end_of}
+use Rattle.fbl_judge.specs.Unsafe.{IsSaidOf}
+use Rattle.fbl_judge.specs.declared.audit.Audit.{Audit}
+use Rattle.fbl_judge.specs.declared.check.UnsafeReceipt.{UnsafeReceipt}
+use Rattle.fbl_pictures.specs.RunPictures.{HasOrphan}
+use Rattle.fbl_pictures.specs.RunShapes.{IsCutOf, IsPlaceOf}
 
 -- the cut of all entries is a moment
-last_is_moment : (entries : List Entry) → IsMoment (log_of entries) (last_of entries)
+last_is_moment : (entries : List Entry) → IsMoment (log_of entries) (last_cut (log_of entries))
 last_is_moment entries = record {
   consistent = λ i j leads come. slice_get_within (log_of entries i.member) i.number leads.0 leads.2;
   whole = λ i j step come.
@@ -21,47 +29,50 @@ last_is_moment entries = record {
       subst P step.1 (slice_get_within (log_of entries i.member) j.number e.0 e.1);
 }
 
--- so a least moment has no more than all
-pub least_within : (entries : List Entry) (place : ℕ) (i : Position) (cut : Cut) → StandsAt entries place i → IsLeastMoment (log_of entries) i cut
-    → (q : ℕ) → cut q ≤ length (log_of entries q)
-least_within entries place i cut stands least q =
+-- so what has come is no more than all
+pub cut_within : (run : RunParts) (place : Option ℕ) (cut : Cut) → IsCutOf run place cut → (q : ℕ) → cut q ≤ length (log_of run.entries q)
+cut_within run None cut is q = omega (arith, is q)
+cut_within run (Some place) cut (i, stands, least) q =
+    let entries = run.entries in
     let here = stands_at entries place i stands.0 stands stands.1 in
-    least.least (last_of entries) (last_is_moment entries) (slice_get_within (log_of entries i.member) i.number stands.0 here) q
+    least.least (last_cut (log_of entries)) (last_is_moment entries) (slice_get_within (log_of entries i.member) i.number stands.0 here) q
 
--- ---- what is said of a receipt
+-- a set of members has one, or none
+module _ (P : ℕ → Type 0) (members : Members) (are : (q : ℕ) → (set.contains members q ≡ true) ↔ P q) where
+  pub some_member : (set.len members == 0) ≡ false → (q : ℕ) × P q
+  some_member some =
+      let none : set.len (set.empty {R = nat_cmp}) ≡ 0 = set.len-empty nat_cmp in
+      let q = some_outside members set.empty (grind (arith, nat_tests, none, some)) in
+      (q.0, (are q.0).0 q.1)
 
-module _ (log : LogParts) (rules : IsLog log) (d : Determinant) (said : UnsafeMoment) (is : IsSaidOf log d said) where
-  -- it is one of the events
-  pub said_is_received : Has (marks log.entries) (receipt_of d)
-  said_is_received =
-      let shows = is.shows in
-      let i = shows.position in
-      let here = stands_at log.entries said.place i shows.stands.0 shows.stands shows.stands.1 in
-      Has-first ((depends_iff log.members log.entries rules.lawful.events d i.member).0 (i.number, shows.depends, slice_get_within (log_of log.entries i.member) i.number shows.stands.0 here)).1
+  pub no_member : (set.len members == 0) ≡ true → (q : ℕ) → ¬ (P q)
+  no_member none q is =
+      let empty : members ≡ set.empty = set.empty_of_len members (grind (arith, nat_tests, none)) in
+      let out : set.contains (set.empty {R = nat_cmp}) q ≡ false = set.contains-empty nat_cmp q in
+      false≢true (sym out ∙ ap (λ s. set.contains s q) (sym empty) ∙ (are q).1 is)
 
-  -- and its orphans depend on it
-  pub orphans_depend : (q : ℕ) → set.contains said.orphans q ≡ true → Depends (marks log.entries) q (receipt_of d)
-  orphans_depend q orphan =
-      let shows = is.shows in
-      let left = (is.orphans q).0 orphan in
-      let within = least_within log.entries said.place shows.position shows.cut shows.stands shows.moment q in
-      (depends_iff log.members log.entries rules.lawful.events d q).0 (left.1.0, left.1.1, omega (arith, within, left.1.2))
+-- whether the audit has an orphan tells whether the run has one at the end at which it is judged
+pub orphan_at_end : (run : RunParts) (audit : Audit) → IsAudit run audit → run.judged ≡ AtItsEnd → (none : Bool) → none ≡ (set.len audit.orphans == 0)
+    → (not none ≡ true) ↔ HasOrphan run
+orphan_at_end run audit is end true e =
+    (λ h. absurd (false≢true h), λ has. absurd (no_member (IsOrphanAt (run_of run) (end_of run) run.strike) audit.orphans is.orphans (sym e) has.1.0 has.1.1))
+orphan_at_end run audit is end false e =
+    (λ h. (end, some_member (IsOrphanAt (run_of run) (end_of run) run.strike) audit.orphans is.orphans (sym e)), λ has. refl)
 
--- ---- what is said first
+pub orphan_at_moments : (run : RunParts) → run.judged ≡ AtEachMoment → (false ≡ true) ↔ HasOrphan run
+orphan_at_moments run each = (λ h. absurd (false≢true h), λ has. absurd (let two : AtItsEnd ≡ AtEachMoment = sym has.0 ∙ each in cc))
 
-pub says_first : (log : LogParts) (ds : List Determinant) (said : UnsafeMoment) (rest : List UnsafeMoment) → SaysUnsafe log ds (said ∷ rest) → IsSaidOf log said.determinant said
-says_first log [] said rest says = absurd cc
-says_first log (d ∷ ds) said rest (inl (safe, says)) = says_first log ds said rest says
-says_first log (d ∷ ds) said rest (inr (first, others, is, first_is, says)) =
-    let same : first ≡ said = cc in
-    let P : Determinant → Type 0 = λ x. IsSaidOf log x first in
-    let Q : UnsafeMoment → Type 0 = λ u. IsSaidOf log u.determinant u in
-    subst Q same (subst P (sym first_is.determinant) first_is)
+-- the place of what is said is a receipt's
+pub said_place : (run : RunParts) (said : UnsafeReceipt) → IsSaidOf run said.determinant said → (place : Option ℕ) → said.at ≡ place → IsPlaceOf run place
+said_place run said is None at = tt
+said_place run said is (Some place) at =
+    let m = said_moment run said.determinant said is place at in
+    let r = first_is_receipt (log_of run.entries) said.determinant m.0 m.2 in (m.0, r.0, m.1, r.1)
 
-pub first_of : (items : List UnsafeMoment) (said : UnsafeMoment) → Some said ≡ slice_get items 0 → (rest : List UnsafeMoment) × (items ≡ said ∷ rest)
+pub first_of : (items : List UnsafeReceipt) (said : UnsafeReceipt) → Some said ≡ slice_get items 0 → (rest : List UnsafeReceipt) × (items ≡ said ∷ rest)
 first_of [] said is = absurd cc
 first_of (u ∷ items) said is = (let same : said ≡ u = cc in (items, ap (λ x. x ∷ items) (sym same)))
 
-pub nothing_of : (items : List UnsafeMoment) → None ≡ slice_get items 0 → items ≡ []
+pub nothing_of : (items : List UnsafeReceipt) → None ≡ slice_get items 0 → items ≡ []
 nothing_of [] is = refl
 nothing_of (u ∷ items) is = absurd cc

@@ -1,9 +1,8 @@
 -- Items one after another: what is drawn of them, what is of each, and where a message is received.
-use Rattle.fbl_pictures.proofs.Common.{ℕ, ◌+◌, ◌<◌, ◌≤◌, ◌≡◌, List, ◌++◌, length, drop, get_or, sym, ap, ◌∙◌, append_assoc, append-nil, at_drop_all, at_drop_more, Shape, drawn, ◌||◌, ◌∷◌, [], take, false, take_more, Determinant, Entry, is_stored, is_that, stored_by, true, cond, Option, Some, arith, option_or, is_some, same_message, MessageName, map, map_more, ◌-◌, flat_map, range_with_len}
-use Rattle.std.proofs.lemmas.List.Folds.{list_any-append}
-use Rattle.fbl_shapes.proofs.Columns.{Decides-same_message}
+use Rattle.fbl_pictures.proofs.Common.{ℕ, ◌+◌, ◌<◌, ◌≤◌, ◌≡◌, List, ◌++◌, length, drop, get_or, sym, ap, ◌∙◌, append_assoc, append-nil, at_drop_all, at_drop_more, Shape, drawn, ◌∷◌, [], take, false, true, cond, Option, Some, arith, option_or, is_some, same_message, MessageName, map, map_more, ◌-◌, flat_map, range_with_len}
+use Rattle.fbl_history.proofs.ShapeLaws.{Decides-same_message}
 
-module _ {A : Type 0} (items : List A) (i : ℕ) (draw : ℕ → A → List Shape) (front base : List Shape) (drew : front ++ drawn draw i (drop i items) ≡ base) where
+module _ {A S : Type 0} (items : List A) (i : ℕ) (draw : ℕ → A → List S) (front base : List S) (drew : front ++ drawn draw i (drop i items) ≡ base) where
   pub drawn_on : (x : A) → i < length items → x ≡ get_or items i x → (front ++ draw i x) ++ drawn draw (i + 1) (drop (i + 1) items) ≡ base
   drawn_on x within is =
       append_assoc front (draw i x) _
@@ -20,13 +19,6 @@ mapped_on f items i x within is base = append_assoc base _ _ ∙ ap (λ s. base 
 -- and what is of each number
 pub rows_all : (f : ℕ → List Shape) (n i : ℕ) (before all : List Shape) → n ≤ i → before ++ flat_map f (range_with_len i (n - i)) ≡ all → before ≡ all
 rows_all f n i before all past drawn = (let none : n - i ≡ 0 = omega (arith, past) in rw (none, append-nil) at drawn)
-
--- what is on stable storage
-pub stored_more : (entries : List Entry) (i : ℕ) (e : Entry) (d : Determinant) → i < length entries → e ≡ get_or entries i e
-    → is_stored (take (i + 1) entries) d ≡ (is_stored (take i entries) d || (is_that (stored_by e) d || false))
-stored_more entries i e d within is =
-    ap (λ x. is_stored x d) (take_more entries i e within ∙ ap (λ x. take i entries ++ x ∷ []) (sym is))
-    ∙ list_any-append (λ x. is_that (stored_by x) d) (take i entries) (e ∷ [])
 
 -- where a message is received, as the first of its receipts tells
 module _ (place : MessageName → Option ℕ) (taken m : MessageName) (i : ℕ) (later : Option ℕ) where

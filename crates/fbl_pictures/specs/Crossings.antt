@@ -1,13 +1,13 @@
 -- Where the line of a moment crosses the members' lines.
 use Rattle.std.specs.Prelude.{ℕ, ◌≡◌, ◌<◌, ◌≤◌, List, Option, Some, None, length, slice_get, slice_index}
-use Rattle.fbl_logs.specs.declared.entry.Entry.{Entry}
-use Rattle.fbl_logs.specs.Clocks.{StandsAt, seen}
-use Rattle.fbl_logs.specs.Entries.{entry_member}
-use Rattle.fbl_logs.specs.HappenedBefore.{Position}
-use Rattle.fbl_logs.specs.Moments.{Cut, HasCome}
-use Rattle.fbl_pictures.specs.declared.columns.Columns.{Columns}
-use Rattle.fbl_pictures.specs.declared.cut.Pass.{Pass}
-use Rattle.fbl_pictures.specs.RunPictures.{column_in}
+use Rattle.fbl_runs.specs.declared.entry.Entry.{Entry}
+use Rattle.fbl_runs.specs.Clocks.{StandsAt, seen}
+use Rattle.fbl_runs.specs.Entries.{entry_member}
+use Rattle.fbl_runs.specs.HappenedBefore.{Position}
+use Rattle.fbl_runs.specs.Moments.{Cut, HasCome}
+use Rattle.fbl_pictures.specs.declared.run.columns.Columns.{Columns}
+use Rattle.fbl_pictures.specs.declared.run.crossings.Pass.{Pass}
+use Rattle.fbl_pictures.specs.Columns.{column_in}
 
 -- the place is behind each of the first p entries that has come
 abbrev pub IsBehind : List Entry → Cut → ℕ → ℕ → Type 0

@@ -3,8 +3,17 @@ use Rattle.std.specs.Prelude.{ℕ, ◌==◌, List, [], ◌∷◌, ◌++◌, char
 use Rattle.std.specs.List.{flat_map}
 use Rattle.fbl_trace.specs.declared.trace.Determinant.{Determinant}
 use Rattle.fbl_trace.specs.MemberSets.{Members}
-use Rattle.fbl_texts.specs.Sets.{set_words}
-use Rattle.fbl_pictures.specs.Marks.{joined}
+use Rattle.fbl_input.specs.Lines.{set_words}
+
+-- the pieces one after another
+abbrev pub joined : List (List ℕ) → List ℕ
+joined [] = []
+joined (piece ∷ []) = piece
+joined (piece ∷ next ∷ pieces) = piece ++ joined (next ∷ pieces)
+
+-- so many receipts
+abbrev pub receipts_word : ℕ → List ℕ
+receipts_word count = if count == 1 then codes "receipt" else codes "receipts"
 
 -- what an audit prints: who is struck, how many receipts are lost, and the orphans
 abbrev pub audit_words : Members → ℕ → Members → List ℕ

@@ -1,12 +1,7 @@
-pub mod Places
-pub mod Words
-pub mod Marks
-pub mod Legends
+pub mod Headings
 pub mod Pictures
 pub mod HistoryPictures
-pub mod RunPictures
-pub mod Headings
-pub mod FoundPictures
-pub mod DumpPictures
+pub mod Columns
 pub mod Crossings
-pub mod LogPictures
+pub mod RunShapes
+pub mod RunPictures

@@ -1,11 +1,18 @@
 //! The headings of pictures of runs.
 
 ghost use Rattle.std.specs.Prelude.{◌≡◌, ◌++◌, IfOk, OnOk, string_bytes};
-ghost use Rattle.fbl_pictures.specs.Headings.{audit_words as audit_words_of, escape, escaped, heading as heading_of, unsafe_words as unsafe_words_of};
+ghost use Rattle.fbl_pictures.specs.Headings.{audit_words as audit_words_of, escape, escaped, heading as heading_of, receipts_word as receipts_word_of, unsafe_words as unsafe_words_of};
 
-use fbl_texts::set_text;
+use fbl_input::set_text;
 use fbl_trace::{Determinant, MemberSet};
 use std::alloc::{AllocError, Global};
+
+/// The word for so many receipts.
+pub(crate) fn receipts_word(count: u128) -> &'static str
+    ensures { result.now ≡ receipts_word_of count }
+{
+    if count == 1 { "receipt" } else { "receipts" }
+}
 
 /// What an audit prints: who is struck, how many receipts are lost, and the orphans.
 pub(crate) fn audit_words(

@@ -1,12 +1,24 @@
-//! What both pictures draw alike: the names of members, and what may be drawn or not.
+//! What all pictures draw alike: the names of members, their lines where they are down, and what may be drawn or not.
 
 ghost use Rattle.std.specs.Prelude.{◌≡◌, ◌++◌, OnOk};
 ghost use Rattle.std.specs.Option.{option_to_list};
-ghost use Rattle.fbl_shapes.specs.Names.{label_and_names};
+ghost use Rattle.fbl_history.specs.Names.{label_and_names};
+ghost use Rattle.fbl_history.specs.Shapes.{line_kind_of};
 
-use fbl_shapes::{Shape, Status};
+use fbl_history::{LineKind, Shape, Status};
 use fbl_trace::Member;
 use std::alloc::AllocError;
+
+/// How a part of a member's line is drawn where the member is down, or where it isn't.
+pub(crate) fn line_kind(is_down: bool) -> LineKind
+    ensures { result ≡ line_kind_of is_down }
+{
+    if is_down {
+        LineKind::Down
+    } else {
+        LineKind::Up
+    }
+}
 
 /// Adds the shape, if there is one.
 pub(crate) fn push_any(shapes: &mut Vec<Shape>, shape: Option<Shape>) -> Result<(), AllocError>

@@ -1,22 +1,22 @@
 -- A history of a run stays one of its group.
 use Rattle.fbl_trace.specs.declared.trace.Note.{Note}
 use Rattle.fbl_play.proofs.Common.{◌≡◌, ℕ, List, [], ◌∷◌, ◌++◌, inl, inr, None, Ok, Err, Option, Result, Some, sym, subst, ap, ◌∙◌, ∥∥₁_map, Answer, Column, Command, GroupRecord, IsSound, Members, Next, Settings, Strike}
-use Rattle.fbl_play.proofs.Common.{DrainRefusal, IsAdded, IsBegun, IsGroupStart, IsHistoryOf, IsLedOn, IsLedTo, IsOfGroup, Recorded, RecordedDrains, turns_each, SendsWell, Step, Transcript, begins_at_start, follows_checkpoint}
+use Rattle.fbl_play.proofs.Common.{DrainRefusal, IsAdded, IsBegun, IsGroupStart, IsHistoryOf, IsLedOn, IsLedTo, IsOfGroup, RecordedDrain, RecordedDrains, turns_each, SendsWell, Step, Transcript, begins_at_start, follows_checkpoint}
 use Rattle.fbl_play.proofs.Common.{follows_delivery, follows_recovery, follows_strike, history_led, turns_lead}
-use Rattle.fbl_answers.specs.declared.refusals.CheckpointRefusal.{CheckpointRefusal}
-use Rattle.fbl_answers.specs.declared.refusals.DeliverRefusal.{DeliverRefusal}
-use Rattle.fbl_answers.specs.declared.refusals.StrikeRefusal.{StrikeRefusal}
+use Rattle.fbl_group.specs.declared.refusals.CheckpointRefusal.{CheckpointRefusal}
+use Rattle.fbl_group.specs.declared.refusals.DeliverRefusal.{DeliverRefusal}
+use Rattle.fbl_group.specs.declared.refusals.StrikeRefusal.{StrikeRefusal}
 use Rattle.fbl_group.specs.Checkpoints.{checkpoint_refusal}
 use Rattle.fbl_group.specs.Deliveries.{deliver_refusal}
 use Rattle.fbl_group.specs.Strikes.{strike_refusal}
 use Rattle.fbl_history.specs.Traces.{go_on_to, start_columns}
 use Rattle.fbl_history.specs.declared.column.Column.TheVariants.{Checkpoint}
-use Rattle.fbl_commands.specs.declared.answer.Answer.TheVariants as answers
-use Rattle.fbl_commands.specs.Steps.{CheckpointBy, DeliveryBy, IsRecovered, IsRefused, IsRunAnswer, StrikeBy}
-use Rattle.fbl_commands.specs.declared.reason.Reason.{Reason}
+use Rattle.fbl_play.specs.declared.answer.Answer.TheVariants as answers
+use Rattle.fbl_play.specs.Steps.{CheckpointBy, DeliveryBy, IsRecovered, IsRefused, IsRunAnswer, StrikeBy}
+use Rattle.fbl_play.specs.declared.reason.Reason.{Reason}
 use Rattle.fbl_play.specs.Transcripts.{history, text, GoesOn}
-use Rattle.fbl_texts.specs.declared.script.Command.TheVariants as commands
-use Rattle.fbl_threads.specs.declared.draining.DrainRefusal.TheVariants as drain
+use Rattle.fbl_scripts.specs.declared.script.Command.TheVariants as commands
+use Rattle.fbl_threads.specs.declared.drains.DrainRefusal.TheVariants as drain
 
 -- the history of a new group is one of it
 pub begun_told : (next : Next ℕ Note) (config : Settings Note) (r : GroupRecord ℕ Note) (had begun : Transcript) → IsGroupStart next config r → IsBegun next r had begun → IsOfGroup next r begun
@@ -29,7 +29,7 @@ begun_told next config r _ _ start is = absurd is
 
 module _ (next : Next ℕ Note) (workers : ℕ) (old new : GroupRecord ℕ Note) where
   -- the turns of a run lead from the group before it
-  run-led : (plan : List Strike) (drained : Result (Recorded ℕ Note) DrainRefusal) (recorded : Recorded ℕ Note) (made undone a b c d : ℕ) → RecordedDrains next workers turns_each plan old new drained
+  run-led : (plan : List Strike) (drained : Result (RecordedDrain ℕ Note) DrainRefusal) (recorded : RecordedDrain ℕ Note) (made undone a b c d : ℕ) → RecordedDrains next workers turns_each plan old new drained
       → IsRunAnswer plan made undone new drained (answers.Run recorded a b c d) → (columns : List Column) → IsSound next old → IsHistoryOf next old columns → ∥ IsLedTo next columns recorded.turns.items new ∥₁
   run-led plan (Ok given) recorded made undone a b c d drains is columns sound told =
       let same : recorded ≡ given = (let both : answers.Run recorded a b c d ≡ answers.Run given made new.receipts_ever undone new.undone_ever = is.1 in cc) in
@@ -38,19 +38,19 @@ module _ (next : Next ℕ Note) (workers : ℕ) (old new : GroupRecord ℕ Note)
   run-led plan (Err refusal) recorded made undone a b c d drains is columns sound told = absurd is.2
 
   -- no other command answers a run
-  no-run-deliver : (refusal : Option DeliverRefusal) (to from : ℕ) (recorded : Recorded ℕ Note) (a b c d : ℕ) → ¬ (DeliveryBy refusal next old to from new (answers.Run recorded a b c d))
+  no-run-deliver : (refusal : Option DeliverRefusal) (to from : ℕ) (recorded : RecordedDrain ℕ Note) (a b c d : ℕ) → ¬ (DeliveryBy refusal next old to from new (answers.Run recorded a b c d))
   no-run-deliver None to from recorded a b c d is = (let clash = is.2 in cc)
   no-run-deliver (Some refusal) to from recorded a b c d is = is.1
 
-  no-run-strike : (refusal : Option StrikeRefusal) (members : Members) (recorded : Recorded ℕ Note) (a b c d : ℕ) → ¬ (StrikeBy refusal next old members new (answers.Run recorded a b c d))
+  no-run-strike : (refusal : Option StrikeRefusal) (members : Members) (recorded : RecordedDrain ℕ Note) (a b c d : ℕ) → ¬ (StrikeBy refusal next old members new (answers.Run recorded a b c d))
   no-run-strike None members recorded a b c d is = is
   no-run-strike (Some refusal) members recorded a b c d is = is.1
 
-  no-run-checkpoint : (refusal : Option CheckpointRefusal) (p : ℕ) (recorded : Recorded ℕ Note) (a b c d : ℕ) → ¬ (CheckpointBy refusal old p new (answers.Run recorded a b c d))
+  no-run-checkpoint : (refusal : Option CheckpointRefusal) (p : ℕ) (recorded : RecordedDrain ℕ Note) (a b c d : ℕ) → ¬ (CheckpointBy refusal old p new (answers.Run recorded a b c d))
   no-run-checkpoint None p recorded a b c d is = (let clash = is.1 in cc)
   no-run-checkpoint (Some refusal) p recorded a b c d is = is.1
 
-  led : (command : Command) (recorded : Recorded ℕ Note) (a b c d : ℕ) → Step next workers old command new (answers.Run recorded a b c d) → (columns : List Column) → IsSound next old
+  led : (command : Command) (recorded : RecordedDrain ℕ Note) (a b c d : ℕ) → Step next workers old command new (answers.Run recorded a b c d) → (columns : List Column) → IsSound next old
       → IsHistoryOf next old columns → ∥ IsLedTo next columns recorded.turns.items new ∥₁
   led (commands.Run plan) recorded a b c d step columns sound told = run-led plan step.0 recorded old.receipts_ever old.undone_ever a b c d step.1 step.2 columns sound told
   led (commands.Deliver to from) recorded a b c d step columns sound told = absurd (no-run-deliver (deliver_refusal next old to from) to from recorded a b c d step)
@@ -98,7 +98,7 @@ module _ (next : Next ℕ Note) (workers : ℕ) (old new : GroupRecord ℕ Note)
     recovered (answers.Recovery members counts undone) (is, recovers, _) goes = follows_recovery next old new members columns after sound recovers.recovery goes told
     recovered _ is goes = absurd is
 
-    run : (plan : List Strike) (drained : Result (Recorded ℕ Note) DrainRefusal) (answer : Answer) → RecordedDrains next workers turns_each plan old new drained
+    run : (plan : List Strike) (drained : Result (RecordedDrain ℕ Note) DrainRefusal) (answer : Answer) → RecordedDrains next workers turns_each plan old new drained
         → IsRunAnswer plan old.receipts_ever old.undone_ever new drained answer → GoesOn next new answer columns after → IsHistoryOf next new after
     run plan (Ok given) answer drains (memory, is) goes =
         let led : ∥ IsLedTo next columns given.turns.items new ∥₁ =

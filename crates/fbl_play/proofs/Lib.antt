@@ -1,3 +1,4 @@
 pub mod Common
+pub mod Losses
 pub mod Moments
 pub mod Histories

@@ -10,13 +10,13 @@ use Rattle.fbl_input.specs.declared.output.OutputFault.TheVariants as outputs
 use Rattle.fbl_input.specs.Faults.{OverInput}
 use Rattle.fbl_law.specs.Groups.{GroupRecord, IsSound}
 use Rattle.fbl_law.specs.GroupSteps.{IsGroupStart}
-use Rattle.fbl_texts.specs.declared.script.BehaviourName.{BehaviourName}
-use Rattle.fbl_texts.specs.declared.script.BehaviourName.TheVariants.{Relay, Mix}
-use Rattle.fbl_texts.specs.declared.script.Command.{Command}
-use Rattle.fbl_texts.specs.Scripts.{Outline, IsScriptOf, IsScriptFault}
+use Rattle.fbl_scripts.specs.declared.script.BehaviourName.{BehaviourName}
+use Rattle.fbl_scripts.specs.declared.script.BehaviourName.TheVariants.{Relay, Mix}
+use Rattle.fbl_scripts.specs.declared.script.Command.{Command}
+use Rattle.fbl_scripts.specs.Scripts.{Outline, IsScriptOf, IsScriptFault}
 use Rattle.fbl_history.specs.declared.column.Column.{Column}
-use Rattle.fbl_commands.specs.declared.answer.Answer.{Answer}
-use Rattle.fbl_commands.specs.Steps.{Step}
+use Rattle.fbl_play.specs.declared.answer.Answer.{Answer}
+use Rattle.fbl_play.specs.Steps.{Step}
 use Rattle.fbl_play.specs.Transcripts.{Transcript, IsAdded, IsBegun, IsCut, IsOfGroup, history, text}
 
 -- a moment of a run: the group and the transcript as they are then

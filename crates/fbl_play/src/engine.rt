@@ -5,15 +5,15 @@ ghost use Rattle.fbl_trace.specs.Configs.{WorkersAllowed};
 ghost use Rattle.fbl_trace.specs.Steps.{SendsWell};
 ghost use Rattle.fbl_play.specs.Plays.{IsHistoryPlay, IsPlay, PlaysScript, ReadsAndPlays};
 ghost use Rattle.fbl_play.specs.Transcripts.{text};
-ghost use Rattle.fbl_texts.specs.Scripts.{outline};
+ghost use Rattle.fbl_scripts.specs.Scripts.{outline};
 
+use crate::commands::run_command;
 use crate::observer::{NoObserver, Observer};
 use crate::transcript::{HistorySoFar, Transcriber};
-use fbl_commands::run_command;
 use fbl_group::Group;
 use fbl_history::History;
 use fbl_input::{OutputFault, RunFault};
-use fbl_texts::{BehaviourName, Command, Script, read_script};
+use fbl_scripts::{BehaviourName, Command, Script, read_script};
 use fbl_trace::{Behaviour, Config, Mix, Note, Relay};
 use std::alloc::{AllocError, Global};
 use std::io::{Read, Write};
@@ -40,7 +40,9 @@ fn run_commands<
     transcript: &mut K,
     observer: &mut O,
 ) -> Result<(), OutputFault>
-    ensures { IsPlay O.observes_before O.observes_after B.next workers config commands.now (K.transcript transcript.old) (K.transcript transcript.new) observer.old observer.new result }
+    ensures { IsPlay O.observes_before O.observes_after B.next workers config commands.now
+        (K.transcript transcript.old) (K.transcript transcript.new) observer.old observer.new
+        result }
 {
     let mut group: Group<B> = Group::new(alloc, config)?;
     sends_well::<B>();
@@ -69,7 +71,9 @@ fn run_script<T: Threads + Wait + Sync, K: Transcriber, O: Observer>(
     transcript: &mut K,
     observer: &mut O,
 ) -> Result<(), OutputFault>
-    ensures { PlaysScript O.observes_before O.observes_after workers (outline script) (K.transcript transcript.old) (K.transcript transcript.new) observer.old observer.new result }
+    ensures { PlaysScript O.observes_before O.observes_after workers (outline script)
+        (K.transcript transcript.old) (K.transcript transcript.new) observer.old observer.new
+        result }
 {
     let Script {
         behaviour,
@@ -104,7 +108,9 @@ pub fn play_script<T: Threads + Wait + Sync, W: Write, O: Observer>(
     workers: u8,
     observer: &mut O,
 ) -> Result<(), OutputFault>
-    ensures { PlaysScript O.observes_before O.observes_after workers (outline script) (text (W.contents writer.old)) (text (W.contents writer.new)) observer.old observer.new result }
+    ensures { PlaysScript O.observes_before O.observes_after workers (outline script)
+        (text (W.contents writer.old)) (text (W.contents writer.new)) observer.old observer.new
+        result }
 {
     run_script(rt, alloc, script, workers, writer, observer)
 }
@@ -144,7 +150,9 @@ pub fn play<T: Threads + Wait + Sync, R: Read, W: Write>(
     workers: u8,
 ) -> Result<(), RunFault>
     requires { WorkersAllowed workers }
-    ensures { IfSome (R.remaining reader.old) (λ input. ReadsAndPlays workers input (W.contents writer.old) (W.contents writer.new) result) }
+    ensures { IfSome (R.remaining reader.old)
+        (λ input. ReadsAndPlays workers input (W.contents writer.old) (W.contents writer.new)
+        result) }
 {
     let script = read_script(alloc, reader)?;
     Ok(play_script(rt, alloc, script, writer, workers, &mut NoObserver)?)

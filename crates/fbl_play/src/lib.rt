@@ -1,10 +1,18 @@
-//! Plays of scripts over any reader and writer, and the histories of scripts' runs.
+//! Scripts played over any reader and writer: what each command does to a group, what it answers, its lines, and what they don't say in
+//! words for a person; and the histories of scripts' runs.
 #![tactic(auto)]
 
+mod answer;
+mod commands;
 mod engine;
 mod observer;
+mod reason;
+mod remark;
 mod transcript;
 
+pub use answer::Answer;
 pub use engine::{history_of_script, play, play_script};
 pub use observer::{NoObserver, Observer};
+pub use reason::{NamedMembers, Reason};
+pub use remark::Remark;
 pub use transcript::Transcribed;

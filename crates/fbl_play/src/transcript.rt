@@ -2,9 +2,9 @@
 
 ghost use Rattle.std.specs.Prelude.{◌≡◌, IfErr, IfOk, OnErr, OnOk, Some};
 ghost use Rattle.fbl_play.specs.Transcripts.{history as as_history, GoesOn, IsAdded, IsBegun, IsCut, IsLedOn};
-ghost use Rattle.fbl_commands.specs.Steps.{HasMembers};
+ghost use Rattle.fbl_play.specs.Steps.{HasMembers};
 
-use fbl_commands::Answer;
+use crate::answer::Answer;
 use fbl_group::Group;
 use fbl_history::History;
 use fbl_input::{OutputFault, put};
@@ -59,7 +59,8 @@ pub(crate) trait Transcriber: Transcribed {
         requires members { HasMembers group.now answer.now }
         requires led { IsLedOn B.next group.now answer.now (Self.transcript self.old) }
         ensures added { OnOk result (IsAdded B.next group.now answer.now (Self.transcript self.old) (Self.transcript self.new)) }
-        ensures cut { IfErr result (λ fault. IsCut group.now answer.now fault (Self.transcript self.old) (Self.transcript self.new)) };
+        ensures cut { IfErr result (λ fault. IsCut group.now answer.now fault (Self.transcript self.old)
+            (Self.transcript self.new)) };
 }
 
 impl<W: Write> Transcriber for W {

@@ -1,13 +1,11 @@
 //! Where the entries of receipts probably stand.
 
-use fbl_trace::Determinant;
+use fbl_trace::{Determinant, MOST_EVENTS};
 use std::alloc::{AllocError, Allocator};
 
-/// The greatest receipt number whose place is kept: a member of a group has no more receipts.
-const MOST: u32 = 8192;
-
 /// The places at which the entries of receipts were put, by receiver and receipt number. They change no answer: what stands at
-/// a place is looked at before the place is given, and an entry whose place is not kept is found by its hash.
+/// a place is looked at before the place is given, and an entry whose place is not kept is found by its hash. No place is kept
+/// for a receipt number beyond those of a trace.
 #[derive(Drop)]
 pub(crate) struct LikelyPlaces<A: Allocator> {
     by_receiver: Vec<Vec<u32, A>, A>,
@@ -47,7 +45,7 @@ impl<A: Allocator> LikelyPlaces<A> {
     where
         A: Copy,
     {
-        if det.rsn <= MOST {
+        if det.rsn <= MOST_EVENTS {
             if let Ok(place) = u32::try_from(place) {
                 let _ = self.try_keep(det, place);
             }

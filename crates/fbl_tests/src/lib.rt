@@ -6,8 +6,6 @@
 #[cfg(test)]
 mod audits;
 #[cfg(test)]
-mod configurations;
-#[cfg(test)]
 mod group;
 #[cfg(test)]
 mod members;

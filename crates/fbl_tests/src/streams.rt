@@ -1,175 +1,197 @@
-//! Plays, audits and checks over readers and writers that stumble.
+//! Plays, audits and checks by the program over readers and writers that stumble.
 
 use crate::texts::{LATE, LOST};
 use crate::unsteady::{FailedWrite, UnsteadyReader, UnsteadyWriter};
-use fbl_input::RunFault;
+use fbl_input::{RunFault, Sources};
 use fbl_play::play;
-use fbl_texts::{Checked, Sources, audit, read_checked, write_check, write_log_check};
-use std::alloc::Global;
-use std::io::{self, Read, Write};
+use fbl_program::{CHANNEL_FAULT, DONE, NOT_WELL, Named, Streams, run};
+use fbl_records::audit;
+use std::alloc::{AllocError, Global};
+use std::io::{self, Read};
 use std::process::Abort;
 use std::sync::Wait;
+use std::sync::atomic::{AtomicUsize, Ordering};
+use std::test::Fail;
 use std::thread::Threads;
 
-/// Two strikes, one after the other, each with its recovery.
-const TWO_STRIKES: (&str, &str) = (
-    "{\"version\":1,\"members\":3,\"f\":1,\"behaviour\":\"relay\",\"start\":[[0,1,5,2]],\"commands\":[[\"deliver\",1,0],[\"deliver\",2,1],[\"deliver\",0,2],[\"strike\",[2]],[\"recover\"],[\"strike\",[1]],[\"report\"],[\"recover\"],[\"states\"]]}",
-    "deliver 1 0 receipt 1 carried 0 state 5\ndeliver 2 1 receipt 1 carried 1 state 5\ndeliver 0 2 receipt 1 carried 1 state 5\nstrike 2 lost 0\nrecover replayed 1 resent 0 undone 0\nstrike 1 lost 0\nmember 0 up state 5 received 1 sent 1 held 2\nmember 1 down\nmember 2 up state 5 received 1 sent 1 held 3\nflight 0\ntrace 6\nlost 0\norphans none\nrecover replayed 1 resent 0 undone 0\nstates 5 5 5\n",
-);
-
-const LOST_TEXT: &str = "lost 1\ndeterminant 0 1 1 1\norphans 0,2\n";
-
-const LATE_TEXT: &str = "unsafe 0 1 1 1 at 4 strike 1 orphans 2\n";
-
-/// An engine of the program, with an input and its text.
-#[derive(Clone, Copy, Debug)]
-enum Engine {
-    Play,
-    Audit,
-    Check,
+/// What the program does with a word and an input: the text that it writes, and its exit status.
+#[derive(Debug)]
+struct Use {
+    word: &'static str,
+    input: &'static str,
+    text: &'static str,
+    status: u8,
 }
 
-const ENGINES: &[Engine] = &[Engine::Play, Engine::Audit, Engine::Check];
+/// A play with two strikes, one after the other, each with its recovery; an audit of a dump; and a check of a log.
+const USES: [Use; 3] = [
+    Use {
+        word: "play",
+        input: "{\"version\":1,\"members\":3,\"f\":1,\"behaviour\":\"relay\",\"start\":[[0,1,5,2]],\"commands\":[[\"deliver\",1,0],[\"deliver\",2,1],[\"deliver\",0,2],[\"strike\",[2]],[\"recover\"],[\"strike\",[1]],[\"report\"],[\"recover\"],[\"states\"]]}",
+        text: "deliver 1 0 receipt 1 carried 0 state 5\ndeliver 2 1 receipt 1 carried 1 state 5\ndeliver 0 2 receipt 1 carried 1 state 5\nstrike 2 lost 0\nrecover replayed 1 resent 0 undone 0\nstrike 1 lost 0\nmember 0 up state 5 received 1 sent 1 held 2\nmember 1 down\nmember 2 up state 5 received 1 sent 1 held 3\nflight 0\ntrace 6\nlost 0\norphans none\nrecover replayed 1 resent 0 undone 0\nstates 5 5 5\n",
+        status: DONE,
+    },
+    Use {
+        word: "audit",
+        input: LOST,
+        text: "lost 1\ndeterminant 0 1 1 1\norphans 0,2\n",
+        status: DONE,
+    },
+    Use {
+        word: "check",
+        input: LATE,
+        text: "unsafe 0 1 1 1 at 4 strike 1 orphans 2\n",
+        status: NOT_WELL,
+    },
+];
 
-/// Checks the dump or the log that the reader has.
-fn check<R: Read, W: Write>(alloc: Global, reader: &mut R, writer: &mut W) -> Result<(), RunFault> {
-    match read_checked(alloc, reader)? {
-        Checked::Dump(dump) => write_check(alloc, &dump, writer)?,
-        Checked::Log(log) => {
-            let sources = Sources {
-                origins: &[],
-                names: &[],
-            };
-            write_log_check(alloc, &log, &sources, writer)?
+/// An input that is read in parts, some reads of it interrupted or failing, and an output of which one write fails.
+#[derive(Drop)]
+struct Stumbling<'a> {
+    alloc: Global,
+    of: &'a Use,
+    /// How many bytes a read gives.
+    most: usize,
+    interruptions: u32,
+    /// The number of the read that fails, from 1; 0 where none does.
+    read: u32,
+    /// The number of the write that fails, and how it does.
+    write: (u32, FailedWrite),
+    /// How many bytes of the text were written, or `usize::MAX` where it was another, or one went behind the write that failed.
+    written: AtomicUsize,
+}
+
+impl<'a> Stumbling<'a> {
+    /// Streams that don't stumble, by this many bytes a read.
+    fn new(alloc: Global, of: &'a Use, most: usize) -> Stumbling<'a> {
+        Stumbling {
+            alloc,
+            of,
+            most,
+            interruptions: 0,
+            read: 0,
+            write: (0, FailedWrite::Error),
+            written: AtomicUsize::new(0),
         }
-    };
+    }
+}
+
+impl<'a> Streams for Stumbling<'a> {
+    ghost use Rattle.std.specs.Prelude.{⊤, None};
+
+    type Reader = UnsteadyReader<'a>;
+
+    type Writer = UnsteadyWriter;
+
+    // nothing is known of them
+    ghost input = { λ _ _. None };
+
+    ghost output = { λ _ _. None };
+
+    ghost settled = { λ _ _ _ _ _. ⊤ };
+
+    fn reader<'n>(&self, _name: &'n str) -> Result<Named<'n, UnsteadyReader<'a>>, u8> {
+        let mut reader = UnsteadyReader::new(self.of.input.as_bytes(), self.most, self.read);
+        reader.interruptions = self.interruptions;
+        Ok(Named::new(reader, None))
+    }
+
+    fn writer<'n>(&self, _name: &'n str) -> Result<Named<'n, UnsteadyWriter>, u8> {
+        let (fails_at, failure) = self.write;
+        let writer = UnsteadyWriter::new(self.alloc, 7, fails_at, failure);
+        Ok(Named::new(writer, None))
+    }
+
+    fn settle(&self, _name: &str, writer: Named<'_, UnsteadyWriter>, status: u8) -> u8 {
+        let writer = writer.stream;
+        let held = writer.held.as_slice();
+        let is_front = self.of.text.as_bytes().starts_with(held);
+        let is_behind = writer.fails_at > 0 && writer.writes > writer.fails_at;
+        let written = if is_front && !is_behind {
+            held.len()
+        } else {
+            usize::MAX
+        };
+        self.written.store(written, Ordering::SeqCst);
+        status
+    }
+}
+
+/// The exit status of the program, and how much of the text it wrote.
+fn outcome<T: Print + Eprint + Threads + Wait + Sync>(
+    rt: &T,
+    streams: &Stumbling<'_>,
+) -> Result<(u8, usize), AllocError> {
+    let mut words = Vec::new(streams.alloc);
+    words.push(String::from_str(streams.alloc, "fblrun")?)?;
+    words.push(String::from_str(streams.alloc, streams.of.word)?)?;
+    let status = run(rt, streams.alloc, streams, false, Ok(words));
+    Ok((status, streams.written.load(Ordering::SeqCst)))
+}
+
+#[test]
+fn one_byte_a_read_and_interruptions(rt: HostRuntime) -> Result<(), Fail> {
+    for of in &USES {
+        let whole = (of.status, of.text.len());
+        for (interruptions, due) in [(0, whole), (1000, whole), (1001, (CHANNEL_FAULT, 0))] {
+            let mut streams = Stumbling::new(rt.alloc(), of, 1);
+            streams.interruptions = interruptions;
+            assert!(rt; outcome(&rt, &streams)? == due, "{of:?} at {interruptions}");
+        }
+    }
     Ok(())
 }
 
-impl Engine {
-    fn input(self) -> &'static [u8] {
-        match self {
-            Engine::Play => TWO_STRIKES.0.as_bytes(),
-            Engine::Audit => LOST.as_bytes(),
-            Engine::Check => LATE.as_bytes(),
-        }
-    }
-
-    fn text(self) -> &'static [u8] {
-        match self {
-            Engine::Play => TWO_STRIKES.1.as_bytes(),
-            Engine::Audit => LOST_TEXT.as_bytes(),
-            Engine::Check => LATE_TEXT.as_bytes(),
-        }
-    }
-
-    fn run<T: Threads + Wait + Sync, R: Read, W: Write>(
-        self,
-        rt: &T,
-        alloc: Global,
-        reader: &mut R,
-        writer: &mut W,
-    ) -> Result<(), RunFault> {
-        match self {
-            Engine::Play => play(rt, alloc, reader, writer, 2),
-            Engine::Audit => audit(alloc, reader, writer),
-            Engine::Check => check(alloc, reader, writer),
-        }
-    }
-}
-
-/// How the engine ends by this reader, done or refused, and whether it is as it has to be: done with the whole text, or refused for a
-/// failed read with nothing written.
-fn run_by_reader<T: Threads + Wait + Sync>(
-    rt: &T,
-    alloc: Global,
-    engine: Engine,
-    reader: &mut UnsteadyReader<'_>,
-) -> Result<bool, bool> {
-    let mut out = Vec::new(alloc);
-    match engine.run(rt, alloc, reader, &mut out) {
-        Ok(()) => Ok(out.as_slice() == engine.text()),
-        Err(fault) => Err(matches!(fault, RunFault::Read) && out.is_empty()),
-    }
-}
-
 #[test]
-fn one_byte_a_read_and_interruptions(rt: HostRuntime) {
-    for &engine in ENGINES {
-        for (interruptions, expected) in [(0, Ok(true)), (1000, Ok(true)), (1001, Err(true))] {
-            let mut reader = UnsteadyReader::new(engine.input(), 1, 0);
-            reader.interruptions = interruptions;
-            let done = run_by_reader(&rt, rt.alloc(), engine, &mut reader);
-            assert!(rt; done == expected, "{engine:?} at {interruptions}");
-        }
-    }
-}
-
-#[test]
-fn failed_reads(rt: HostRuntime) {
-    for &engine in ENGINES {
+fn failed_reads(rt: HostRuntime) -> Result<(), Fail> {
+    for of in &USES {
         for fails_at in 1..u32::MAX {
-            let mut reader = UnsteadyReader::new(engine.input(), 20, fails_at);
-            let done = run_by_reader(&rt, rt.alloc(), engine, &mut reader);
-            if done == Ok(true) {
-                assert!(rt; reader.reads < fails_at && fails_at > 10);
+            let mut streams = Stumbling::new(rt.alloc(), of, 20);
+            streams.read = fails_at;
+            let ended = outcome(&rt, &streams)?;
+            if ended == (of.status, of.text.len()) {
+                assert!(rt; fails_at > 10);
                 break;
             }
-            assert!(rt; done == Err(true), "{engine:?} at {fails_at}");
+            assert!(rt; ended == (CHANNEL_FAULT, 0), "{of:?} at {fails_at}");
         }
     }
+    Ok(())
 }
 
-/// The ways in which a write fails.
-const FAILURES: &[FailedWrite] = &[
-    FailedWrite::Error,
-    FailedWrite::Interruption,
-    FailedWrite::NoByte,
-];
-
-/// How the engine ends by this writer, and whether it is as it has to be: done with the whole text written, or refused for a failed write,
-/// the first that failed, behind what comes before it.
-fn run_by_writer<T: Threads + Wait + Sync>(
+/// Asserts that the program ends with a fault where any of its writes fails in this way, and has written what comes before.
+fn fail_each_write<T: Print + Eprint + Threads + Wait + Sync + Abort>(
     rt: &T,
     alloc: Global,
-    engine: Engine,
-    writer: &mut UnsteadyWriter,
-) -> Result<bool, bool> {
-    let mut input = engine.input();
-    match engine.run(rt, alloc, &mut input, writer) {
-        Ok(()) => Ok(writer.held.as_slice() == engine.text()),
-        Err(fault) => {
-            let is_told = matches!(fault, RunFault::Write) && writer.writes == writer.fails_at;
-            Err(is_told && engine.text().starts_with(writer.held.as_slice()))
-        }
-    }
-}
-
-/// Asserts that the engine is refused where any of its writes fails in this way.
-fn fail_each_write<T: Threads + Wait + Sync + Abort>(
-    rt: &T,
-    alloc: Global,
-    engine: Engine,
+    of: &Use,
     failure: FailedWrite,
-) {
+) -> Result<(), Fail> {
     for fails_at in 1..u32::MAX {
-        let mut writer = UnsteadyWriter::new(alloc, 7, fails_at, failure);
-        let done = run_by_writer(rt, alloc, engine, &mut writer);
-        if done == Ok(true) {
+        let mut streams = Stumbling::new(alloc, of, 100);
+        streams.write = (fails_at, failure);
+        let (status, written) = outcome(rt, &streams)?;
+        if (status, written) == (of.status, of.text.len()) {
             assert!(rt; fails_at > 6);
             break;
         }
-        assert!(rt; done == Err(true), "{engine:?} at {fails_at}");
+        let is_front = written < of.text.len();
+        assert!(rt; status == CHANNEL_FAULT && is_front, "{of:?} at {fails_at}");
     }
+    Ok(())
 }
 
 #[test]
-fn failed_writes(rt: HostRuntime) {
-    for &engine in ENGINES {
-        for &failure in FAILURES {
-            fail_each_write(&rt, rt.alloc(), engine, failure);
+fn failed_writes(rt: HostRuntime) -> Result<(), Fail> {
+    for of in &USES {
+        for failure in [
+            FailedWrite::Error,
+            FailedWrite::Interruption,
+            FailedWrite::NoByte,
+        ] {
+            fail_each_write(&rt, rt.alloc(), of, failure)?;
         }
     }
+    Ok(())
 }
 
 /// A reader that never ends.
@@ -186,8 +208,15 @@ impl Read for EndlessReader {
 }
 
 #[test]
-fn a_reader_that_never_ends(rt: HostRuntime) {
-    let mut held = Vec::new(rt.alloc());
-    let done = audit(rt.alloc(), &mut EndlessReader, &mut held);
-    assert!(rt; matches!(done, Err(RunFault::TooLong)) && held.is_empty());
+fn plays_and_audits_of_bytes(rt: HostRuntime) {
+    let [of_play, of_audit, _] = &USES;
+    let mut told = Vec::new(rt.alloc());
+    let played = play(&rt, rt.alloc(), &mut of_play.input.as_bytes(), &mut told, 2);
+    assert!(rt; played.is_ok() && told.as_slice() == of_play.text.as_bytes());
+    let mut told = Vec::new(rt.alloc());
+    let audited = audit(rt.alloc(), &mut of_audit.input.as_bytes(), &mut told);
+    assert!(rt; audited.is_ok() && told.as_slice() == of_audit.text.as_bytes());
+    let mut told = Vec::new(rt.alloc());
+    let unread = audit(rt.alloc(), &mut EndlessReader, &mut told);
+    assert!(rt; matches!(unread, Err(RunFault::TooLong)) && told.is_empty());
 }

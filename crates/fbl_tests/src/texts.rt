@@ -1,7 +1,7 @@
 //! A dump and a log as texts, and what a dump's text is read as.
 
 use fbl_base::RawDump;
-use fbl_texts::read_raw_dump;
+use fbl_records::{Recorded, read_recorded};
 use std::alloc::{AllocError, Global};
 
 /// A message that went once round three members, of whom one may be lost, in a dump without a pair that a run leaves: its first receipt
@@ -15,6 +15,9 @@ pub(crate) const LATE: &str =
 
 /// The text's dump, whose rules are not checked.
 pub(crate) fn dump(alloc: Global, text: &str) -> Result<RawDump, AllocError> {
-    let read = read_raw_dump(alloc, &mut text.as_bytes());
-    Ok(read.ok().ok_or(AllocError)?.raw)
+    let read = read_recorded(alloc, &mut text.as_bytes());
+    match read.ok().ok_or(AllocError)?.recorded {
+        Recorded::Dump(raw) => Ok(raw),
+        Recorded::Log(_) => Err(AllocError),
+    }
 }

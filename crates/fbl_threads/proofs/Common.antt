@@ -4,9 +4,9 @@ pub use Rattle.fbl_turns.proofs.Common.{counts_of, Keeps, struck_at, begins, goe
 pub use Rattle.fbl_law.proofs.Common.{length-append, ◌≢◌, ◌==◌, ◌∙◌, ◌∷◌, ◌≡◌, ◌≤◌, ◌⊎◌, cases_eq, sum_by_push}
 pub use Rattle.fbl_trace.proofs.Gets.{At-push, get_or-same}
 pub use Rattle.fbl_trace.specs.declared.strike.Strike.{Strike}
-pub use Rattle.fbl_answers.specs.declared.answers.Recovered.{Recovered}
-pub use Rattle.fbl_answers.specs.declared.record.CrashRecord.{CrashRecord}
-pub use Rattle.fbl_answers.specs.declared.record.TurnRecord.{TurnRecord}
+pub use Rattle.fbl_group.specs.declared.answers.Recovered.{Recovered}
+pub use Rattle.fbl_group.specs.declared.answers.CrashRecord.{CrashRecord}
+pub use Rattle.fbl_group.specs.declared.answers.TurnRecord.{TurnRecord}
 pub use Rattle.fbl_trace.specs.declared.ticket.Ticket.{Ticket}
 pub use Rattle.fbl_turns.proofs.Keeping.{kept, sum-more}
 pub use Rattle.fbl_turns.proofs.Kept.{kept_by_some, still}

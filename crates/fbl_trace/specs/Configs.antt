@@ -2,6 +2,8 @@
 use Rattle.std.specs.Prelude.{◌≡◌, ◌≢◌, ℕ, ◌<◌, ◌≤◌, Bool, IsTrue, List, length, Some, slice_get}
 use Rattle.fbl_trace.specs.declared.trace.Start.{Start}
 use Rattle.fbl_trace.specs.declared.config.ConfigRefusal.{ConfigRefusal}
+use Rattle.fbl_trace.specs.declared.config.GroupRule.{GroupRule}
+use Rattle.fbl_trace.specs.declared.config.GroupRule.TheVariants as group_rule
 use Rattle.fbl_trace.specs.declared.config.ConfigRefusal.TheVariants.{BadMembers, BadF, BadLimit, TooManyStarts, BadStart, LimitBelowStarts, Memory}
 
 -- how many members there are, how many may be lost at once, how many events the trace may have, and the starts in order
@@ -18,6 +20,11 @@ MembersAllowed members = (2 ≤ members) × (members ≤ 16)
 -- f is from 1 to one less than the number of members
 abbrev pub FAllowed : ℕ → ℕ → Type 0
 FAllowed members f = (1 ≤ f) × (f < members)
+
+-- the numbers of a group break this rule, and none before it
+abbrev pub BreaksGroup : ℕ → ℕ → GroupRule → Type 0
+BreaksGroup members f group_rule.Members = ¬ (MembersAllowed members)
+BreaksGroup members f group_rule.F = MembersAllowed members × ¬ (FAllowed members f)
 
 -- a trace may have 1 to 8192 events
 abbrev pub LimitAllowed : ℕ → Type 0
@@ -51,8 +58,8 @@ pub record IsConfig {N : Type 0} (allowed : N → Bool) (c : Settings N) : Type 
 
 -- the refusal is the first that fits, and memory runs out only for a config that obeys the rules
 abbrev pub RefusesConfig : {N : Type 0} → (N → Bool) → Settings N → ConfigRefusal → Type 0
-RefusesConfig allowed c BadMembers = ¬ (MembersAllowed c.members)
-RefusesConfig allowed c BadF = MembersAllowed c.members × ¬ (FAllowed c.members c.f)
+RefusesConfig allowed c BadMembers = BreaksGroup c.members c.f group_rule.Members
+RefusesConfig allowed c BadF = BreaksGroup c.members c.f group_rule.F
 RefusesConfig allowed c BadLimit = MembersAllowed c.members × FAllowed c.members c.f × ¬ (LimitAllowed c.limit)
 RefusesConfig allowed c TooManyStarts = MembersAllowed c.members × FAllowed c.members c.f × LimitAllowed c.limit × (64 < length c.starts)
 RefusesConfig allowed c (BadStart place) =

@@ -1,6 +1,6 @@
 -- The events of a trace. A determinant names a receipt, by the message's source and send sequence number and by the
 -- destination and its receive sequence number (Alvisi and Marzullo 1998).
-use Rattle.std.specs.Prelude.{ℕ, Bool, false, ◌==◌, ◌&&◌, Option, Some, None, List, slice_get, ◌≡◌}
+use Rattle.std.specs.Prelude.{ℕ, ◌+◌, ◌*◌, ◌^◌, Bool, false, ◌==◌, ◌&&◌, Option, Some, None, List, slice_get, ◌≡◌}
 use Rattle.std.specs.List.{filter_map}
 use Rattle.fbl_trace.specs.declared.trace.Event.{Event}
 use Rattle.fbl_trace.specs.declared.trace.Event.TheVariants as event
@@ -50,6 +50,10 @@ receipt_of d = Receipt d.to d.rsn d.from d.ssn
 -- whether two determinants are equal
 abbrev pub same_determinant : Determinant → Determinant → Bool
 same_determinant a b = (a.from == b.from) && ((a.to == b.to) && ((a.ssn == b.ssn) && (a.rsn == b.rsn)))
+
+-- all of a determinant in one number, from which its hash is made
+abbrev pub hashed_number : Determinant → ℕ
+hashed_number d = d.from + 2 ^ 8 * d.to + 2 ^ 16 * d.ssn + 2 ^ 48 * d.rsn
 
 -- whether two messages are the same
 abbrev pub same_message : MessageName → MessageName → Bool

@@ -2,19 +2,38 @@
 
 ghost use Rattle.std.specs.Prelude.{◌≡◌, ◌↔◌, ℕ, IsTrue, IfOk, IfErr, MatchOption, length};
 ghost use Rattle.fbl_trace.specs.Breaches.{IsConfigBreach};
-ghost use Rattle.fbl_trace.specs.Configs.{IsConfig, IsFirstBreach, RefusesConfig, StartAllowedAt};
+ghost use Rattle.fbl_trace.specs.Configs.{BreaksGroup, FAllowed, IsConfig, IsFirstBreach, MembersAllowed, RefusesConfig, StartAllowedAt};
 ghost use Rattle.fbl_trace.specs.Steps.{has_few_hops};
 
 use crate::content::Content;
 use crate::fault::Breach;
-use crate::member::{LEAST_MEMBERS, MOST_MEMBERS};
-use crate::trace::{MOST_EVENTS, Note, Start};
+use crate::limits::{LEAST_MEMBERS, MOST_EVENTS, MOST_MEMBERS, MOST_STARTS};
+use crate::trace::{Note, Start};
 use std::alloc::{AllocError, Allocator, Global};
 use std::marker::Model;
 use thiserror::Error;
 
-/// The most messages that members send before anything is received.
-const MOST_STARTS: usize = 64;
+/// Which rule the numbers of a group break.
+#[derive(Clone, Copy, Debug)]
+pub enum GroupRule {
+    /// There are 2 to 16 members.
+    Members,
+    /// From 1 to one less than all of them may be lost at once.
+    F,
+}
+
+/// The first rule that a group of so many members, of which `f` may be lost at once, would break.
+pub fn group_breach(members: u8, f: u8) -> Option<GroupRule>
+    ensures { MatchOption result (MembersAllowed members × FAllowed members f) (BreaksGroup members f) }
+{
+    if members < LEAST_MEMBERS || members > MOST_MEMBERS {
+        return Some(GroupRule::Members);
+    }
+    if f < 1 || f >= members {
+        return Some(GroupRule::F);
+    }
+    None
+}
 
 /// Why there is no configuration of these parameters. The refusals are tested in this order.
 #[derive(Clone, Copy, PartialEq, Eq, Debug, Error)]
@@ -99,11 +118,10 @@ impl<N: Content, A: Allocator + Copy> Config<N, A> {
         ensures rules { IfOk result (IsConfig N.allowed) }
         ensures refused { IfErr result (RefusesConfig N.allowed (record { members = members; f = f; limit = limit; starts = starts.now })) }
     {
-        if members < LEAST_MEMBERS || members > MOST_MEMBERS {
-            return Err(ConfigRefusal::BadMembers);
-        }
-        if f < 1 || f >= members {
-            return Err(ConfigRefusal::BadF);
+        match group_breach(members, f) {
+            Some(GroupRule::Members) => return Err(ConfigRefusal::BadMembers),
+            Some(GroupRule::F) => return Err(ConfigRefusal::BadF),
+            None => {}
         }
         if limit < 1 || limit > MOST_EVENTS {
             return Err(ConfigRefusal::BadLimit);

@@ -6,6 +6,7 @@ mod config;
 mod content;
 mod fault;
 pub mod laws;
+mod limits;
 mod member;
 mod member_set;
 mod outcome;
@@ -16,12 +17,13 @@ mod ticket;
 mod trace;
 
 pub use behaviour::{Behaviour, Mix, Relay};
-pub use config::{Config, ConfigRefusal};
+pub use config::{Config, ConfigRefusal, GroupRule, group_breach};
 pub use content::{Content, Exact};
 pub use fault::{
     Breach, EntryRule, EventFault, EventRule, Outsider, PairFault, PairRule, PlanFault, StartRule,
 };
-pub use member::{LEAST_MEMBERS, MOST_MEMBERS, Member};
+pub use limits::{LEAST_MEMBERS, MOST_EVENTS, MOST_MEMBERS, MOST_PAIRS, MOST_STARTS, MOST_STRIKES};
+pub use member::Member;
 pub use member_set::MemberSet;
 pub use outcome::Outcome;
 pub use plan::{first_bad_entry, plan_fault};

@@ -2,14 +2,9 @@
 
 ghost use Rattle.std.specs.Prelude.{◌≡◌, ◌<◌, ◌≤◌, ◌+◌, ◌%◌, SomeIff};
 
+use crate::limits::MOST_MEMBERS;
 use std::fmt;
 use std::marker::Model;
-
-/// The fewest members that a group may have.
-pub const LEAST_MEMBERS: u8 = 2;
-
-/// The most members that a group may have: members' numbers are below it.
-pub const MOST_MEMBERS: u8 = 16;
 
 /// A member of the group, by its number, which is below 16.
 #[derive(Clone, Copy, PartialEq, Eq, Hash, Default, Debug)]

@@ -6,7 +6,8 @@ ghost use Rattle.fbl_trace.specs.Breaches.{IsLeastOutside};
 ghost use Rattle.fbl_trace.specs.MemberSets.{AllBelow, member_list};
 
 use crate::fault::Outsider;
-use crate::member::{MOST_MEMBERS, Member};
+use crate::limits::MOST_MEMBERS;
+use crate::member::Member;
 use std::alloc::{AllocError, Allocator};
 use std::fmt;
 use std::marker::Model;

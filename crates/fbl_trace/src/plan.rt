@@ -6,10 +6,8 @@ ghost use Rattle.fbl_trace.specs.Breaches.{BreaksEntry, IsFirstBad, IsPlan, IsPl
 use crate::config::Config;
 use crate::content::Content;
 use crate::fault::{EntryRule, PlanFault};
+use crate::limits::MOST_STRIKES;
 use crate::strike::Strike;
-
-/// The most entries that a plan may have.
-const MOST_ENTRIES: usize = 64;
 
 /// The first entry of the plan that breaks a rule in a group of this configuration, and the first rule that it breaks.
 pub fn plan_fault<N: Content>(plan: &[Strike], config: &Config<N>) -> Option<PlanFault>
@@ -48,7 +46,7 @@ fn broken_rule<N: Content>(
 ) -> Option<EntryRule>
     ensures { MatchOption result ((place < 64) × (before < entry.at) × MayBeStruck config.now entry.set) (BreaksEntry config.now place before entry) }
 {
-    if place >= MOST_ENTRIES {
+    if place >= MOST_STRIKES {
         return Some(EntryRule::TooMany);
     }
     if entry.at <= before {

@@ -7,8 +7,9 @@ ghost use Rattle.fbl_trace.specs.Events.{destination_of, source_of};
 ghost use Rattle.fbl_trace.specs.Rules.{Counted, CountsEvent, first_by, next_by, MayFollow, WellFormed};
 
 use crate::fault::EventRule;
-use crate::member::{MOST_MEMBERS, Member};
-use crate::trace::{MOST_EVENTS, Mark, end_outside};
+use crate::limits::{MOST_EVENTS, MOST_MEMBERS};
+use crate::member::Member;
+use crate::trace::{Mark, end_outside};
 use std::alloc::{AllocError, AllocFailed, Allocator, Global};
 use std::collections::VecDeque;
 use std::marker::Model;

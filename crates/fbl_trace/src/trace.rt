@@ -12,9 +12,7 @@ use crate::fault::{Outsider, StartRule};
 use crate::member::Member;
 use std::alloc::AllocError;
 use std::fmt;
-
-/// The most events that a trace may have.
-pub(crate) const MOST_EVENTS: u32 = 8192;
+use std::hash::{Hash, Hasher};
 
 /// A message's content, as the specified behaviours have it.
 #[derive(Clone, Copy, PartialEq, Eq, Hash, Default, Debug)]
@@ -57,7 +55,7 @@ pub struct MessageName {
 /// part of it (Alvisi and Marzullo 1998). That of a receipt of a trace has numbers from 1 to 8192 and two members.
 ///
 /// Fields lie in the order of the source: the members stand first, so that it takes 12 bytes and not 16.
-#[derive(Clone, Copy, PartialEq, Eq, Hash, Debug)]
+#[derive(Clone, Copy, PartialEq, Eq, Debug)]
 pub struct Determinant {
     /// The message's sender.
     pub from: Member,
@@ -67,6 +65,26 @@ pub struct Determinant {
     pub ssn: u32,
     /// The receive sequence number: which of the receiver's receipts this is, over all senders, from 1.
     pub rsn: u32,
+}
+
+/// The four fields go into one write, which is one step of a hasher. A derived `Hash` makes four.
+impl Hash for Determinant {
+    ghost use Rattle.std.specs.Hash as fed;
+    ghost use Rattle.std.specs.Cmp.Rules.{hashing};
+    ghost use Rattle.std.proofs.Common.{rules};
+    ghost use Rattle.fbl_trace.specs.Events.{hashed_number};
+
+    ghost hash_input = { λ d. fed.u128 (hashed_number d) };
+
+    ghost respects_eq = { Prim.search (hashing, rules) };
+
+    fn hash<H: Hasher>(&self, state: &mut H) {
+        let from = u128::from(self.from.number());
+        let to = u128::from(self.to.number());
+        let ssn = u128::from(self.ssn);
+        let rsn = u128::from(self.rsn);
+        state.write_u128(from + (to << 8) + (ssn << 16) + (rsn << 48));
+    }
 }
 
 /// An event of a trace. Numbers count from 1 without gaps, so that none is greater than 8192 in a trace,

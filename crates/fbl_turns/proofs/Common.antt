@@ -19,12 +19,12 @@ pub use Rattle.fbl_trace.specs.declared.trace.Event.{Event}
 pub use Rattle.fbl_trace.specs.declared.trace.Mark.{Mark}
 pub use Rattle.fbl_group.proofs.Striking.{is_allowed}
 pub use Rattle.fbl_group.specs.Records.{Commits, IsPlannedCrash, IsRecoveryRecord, StrikeLeads, TurnLeads, TurnsLead}
-pub use Rattle.fbl_answers.specs.declared.answers.Recovered.{Recovered}
-pub use Rattle.fbl_answers.specs.declared.record.CrashRecord.{CrashRecord}
-pub use Rattle.fbl_answers.specs.declared.record.RecoveryRecord.{RecoveryRecord}
-pub use Rattle.fbl_answers.specs.declared.record.TurnRecord.{TurnRecord}
-pub use Rattle.fbl_answers.specs.declared.refusals.CommitRefusal.{CommitRefusal}
-pub use Rattle.fbl_answers.specs.declared.refusals.CommitRefusal.TheVariants.{Down, Full, Memory, Stale}
+pub use Rattle.fbl_group.specs.declared.answers.Recovered.{Recovered}
+pub use Rattle.fbl_group.specs.declared.answers.CrashRecord.{CrashRecord}
+pub use Rattle.fbl_group.specs.declared.answers.RecoveryRecord.{RecoveryRecord}
+pub use Rattle.fbl_group.specs.declared.answers.TurnRecord.{TurnRecord}
+pub use Rattle.fbl_group.specs.declared.refusals.CommitRefusal.{CommitRefusal}
+pub use Rattle.fbl_group.specs.declared.refusals.CommitRefusal.TheVariants.{Down, Full, Memory, Stale}
 pub use Rattle.fbl_trace.specs.declared.ticket.Ticket.{Ticket}
 pub use lib.ListN.{get_elem?}
 pub use mathlib.Core.Logic.{dite, ⊎_elim}

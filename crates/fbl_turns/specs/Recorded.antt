@@ -4,9 +4,9 @@ use Rattle.fbl_trace.specs.Fold.{Next}
 use Rattle.fbl_trace.specs.declared.strike.Strike.{Strike}
 use Rattle.fbl_trace.specs.declared.ticket.Ticket.{Ticket}
 use Rattle.fbl_law.specs.Groups.{GroupRecord, member}
-use Rattle.fbl_answers.specs.declared.record.TurnRecord.{TurnRecord}
-use Rattle.fbl_answers.specs.declared.record.CrashRecord.{CrashRecord}
-use Rattle.fbl_answers.specs.declared.record.RecoveryRecord.{RecoveryRecord}
+use Rattle.fbl_group.specs.declared.answers.TurnRecord.{TurnRecord}
+use Rattle.fbl_group.specs.declared.answers.CrashRecord.{CrashRecord}
+use Rattle.fbl_group.specs.declared.answers.RecoveryRecord.{RecoveryRecord}
 use Rattle.fbl_group.specs.Records.{IsRecoveryRecord, TurnsLead}
 use Rattle.fbl_turns.specs.Plans.{struck_at}
 use Rattle.fbl_turns.specs.Runs.{Counts, Turn, nothing_done}

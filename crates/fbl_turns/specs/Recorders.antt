@@ -6,12 +6,12 @@ use Rattle.fbl_trace.specs.MemberSets.{Members}
 use Rattle.fbl_trace.specs.declared.strike.Strike.{Strike}
 use Rattle.fbl_trace.specs.declared.ticket.Ticket.{Ticket}
 use Rattle.fbl_law.specs.Groups.{GroupRecord, member}
-use Rattle.fbl_answers.specs.declared.answers.Recovered.{Recovered}
-use Rattle.fbl_answers.specs.declared.answers.Struck.{Struck}
-use Rattle.fbl_answers.specs.declared.refusals.CommitRefusal.{CommitRefusal}
-use Rattle.fbl_answers.specs.declared.refusals.CommitRefusal.TheVariants.{Full, Memory}
-use Rattle.fbl_answers.specs.declared.record.TurnRecord.{TurnRecord}
-use Rattle.fbl_answers.specs.declared.record.RecoveryRecord.{RecoveryRecord}
+use Rattle.fbl_group.specs.declared.answers.Recovered.{Recovered}
+use Rattle.fbl_group.specs.declared.answers.Struck.{Struck}
+use Rattle.fbl_group.specs.declared.refusals.CommitRefusal.{CommitRefusal}
+use Rattle.fbl_group.specs.declared.refusals.CommitRefusal.TheVariants.{Full, Memory}
+use Rattle.fbl_group.specs.declared.answers.TurnRecord.{TurnRecord}
+use Rattle.fbl_group.specs.declared.answers.RecoveryRecord.{RecoveryRecord}
 use Rattle.fbl_turns.specs.Runs.{Counts, Reached, Turn, lacks_memory, meets_full, undoes}
 use Rattle.fbl_group.specs.Records.{CountsEach, IsPlannedCrash, IsRecoveryRecord}
 use Rattle.fbl_group.specs.Strikes.{IsStrikeAlone}

@@ -5,9 +5,9 @@ use Rattle.fbl_trace.specs.MemberSets.{Members}
 use Rattle.fbl_trace.specs.Fold.{Next}
 use Rattle.fbl_trace.specs.declared.strike.Strike.{Strike}
 use Rattle.fbl_law.specs.Groups.{GroupRecord}
-use Rattle.fbl_answers.specs.declared.answers.Recovered.{Recovered}
+use Rattle.fbl_group.specs.declared.answers.Recovered.{Recovered}
 use Rattle.fbl_trace.specs.declared.ticket.Ticket.{Ticket}
-use Rattle.fbl_answers.specs.declared.refusals.CommitRefusal.TheVariants.{Full, Stale, Down}
+use Rattle.fbl_group.specs.declared.refusals.CommitRefusal.TheVariants.{Full, Stale, Down}
 use Rattle.fbl_group.specs.Deliveries.{MayCommit, RefusesCommit}
 use Rattle.fbl_group.specs.Records.{Commits, IsPlannedCrash}
 use Rattle.fbl_group.specs.Strikes.{IsStrikeAlone}

@@ -40,7 +40,6 @@ impl Drained {
         }
     }
 
-    /// Nothing yet, of this many workers.
     pub(crate) fn nothing(workers: u8) -> Drained
         requires { workers ≤ 8 }
         ensures { counts_of result ≡ nothing_done workers }
@@ -56,7 +55,6 @@ impl Drained {
     }
 }
 
-/// A place for each worker, with 0 in it.
 fn zeros(workers: u8) -> ArrayVec<u64, 8>
     requires { workers ≤ 8 }
     ensures { result.items ≡ replicate workers 0 }
@@ -68,7 +66,6 @@ fn zeros(workers: u8) -> ArrayVec<u64, 8>
     counts
 }
 
-/// So many more at the worker's place.
 pub(crate) fn add(counts: &mut ArrayVec<u64, 8>, worker: u8, more: u64)
     requires place { worker < array_vec_len counts.old }
     requires fits { slice_index counts.old.items worker + more < 2 ^ 64 }

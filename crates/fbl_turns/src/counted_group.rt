@@ -17,7 +17,7 @@ use crate::claims::{Claims, Pass};
 use crate::counted::{Drained, add};
 use crate::joined::{Joined, Unstarted};
 use crate::origin::Origin;
-use crate::plan::planned;
+use crate::plan::planned_set;
 use crate::recorder::{Records, keep, reserve};
 use crate::worker::{Claiming, Ended, Idle, Taken};
 use fbl_group::{
@@ -79,12 +79,14 @@ impl<B: Behaviour, O: Origin<B::State, B::Note>> CountedGroup<B, O> {
     ) -> (Group<B>, Drained, Records<B::State, B::Note>)
         requires all { (joined.workers ≡ O.workers) × (O.parts ≡ O.workers) }
         requires claims { claims ≡ O.claims }
-        ensures same { (result.0 ≡ self.group) × (recorded result.2 ≡ recorded self.records) × (counts_of result.1 ≡ counts_of self.counted) }
+        ensures same { (result.0 ≡ self.group) × (recorded result.2 ≡ recorded self.records)
+            × (counts_of result.1 ≡ counts_of self.counted) }
         ensures started { (result.1.started ≡ joined.started) × (result.1.started ≤ O.workers) }
         ensures quiet { result.1.quiet ≡ is_quiet result.0 }
         ensures receipts { result.0.receipts_ever ≤ (O.start (B.next.initial 0 0)).receipts_ever + result.1.started * O.turns }
         ensures sound { IsSound B.next result.0 }
-        ensures reached { ∥ ReachedAs B.next O.plan O.workers (O.start (B.next.initial 0 0)) (recorded result.2) result.0 (counts_of result.1) ∥₁ }
+        ensures reached { ∥ ReachedAs B.next O.plan O.workers (O.start (B.next.initial 0 0)) (recorded result.2)
+            result.0 (counts_of result.1) ∥₁ }
         ensures keeps { is_some (recorded result.2) ≡ O.records }
     {
         let CountedGroup {
@@ -105,7 +107,8 @@ impl<B: Behaviour, O: Origin<B::State, B::Note>> CountedGroup<B, O> {
 
     /// Whether the worker goes on. It ends where nothing is in flight, where somebody is down, and when it has begun all its turns.
     pub fn go_on(&self, idle: Idle<O>) -> Result<Idle<O>, Ended<O>>
-        ensures goes_on { IfOk result (λ next. (next.turns ≡ idle.turns) × (is_over self.now.group ≡ false) × (next.turns.begun < O.turns)) }
+        ensures goes_on { IfOk result (λ next. (next.turns ≡ idle.turns) × (is_over self.now.group ≡ false)
+            × (next.turns.begun < O.turns)) }
         ensures ends { IfErr result (λ _. (is_over self.now.group ≡ true) ⊎ (idle.turns.begun ≡ O.turns)) }
     {
         if self.group.is_quiet() || self.group.down().count() != 0 || idle.has_begun_all() {
@@ -122,7 +125,8 @@ impl<B: Behaviour, O: Origin<B::State, B::Note>> CountedGroup<B, O> {
         claiming: Claiming<O>,
     ) -> Result<Taken<O, B::State, B::Note>, Idle<O>>
         requires { claims.now ≡ O.claims }
-        ensures taken { IfOk result (λ taken. (taken.claiming ≡ claiming) × IsFirstTicket self.now.group claiming.claim.1 taken.ticket) }
+        ensures taken { IfOk result (λ taken. (taken.claiming ≡ claiming)
+            × IsFirstTicket self.now.group claiming.claim.1 taken.ticket) }
         ensures none { IfErr result (λ idle. (idle.turns ≡ claiming.turns) × NoTicket self.now.group claiming.claim.1) }
     {
         let to = claiming.member();
@@ -147,8 +151,11 @@ impl<B: Behaviour, O: Origin<B::State, B::Note>> CountedGroup<B, O> {
         requires claims { claims.now ≡ O.claims }
         requires member { done.now.ticket.to ≡ claiming.claim.1 }
         requires plan { (plan.now ≡ O.plan) × IsPlan O.plan (O.start (B.next.initial 0 0)).config }
-        ensures turn { TurnAs B.next plan.now claiming.turns.worker done.now.ticket self.old.group (counts_of self.old.counted) self.new.group (counts_of self.new.counted) (is_err result) (recorded self.old.records) (recorded self.new.records) }
-        ensures goes_on { IfOk result (λ idle. (idle.turns.worker ≡ claiming.turns.worker) × (idle.turns.begun ≡ claiming.turns.begun)) }
+        ensures turn { TurnAs B.next plan.now claiming.turns.worker done.now.ticket self.old.group
+            (counts_of self.old.counted) self.new.group (counts_of self.new.counted)
+            (is_err result) (recorded self.old.records) (recorded self.new.records) }
+        ensures goes_on { IfOk result (λ idle. (idle.turns.worker ≡ claiming.turns.worker)
+            × (idle.turns.begun ≡ claiming.turns.begun)) }
     {
         let CountedGroup {
             group,
@@ -176,9 +183,11 @@ fn make_turn<B: Behaviour>(
     plan: &[Strike],
 ) -> bool
     requires places { (worker < array_vec_len counted.old.by_worker) × (worker < array_vec_len counted.old.undone_by_worker) }
-    requires counted { (sum counted.old.by_worker.items ≤ group.old.receipts_ever) × (sum counted.old.undone_by_worker.items ≤ group.old.undone_ever) }
+    requires counted { (sum counted.old.by_worker.items ≤ group.old.receipts_ever)
+        × (sum counted.old.undone_by_worker.items ≤ group.old.undone_ever) }
     requires plan { IsPlan plan.now group.old.config }
-    ensures turn { TurnAs B.next plan.now worker done.now.ticket group.old (counts_of counted.old) group.new (counts_of counted.new) result (recorded records.old) (recorded records.new) }
+    ensures turn { TurnAs B.next plan.now worker done.now.ticket group.old (counts_of counted.old) group.new
+        (counts_of counted.new) result (recorded records.old) (recorded records.new) }
 {
     if let Err(refusal) = commit_with_room(group, records, done) {
         return count_refusal(counted, refusal);
@@ -192,7 +201,7 @@ fn make_turn<B: Behaviour>(
         sent: group.sent(ticket.to),
         crash: None,
     };
-    let Some(set) = planned(plan, ever) else {
+    let Some(set) = planned_set(plan, ever) else {
         keep(records, turn);
         return false;
     };
@@ -264,7 +273,6 @@ fn crash<B: Behaviour>(
     }
 }
 
-/// The record of a recovery that has led to this group.
 fn recovery_record<B: Behaviour>(
     group: &Group<B>,
     struck: Struck,

@@ -21,7 +21,6 @@ pub struct Unstarted<O: Workers> {
 }
 
 impl<O: Workers> Unstarted<O> {
-    /// So many workers, who may take so many turns each.
     pub(crate) fn new(pass: Pass, workers: u8, turns: u32, receipts: Share<O>) -> Unstarted<O>
         requires pass { pass ≡ O.claims }
         requires workers { (workers ≤ O.workers) × (turns ≡ O.turns) }

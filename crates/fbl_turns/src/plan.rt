@@ -5,8 +5,7 @@ ghost use Rattle.fbl_turns.specs.Plans.{struck_at};
 
 use fbl_trace::{MemberSet, Strike};
 
-/// The set that the plan strikes at this number of receipts.
-pub(crate) fn planned(plan: &[Strike], ever: u64) -> Option<MemberSet>
+pub(crate) fn planned_set(plan: &[Strike], ever: u64) -> Option<MemberSet>
     ensures { result ≡ struck_at plan.now ever }
 {
     let strike = plan.iter().find(|strike| strike.at == ever)?;

@@ -17,7 +17,6 @@ pub fn no_records<S: Exact, N: Content>(alloc: Global, keeps: bool) -> Records<S
     if keeps { Some(Vec::new(alloc)) } else { None }
 }
 
-/// Makes room for one record more.
 pub(crate) fn reserve<S: Exact, N: Content>(records: &mut Records<S, N>) -> Result<(), AllocError>
     ensures same { recorded records.new ≡ recorded records.old }
     ensures room { OnOk result (HasRoom records.new) }
@@ -28,7 +27,6 @@ pub(crate) fn reserve<S: Exact, N: Content>(records: &mut Records<S, N>) -> Resu
     }
 }
 
-/// Adds a record, for which there is room, where they are kept.
 pub(crate) fn keep<S: Exact, N: Content>(records: &mut Records<S, N>, turn: TurnRecord<S, N>)
     requires { HasRoom records.old }
     ensures { recorded records.new ≡ with_record turn (recorded records.old) }

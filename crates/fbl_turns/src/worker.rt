@@ -21,7 +21,6 @@ pub(crate) struct Turns<O: Workers> {
 }
 
 impl<O: Workers> Turns<O> {
-    /// The turns of the worker of this number, which has begun none.
     pub(crate) fn none(worker: u8, allowed: u32, receipts: Share<O>) -> Turns<O>
         requires worker { (worker < O.workers) × (allowed ≡ O.turns) }
         requires receipts { (receipts.parts ≡ 1) × (receipts.amount ≡ 0) }
@@ -35,7 +34,6 @@ impl<O: Workers> Turns<O> {
         }
     }
 
-    /// The share of the receipts.
     pub(crate) fn into_receipts(self) -> Share<O>
         ensures parts { result.parts ≡ 1 }
         ensures amount { (result.amount ≡ self.receipts.amount) × (result.amount ≤ O.turns) }
@@ -43,7 +41,6 @@ impl<O: Workers> Turns<O> {
         self.receipts
     }
 
-    /// Begins one more.
     fn begin(&mut self)
         requires { self.old.begun < O.turns }
         ensures same { (self.new.worker ≡ self.old.worker) × (self.new.receipts.amount ≡ self.old.receipts.amount) }
@@ -52,7 +49,6 @@ impl<O: Workers> Turns<O> {
         self.begun += 1;
     }
 
-    /// Adds receipts to the share.
     fn add(&mut self, book: &mut Book<O>, made: u64)
         requires { self.old.receipts.amount + made ≤ self.old.begun }
         ensures same { (self.new.worker ≡ self.old.worker) × (self.new.begun ≡ self.old.begun) }
@@ -94,7 +90,6 @@ pub struct Ended<O: Workers> {
 }
 
 impl<O: Workers> Idle<O> {
-    /// A worker that has begun no turn yet.
     pub(crate) fn new(pass: Pass, turns: Turns<O>) -> Idle<O>
         requires { pass ≡ O.claims }
         ensures { result.turns ≡ turns }
@@ -109,7 +104,6 @@ impl<O: Workers> Idle<O> {
         self.turns.worker
     }
 
-    /// Whether it has begun all its turns.
     pub(crate) fn has_begun_all(&self) -> bool
         ensures value { result ≡ (self.now.turns.begun == O.turns) }
         ensures bound { self.now.turns.begun ≤ O.turns }
@@ -122,7 +116,9 @@ impl<O: Workers> Idle<O> {
         requires turn { self.turns.begun < O.turns }
         requires claims { (claims.now ≡ O.claims) × (claims.now.words ≡ members) }
         requires members { (2 ≤ members) × (members ≤ 16) }
-        ensures claimed { IfOk result (λ claiming. (claiming.claim.1 ≡ (self.turns.worker + self.turns.begun) % members) × (claiming.turns.begun ≡ self.turns.begun + 1)) }
+        ensures claimed { IfOk result (λ claiming. (claiming.claim.1
+            ≡ (self.turns.worker + self.turns.begun) % members)
+            × (claiming.turns.begun ≡ self.turns.begun + 1)) }
         ensures not_claimed { IfErr result (λ idle. idle.turns.begun ≡ self.turns.begun + 1) }
     {
         let Idle { pass, mut turns } = self;
@@ -134,7 +130,6 @@ impl<O: Workers> Idle<O> {
         }
     }
 
-    /// The worker has ended.
     pub(crate) fn end(self) -> Ended<O> {
         let Idle { pass, turns } = self;
         Ended {
@@ -157,7 +152,6 @@ impl<O: Workers> Idle<O> {
     }
 }
 
-/// The member that the worker tries to claim at its turn of this number.
 fn member_at(worker: u8, number: u32, members: u8) -> Member
     requires { (2 ≤ members) × (members ≤ 16) }
     ensures { result ≡ (worker + number) % members }
@@ -167,7 +161,6 @@ fn member_at(worker: u8, number: u32, members: u8) -> Member
 }
 
 impl<O: Workers> Claiming<O> {
-    /// Its number.
     pub(crate) fn number(&self) -> u8
         ensures value { result ≡ self.now.turns.worker }
         ensures bound { result < O.workers }
@@ -175,14 +168,12 @@ impl<O: Workers> Claiming<O> {
         self.turns.worker
     }
 
-    /// The member that it has claimed.
     pub(crate) fn member(&self) -> Member
         ensures { result ≡ self.now.claim.1 }
     {
         self.claim.member()
     }
 
-    /// Gives the member back.
     pub(crate) fn release(self, claims: &Claims) -> Idle<O>
         requires { claims.now ≡ O.claims }
         ensures { result.turns ≡ self.turns }
@@ -211,7 +202,6 @@ impl<O: Workers> Claiming<O> {
 }
 
 impl<O: Workers> Ended<O> {
-    /// Its pass, its turns, and whether it had a thread.
     pub(crate) fn into_parts(self) -> (Pass, Turns<O>, bool)
         ensures { (result.0 ≡ O.claims) × (result.2 ≡ false → result.1.receipts.amount ≡ 0) }
     {

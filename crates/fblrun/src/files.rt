@@ -5,11 +5,10 @@
 //! write, and to settle.
 
 ghost use Rattle.std.specs.Prelude.{IfErr};
-ghost use Rattle.fblrun.specs.Statuses.{IsChannelStatus, IsSettled};
+ghost use Rattle.fbl_program.specs.Statuses.{IsChannelStatus, IsSettled};
 
-use crate::streams::{Failure, Named, Streams};
-use crate::{NOT_WELL, fail};
 use fbl_input::RunFault;
+use fbl_program::{Failure, NOT_WELL, Named, Streams, fail};
 use std::alloc::Global;
 use std::fs::{self, File, OpenFile, OpenOptions};
 use std::io::{self, ErrorKind, Input, Printer, Read, Write};

@@ -2,7 +2,7 @@
 
 use super::fixtures::{STATES_OF_TWELVE, TURNS, has_states, three_strikes, total, twelve_receipts};
 use fbl_group::Group;
-use fbl_threads::{NoGate, Recorded, drain_recorded};
+use fbl_threads::{NoGate, RecordedDrain, drain_recorded};
 use fbl_trace::{Relay, Strike};
 use std::alloc::Global;
 use std::process::Abort;
@@ -11,7 +11,7 @@ use std::test::Fail;
 use std::thread::Threads;
 
 /// Whether there are as many turns as receipts were ever made, by workers that there are.
-pub(super) fn are_counted(group: &Group<Relay>, recorded: &Recorded, workers: u8) -> bool {
+pub(super) fn are_counted(group: &Group<Relay>, recorded: &RecordedDrain, workers: u8) -> bool {
     let made = recorded.turns.len() as u64;
     made == group.receipts_ever()
         && made == total(recorded.drained.by_worker.as_slice())
@@ -19,7 +19,12 @@ pub(super) fn are_counted(group: &Group<Relay>, recorded: &Recorded, workers: u8
 }
 
 /// Whether the drain ended quietly with this many crashes, its turns counted.
-fn is_quiet_end(group: &Group<Relay>, recorded: &Recorded, workers: u8, crashes: usize) -> bool {
+fn is_quiet_end(
+    group: &Group<Relay>,
+    recorded: &RecordedDrain,
+    workers: u8,
+    crashes: usize,
+) -> bool {
     let turns = recorded.turns.iter();
     recorded.drained.quiet
         && has_states(group, &STATES_OF_TWELVE)

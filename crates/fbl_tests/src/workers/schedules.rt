@@ -1,8 +1,7 @@
 //! Drains whose end is the same for every schedule.
 
 use super::fixtures::{
-    STATES_OF_TWELVE, drain_by, group, has_counts, has_states, three_strikes, total,
-    twelve_receipts,
+    STATES_OF_TWELVE, drain_by, group, has_counts, has_states, total, twelve_receipts,
 };
 use crate::members::{start, strike};
 use fbl_group::Group;
@@ -56,11 +55,6 @@ fn make_up_for<R: Threads + Wait + Sync + Abort>(
         );
     }
     Ok(())
-}
-
-#[test]
-fn a_plan_of_three_strikes_is_made_up_for(rt: HostRuntime) -> Result<(), Fail> {
-    make_up_for(&rt, rt.alloc(), &three_strikes())
 }
 
 #[test]

@@ -1,5 +1,5 @@
-use Rattle.fbl_input.proofs.Common.{◌≡◌, ◌∙◌, List, sym, ap, subst, view, Option, Some, None, option_and_then, Result, Ok, Err, IsErrAnd, Data, get, Key, RunFault, Misfit}
-use Rattle.fbl_input.proofs.Common.{Gives, run_fault, Fails, all_shaped, as_list, field, list_of, name_of, or_fault}
+use Rattle.fbl_input.proofs.Common.{◌≡◌, List, sym, ap, subst, view, Option, Some, None, option_and_then, Result, Ok, Err, IsErrAnd, Data, get, Key, RunFault}
+use Rattle.fbl_input.proofs.Common.{Gives, Fails, all_shaped, as_list, field, list_of, name_of, or_fault}
 use Rattle.fbl_input.specs.declared.fault.RunFault.TheVariants as faults
 use Rattle.fbl_input.proofs.shapes.values_field.Goals as goal
 
@@ -16,16 +16,10 @@ fails_list {A} key shape d e h = by_found (get (name_of key) d) e h where
   by_found None e h = by_list None e h
   by_found (Some v) e h = by_list (as_list v) e h
 
-gives_fault : {X Y : Type 0} (seen : X → Y) (r : Result X Misfit) (x : Misfit) (asked : Result Y RunFault) → IsErrAnd r (λ e. e ≡ x)
-    → Fails (run_fault x) asked → Gives seen r asked
+gives_fault : {X Y : Type 0} (seen : X → Y) (r : Result X RunFault) (x : RunFault) (asked : Result Y RunFault) → IsErrAnd r (λ e. e ≡ x) → Fails x asked → Gives seen r asked
 gives_fault seen (Ok a) x asked is h = absurd is
-gives_fault seen (Err e) x asked is h = let P : Misfit → Type 0 = λ f. Fails (run_fault f) asked in subst P (sym is) h
+gives_fault seen (Err e) x asked is h = let P : RunFault → Type 0 = λ f. Fails f asked in subst P (sym is) h
 
-pub returns-in_err-list-clause-exact : goal.returns-in_err-list-clause-exact
-returns-in_err-list-clause-exact g c =
-    gives_fault _ c.from_residual.result c.in_err-list.field-0.0 _ c.from_residual.ensures.1 (fails_list c.args.key g.S.JsonShape.shape (view c.args.value.now) _ c.in_err-list.ensures.exact)
-
-pub returns-in-Err-clause-misfit : goal.returns-in-Err-clause-misfit
-returns-in-Err-clause-misfit g c =
-    let first = rw c.in-Err.is at c.in_ok-all.ensures.place in
-    rw (← c.in_ok-list.ensures.items) (first.0, λ d at. c.requires d ∙ first.1 d at, λ i d below at. c.requires d ∙ first.2 i d below at)
+pub returns-in_err-list_field : goal.returns-in_err-list_field
+returns-in_err-list_field g c =
+    gives_fault _ c.from_residual.result c.in_err-list_field.field-0.0 _ c.from_residual.ensures.1 (fails_list c.args.key g.S.JsonShape.shape (view c.args.value.now) _ c.in_err-list_field.ensures)

@@ -1,7 +1,7 @@
 use Rattle.std.proofs.Common.{ℕ, ◌+◌, ◌-◌, ◌*◌, ◌/◌, ◌≡◌, arith, append_assoc}
 use Rattle.std.proofs.lemmas.List.FromFn.{map-range_with_len_more}
-use Rattle.fbl_shapes.specs.declared.shape.Shape.{Shape}
-use Rattle.fbl_shapes.specs.declared.shape.Shape.TheVariants.{Name}
+use Rattle.fbl_history.specs.declared.shape.Shape.{Shape}
+use Rattle.fbl_history.specs.declared.shape.Shape.TheVariants.{Name}
 use Rattle.fbl_pictures.proofs.names.push_names.Goals as goal
 
 pub loop-group-preserved : goal.loop-group-preserved

@@ -1,6 +1,6 @@
 use Rattle.std.proofs.Common.{◌≡◌, ◌++◌, ◌+◌, ◌*◌, map}
 use Rattle.std.specs.List.{range_with_len}
-use Rattle.fbl_shapes.specs.declared.shape.Shape.TheVariants.{Name}
+use Rattle.fbl_history.specs.declared.shape.Shape.TheVariants.{Name}
 use Rattle.fbl_pictures.proofs.names.push_names.Given as goal
 
 abbrev pub invariant-loop-group : goal.invariant-loop-group

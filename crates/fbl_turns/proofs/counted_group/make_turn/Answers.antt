@@ -26,23 +26,23 @@ crash-recovery-requires-clause-place g c = c.requires.places.1
 pub crash-recovery-requires-clause-counted : goal.crash-recovery-requires-clause-counted
 crash-recovery-requires-clause-counted g c = omega (arith, c.requires.counted.1, c.in_default.ensures.committed.1.1.2.delivery.undone_ever)
 
-pub returns-in_default-planned : goal.returns-in_default-planned
-returns-in_default-planned g c = record {
+pub returns-in_default-planned_set : goal.returns-in_default-planned_set
+returns-in_default-planned_set g c = record {
   turn =
       committed c.in_default.ensures.committed (receipt_record c.ticket-ticket.ensures c.sent.ensures) c.commit_with_room.ensures.same
-      c.keep.ensures c.add.ensures (ap (struck_at c.args.plan.now) (sym c.receipts_ever-ever.ensures) ∙ sym c.planned.ensures ∙ c.in_default-planned.is) refl;
+      c.keep.ensures c.add.ensures (ap (struck_at c.args.plan.now) (sym c.receipts_ever-ever.ensures) ∙ sym c.planned_set.ensures ∙ c.in_default-planned_set.is) refl;
 }
 
 pub crash-recovery-requires-clause-allowed : goal.crash-recovery-requires-clause-allowed
 crash-recovery-requires-clause-allowed g c =
     let d = c.in_default.ensures.committed.1.1.2.delivery in
     planned_may c.args.plan.now c.args.group.now.config c.commit_with_room.new.group c.commit_with_room.new.group.receipts_ever c.in-Some.set c.requires.plan d.config (d.down ∙ d.nobody_down)
-    (ap (struck_at c.args.plan.now) (sym c.receipts_ever-ever.ensures) ∙ sym c.planned.ensures ∙ c.in-Some.is)
+    (ap (struck_at c.args.plan.now) (sym c.receipts_ever-ever.ensures) ∙ sym c.planned_set.ensures ∙ c.in-Some.is)
 
 pub returns : goal.returns
 returns g c = record {
   turn =
       crashed c.in_default.ensures.committed (receipt_record c.ticket-ticket.ensures c.sent.ensures) c.commit_with_room.ensures.same
       c.keep-2.ensures c.add.ensures c.in-Some.set c.crash-recovery.result (ends_without _ _ c.is_none-ends.ensures)
-      (ap (struck_at c.args.plan.now) (sym c.receipts_ever-ever.ensures) ∙ sym c.planned.ensures ∙ c.in-Some.is) c.crash-recovery.ensures refl;
+      (ap (struck_at c.args.plan.now) (sym c.receipts_ever-ever.ensures) ∙ sym c.planned_set.ensures ∙ c.in-Some.is) c.crash-recovery.ensures refl;
 }

@@ -13,7 +13,7 @@ loop-record-preserved g c =
 pub returns : goal.returns
 returns g c =
     let all = rw (drop_of_length-le c.deref-record-items.result.now c.loop-record-test.false) at c.loop-record.invariant in
-    rw (c.mark_all.ensures, c.in_ok-gather_saved.ensures, ap (λ (x : GroupRecord _ _). x.down) c.self.view_is, ← (subst (IsSound g.B.Behaviour.next) c.self.view_is c.self.invariant).checkpoints, all) refl
+    rw (c.mark_all.ensures, c.in_ok-gather_checkpoints.ensures, ap (λ (x : GroupRecord _ _). x.down) c.self.view_is, ← (subst (IsSound g.B.Behaviour.next) c.self.view_is c.self.invariant).checkpoints, all) refl
 
 pub loop-record-init : goal.loop-record-init
 loop-record-init g c = rw (c.requires, c.deref-record-items.ensures.value, ap (λ (x : GroupRecord _ _). x.members) c.self.view_is) refl

@@ -12,7 +12,7 @@ pub overflow_cast-resent : goal.overflow_cast-resent
 overflow_cast-resent g c = omega (arith, c.messages-resent.ensures.few)
 
 pub overflow_sub-undone : goal.overflow_sub-undone
-overflow_sub-undone g c = fewer c.self.invariant c.self.view_is c.requires.ready c.requires.down (rw c.as_slice-2.ensures.value at c.cut.ensures) c.receipt_count-before.ensures c.count_receipts.ensures c.as_slice-3.ensures.value
+overflow_sub-undone g c = fewer c.self.invariant c.self.view_is c.requires.ready c.requires.down c.cut.ensures c.receipt_count-before.ensures c.count_receipts.ensures c.as_slice-2.ensures.value
 
 pub put_back-requires : goal.put_back-requires
 put_back-requires g c = record {
@@ -29,15 +29,15 @@ replace-requires g c = record {
 }
 
 pub overflow_add-self : goal.overflow_add-self
-overflow_add-self g c = undone-fits c.self.invariant c.self.view_is c.requires.ready c.requires.down (rw c.as_slice-2.ensures.value at c.cut.ensures) c.receipt_count-before.ensures c.count_receipts.ensures c.as_slice-3.ensures.value c.self.ranges.1.1.1.1.1.1.0.1
+overflow_add-self g c = undone-fits c.self.invariant c.self.view_is c.requires.ready c.requires.down c.cut.ensures c.receipt_count-before.ensures c.count_receipts.ensures c.as_slice-2.ensures.value c.self.ranges.1.1.1.1.1.1.0.1
 
 pub overflow_cast-result : goal.overflow_cast-result
-overflow_cast-result g c = undone-few c.self.invariant c.self.view_is c.requires.ready c.requires.down (rw c.as_slice-2.ensures.value at c.cut.ensures) c.receipt_count-before.ensures c.count_receipts.ensures c.as_slice-3.ensures.value
+overflow_cast-result g c = undone-few c.self.invariant c.self.view_is c.requires.ready c.requires.down c.cut.ensures c.receipt_count-before.ensures c.count_receipts.ensures c.as_slice-2.ensures.value
 
 pub returns-clause-recovered : goal.returns-clause-recovered
 returns-clause-recovered g c =
-    recovers c.self.invariant c.self.view_is c.requires.ready c.requires.down (rw c.as_slice-2.ensures.value at c.cut.ensures)
-    c.receipt_count-before.ensures c.count_receipts.ensures c.as_slice-3.ensures.value (rows c.in_ok-again.again) c.members-n.ensures.value
+    recovers c.self.invariant c.self.view_is c.requires.ready c.requires.down c.cut.ensures
+    c.receipt_count-before.ensures c.count_receipts.ensures c.as_slice-2.ensures.value (rows c.in_ok-again.again) c.members-n.ensures.value
     (rw c.as_slice.ensures.value at c.in_ok-again.ensures.each) c.put_back.ensures c.replace.ensures c.empty-self-inside.ensures
     c.messages-resent.ensures.messages
 

@@ -1,5 +1,5 @@
 use Rattle.fbl_group.proofs.Common.{◌≡◌, Some, take_refusal, flight_at, arith, ap, nat_tests, receipts_fit, up_if_none, MemberRecord, empty_of_len}
-use Rattle.fbl_answers.specs.declared.refusals.TakeRefusal.TheVariants.{Down}
+use Rattle.fbl_group.specs.declared.refusals.TakeRefusal.TheVariants.{Down}
 use Rattle.fbl_group.proofs.group.Group.take.Goals as goal
 
 pub overflow_add-result : goal.overflow_add-result

@@ -1,0 +1,17 @@
+-- A dump and its run say the same.
+use Rattle.std.specs.Prelude.{ℕ, ◌↔◌}
+use Rattle.fbl_trace.specs.MemberSets.{Members}
+use Rattle.fbl_dumps.specs.Dumps.{IsDump, Parts}
+use Rattle.fbl_dumps.specs.Losses.{IsDumpOrphan}
+use Rattle.fbl_runs.specs.Logs.{run_of, run_of_dump}
+use Rattle.fbl_runs.specs.Runs.{IsSafe, MayBeLost}
+
+-- the dump with these members in place of its strike set
+abbrev pub struck_by : Members → Parts → Parts
+struck_by members dump = record dump { strike = members }
+
+-- a dump's run is safe exactly where, whichever members may be lost, the dump has no orphan
+abbrev pub DumpLaw : Type 0
+DumpLaw =
+    (dump : Parts) → IsDump dump
+    → IsSafe (run_of (run_of_dump dump)) ↔ ((members : Members) → MayBeLost (run_of (run_of_dump dump)) members → (q : ℕ) → ¬ (IsDumpOrphan (struck_by members dump) q))

@@ -1,0 +1,14 @@
+use Rattle.fbl_input.proofs.Common.{IfOk-weaker}
+use Rattle.std.specs.Prelude.{option_map, string_bytes}
+use Rattle.fbl_input.proofs.sources.spot_text.Goals as goal
+
+pub returns : goal.returns
+returns c =
+    IfOk-weaker c.format.result _ _ (λ text is. record {
+      own = c.spot-spot.result.place;
+      name = option_map (λ name. name.now) c.spot-spot.result.file.name;
+      spot = c.spot-spot.ensures;
+      file = string_bytes c.in_ok-file.file;
+      words = c.in_ok-file.ensures.ok;
+      text_is = is;
+    }) c.format.ensures.ok

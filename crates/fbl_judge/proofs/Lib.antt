@@ -1,0 +1,10 @@
+pub mod Common
+pub mod LeastMoments
+pub mod SafeAlways
+pub mod NoOrphans
+pub mod PastLaws
+pub mod UnsafeLaws
+pub mod OrderLaws
+pub mod Audits
+pub mod PathLaws
+pub mod ReasonLaws

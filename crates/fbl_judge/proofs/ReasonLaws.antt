@@ -1,0 +1,78 @@
+-- What the reason of an unsafe receipt is said of.
+use Rattle.fbl_judge.proofs.Common.{ℕ, true, ◌≡◌, ◌↔◌, Option, Some, None, sym, ap, subst, ◌∙◌, Determinant, Entry, entry_member, log_of, slice_get, Position, at, Cut, Members, DependsOn, IsFirstDependent, IsLeastMoment}
+use Rattle.std.proofs.Common.{IfOk, Result, Ok, Err, get_or, ◌<◌, ◌+◌, ◌++◌, ◌∷◌, [], List, length, take}
+use Rattle.std.specs.List.{AllZip}
+use Rattle.std.proofs.lemmas.List.{take_more}
+use Rattle.std.specs.FinSet as set
+use Rattle.fbl_runs.specs.Clocks.{StandsAt}
+use Rattle.fbl_runs.specs.Logs.{RunParts}
+use Rattle.fbl_runs.specs.declared.judged.Judged.{Judged}
+use Rattle.fbl_runs.specs.declared.judged.Judged.TheVariants.{AtEachMoment, AtItsEnd}
+use Rattle.fbl_judge.specs.Audits.{end_of}
+use Rattle.fbl_judge.specs.Paths.{DependsIn}
+use Rattle.fbl_judge.specs.Reasons.{IsReasonAt}
+use Rattle.fbl_judge.specs.Unsafe.{IsSaidAt, IsSaidOf}
+use Rattle.fbl_judge.specs.declared.check.UnsafeReceipt.{UnsafeReceipt}
+use Rattle.fbl_judge.specs.declared.reason.Reason.{Reason}
+use Rattle.fbl_judge.proofs.PathLaws.{same_paths}
+
+-- two that are so of a result
+pub ok_both : {A E : Type 0} (P Q R : A → Type 0) (r : Result A E) → IfOk r P → IfOk r Q → ((x : A) → P x → Q x → R x) → IfOk r R
+ok_both P Q R (Ok x) p q f = f x p q
+ok_both P Q R (Err e) p q f = tt
+
+-- what has no place is said of the end
+pub said_end : (run : RunParts) (d : Determinant) (said : UnsafeReceipt) (is : IsSaidOf run d said) → said.at ≡ None → is.cut ≡ end_of run
+said_end run d said is none = by_judged run.judged said.at none is.moment where
+  by_judged : (j : Judged) (o : Option ℕ) → o ≡ None → IsSaidAt run d said.strike j o is.cut → is.cut ≡ end_of run
+  by_judged AtItsEnd None no' end = end
+  by_judged AtItsEnd (Some p) no' end = cc
+  by_judged AtEachMoment None no' end = absurd end
+  by_judged AtEachMoment (Some p) no' end = cc
+
+-- and what has one of the moment of its entry
+pub said_moment : (run : RunParts) (d : Determinant) (said : UnsafeReceipt) (is : IsSaidOf run d said) (place : ℕ) → said.at ≡ Some place
+    → (j : Position) × StandsAt run.entries place j × IsFirstDependent (log_of run.entries) d j × IsLeastMoment (log_of run.entries) j is.cut
+said_moment run d said is place some = by_judged run.judged said.at some is.moment where
+  by_judged : (j : Judged) (o : Option ℕ) → o ≡ Some place → IsSaidAt run d said.strike j o is.cut
+      → (j : Position) × StandsAt run.entries place j × IsFirstDependent (log_of run.entries) d j × IsLeastMoment (log_of run.entries) j is.cut
+  by_judged AtEachMoment (Some p) same moment =
+      let here : p ≡ place = cc in
+      (moment.0, subst (λ (p : ℕ). StandsAt run.entries p moment.0) here moment.1, moment.2.candidate.first, moment.2.candidate.moment)
+  by_judged AtEachMoment None same moment = absurd moment
+  by_judged AtItsEnd (Some p) same moment = absurd moment
+  by_judged AtItsEnd None same moment = cc
+
+-- a reason at the same cut with paths to the same members in other words
+pub same_reason : (run : RunParts) (a b : Cut) (P Q : ℕ → Type 0) (reason : Reason) → a ≡ b → ((q : ℕ) → P q ↔ Q q) → IsReasonAt run a P reason → IsReasonAt run b Q reason
+same_reason run a b P Q reason cut same is = subst (λ (b : Cut). IsReasonAt run b Q reason) cut (record {
+  moment = is.moment;
+  holders = is.holders;
+  next = is.next;
+  paths = same_paths run reason.determinant P Q same 0 reason.paths.items is.paths;
+})
+
+-- at the end those are shown that it leaves as orphans
+pub shown_at_end : (run : RunParts) (d : Determinant) (said : UnsafeReceipt) (is : IsSaidOf run d said) (q : ℕ) → DependsIn run d said.orphans q ↔ (set.contains said.orphans q ≡ true)
+shown_at_end run d said is q = (λ h. h.0, λ h. (h, (let left = (is.orphans q).0 h in (left.1.0, left.1.1))))
+
+-- at a moment the member of its entry is
+pub shown_at_moment : (run : RunParts) (d : Determinant) (place : ℕ) (j : Position) → StandsAt run.entries place j → DependsOn (log_of run.entries) d j → (members : Members)
+    → ((q : ℕ) → (set.contains members q ≡ true) ↔ (q ≡ j.member)) → (q : ℕ) → DependsIn run d members q ↔ ((e : Entry) × (slice_get run.entries place ≡ Some e) × (entry_member e ≡ q))
+shown_at_moment run d place j stands depends members are q = (
+  λ h. (stands.0, stands.1, stands.2 ∙ sym ((are q).0 h.0)),
+  λ h.
+      let same : stands.0 ≡ h.0 = (let some : Some stands.0 ≡ Some h.0 = sym stands.1 ∙ h.1 in cc) in
+      let own : q ≡ j.member = sym h.2 ∙ ap entry_member (sym same) ∙ stands.2 in
+      ((are q).1 own, (j.number, subst (λ (m : ℕ). DependsOn (log_of run.entries) d (at m j.number)) (sym own) depends)),
+)
+
+-- one more with its reason
+pub reasons_more : {X R : Type 0} (IsReason : X → R → Type 0) (xs : List X) (i : ℕ) (x : X) (reasons : List R) (r : R) → i < length xs → x ≡ get_or xs i x
+    → AllZip IsReason (take i xs) reasons → IsReason x r → AllZip IsReason (take (i + 1) xs) (reasons ++ r ∷ [])
+reasons_more {X} {R} IsReason xs i x reasons r below is told reason = rw (take_more xs i x below, ← is) (push (take i xs) reasons told) where
+  push : (xs : List X) (rs : List R) → AllZip IsReason xs rs → AllZip IsReason (xs ++ x ∷ []) (rs ++ r ∷ [])
+  push [] [] told = (reason, tt)
+  push [] (r' ∷ rs) told = absurd told
+  push (x' ∷ xs) [] told = absurd told
+  push (x' ∷ xs) (r' ∷ rs) told = (told.0, push xs rs told.1)

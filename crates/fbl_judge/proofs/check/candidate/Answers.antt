@@ -1,0 +1,57 @@
+use Rattle.fbl_judge.proofs.Common.{◌≡◌, ◌<◌, ◌∙◌, true, false, List, Entry, length, refl, sym, subst, slice_get_within, log_of, at, IsFirstDependent, IsLeastMoment}
+use Rattle.std.specs.FinSet as set
+use Rattle.fbl_runs.specs.Clocks.{StandsAt, cut_of}
+use Rattle.fbl_runs.proofs.ClockLaws.{last_there}
+use Rattle.fbl_judge.proofs.SafeAlways.{first_is_receipt}
+use Rattle.fbl_judge.proofs.UnsafeLaws.{first_dependent, left_there, none_after, none_there, not_left}
+use Rattle.fbl_judge.proofs.check.candidate.Goals as goal
+use Rattle.fbl_judge.proofs.check.candidate.Goals.{After-moment-moment}
+
+pub returns-in_err-first : goal.returns-in_err-first
+returns-in_err-first c =
+    rw c.from_residual.ensures (none_after c.args.pasts.now c.requires.run.lawful c.requires.run.strike c.args.determinant.now
+    (at c.args.determinant.now.to c.args.number) c.args.member c.requires.receipt c.in_err-first.ensures)
+
+pub moment-moment-requires : goal.moment-moment-requires
+moment-moment-requires c = (let there = last_there c.in_ok-first.ensures.precedes in slice_get_within (log_of c.args.pasts.now.entries c.args.member) c.in_ok-first.first there.0 there.1)
+
+dependent : (c : After-moment-moment) → IsFirstDependent (log_of c.args.pasts.now.entries) c.args.determinant.now (at c.args.member c.in_ok-first.first)
+dependent c =
+    first_dependent c.args.pasts.now c.requires.run.lawful c.requires.run.strike c.args.determinant.now
+    (at c.args.determinant.now.to c.args.number) (at c.args.member c.in_ok-first.first) c.requires.receipt c.in_ok-first.ensures
+
+least : (c : After-moment-moment) → IsLeastMoment (log_of c.args.pasts.now.entries) (at c.args.member c.in_ok-first.first) (cut_of c.moment-moment.result)
+least c = (let r = first_is_receipt (log_of c.args.pasts.now.entries) c.args.determinant.now (at c.args.member c.in_ok-first.first) (dependent c) in c.moment-moment.ensures.least r.0 r.1)
+
+pub returns-in_err-loss : goal.returns-in_err-loss
+returns-in_err-loss c =
+    let c2 = (goal.at.returns-in_err-loss c).After-moment-moment in
+    rw c.from_residual-in_err-loss.ensures (none_there c.args.pasts.now c.requires.run.lawful c.requires.run.strike c.args.determinant.now c.args.member c.in_ok-first.first (cut_of c.moment-moment.result)
+    (dependent c2) (least c2) c.in_err-loss.ensures)
+
+pub returns-then-not-has : goal.returns-then-not-has
+returns-then-not-has c =
+    let c2 = (goal.at.returns-then-not-has c).After-moment-moment in
+    let out : set.contains c.in_ok-loss.loss.orphans c.args.member ≡ false = sym c.has.ensures ∙ c.if-not-has.true in
+    not_left c.args.pasts.now c.requires.run.lawful c.requires.run.strike c.args.determinant.now c.args.member c.in_ok-first.first (cut_of c.moment-moment.result)
+    (dependent c2) (least c2) c.in_ok-loss.loss c.in_ok-loss.ensures out
+
+pub place-requires : goal.place-requires
+place-requires c =
+    let there = last_there c.in_ok-first.ensures.precedes in
+    subst (λ (es : List Entry). c.in_ok-first.first < length (log_of es c.args.member)) (sym c.index.ensures) (slice_get_within (log_of c.args.pasts.now.entries c.args.member) c.in_ok-first.first there.0 there.1)
+
+pub returns : goal.returns
+returns c =
+    let c2 = (goal.at.returns c).After-moment-moment in
+    let has : set.contains c.in_ok-loss.loss.orphans c.args.member ≡ true = sym c.has.ensures ∙ c.if-not-has.false in
+    record {
+      place = c.place.result;
+      listed = refl;
+      number = c.in_ok-first.first;
+      stands = subst (λ (es : List Entry). StandsAt es c.place.result (at c.args.member c.in_ok-first.first)) c.index.ensures c.place.ensures;
+      cut = cut_of c.moment-moment.result;
+      candidate = left_there c.args.pasts.now c.requires.run.lawful c.requires.run.strike c.args.determinant.now c.args.member c.in_ok-first.first (cut_of c.moment-moment.result)
+          (dependent c2) (least c2) c.in_ok-loss.loss c.in_ok-loss.ensures has;
+      says = record { determinant = refl; strike = c.in_ok-loss.ensures.strike; orphans = c.in_ok-loss.ensures.orphans; some = (c.args.member, has) };
+    }

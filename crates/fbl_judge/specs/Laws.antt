@@ -1,0 +1,67 @@
+-- Laws of runs, for the functions that state them.
+use Rattle.std.specs.Prelude.{ℕ, ◌≡◌, ◌≤◌, ◌⊎◌, ◌↔◌, true, List, Option, Some, None}
+use Rattle.std.specs.FinSet as set
+use Rattle.fbl_trace.specs.declared.trace.Determinant.{Determinant}
+use Rattle.fbl_trace.specs.MemberSets.{AllBelow, Members}
+use Rattle.fbl_runs.specs.declared.entry.Entry.{Entry}
+use Rattle.fbl_runs.specs.Entries.{log_of}
+use Rattle.fbl_runs.specs.HappenedBefore.{Position, Precedes}
+use Rattle.fbl_runs.specs.Logs.{RunParts, run_of}
+use Rattle.fbl_runs.specs.Moments.{Cut, DependsAt, HasCome, HoldsAt, IsInStepOf, IsLeastMoment, IsReceiptAt, IsStoredAt}
+use Rattle.fbl_runs.specs.Runs.{AlwaysSafe, AreEntries, IsJudgedAt, IsSafe, IsSafeFromTheFirst, Run}
+use Rattle.fbl_runs.specs.Clocks.{StandsAt}
+use Rattle.fbl_judge.specs.declared.check.UnsafeReceipt.{UnsafeReceipt}
+use Rattle.fbl_judge.specs.Unsafe.{IsSaidOf, IsUnsafe}
+
+-- at the least moment at which a receipt has come there have come its causal past and its step, and no more
+abbrev pub LeastMomentLaw : Type 0
+LeastMomentLaw =
+    (n : ℕ) (entries : List Entry) → AreEntries n entries
+    → (d : Determinant) (j : Position) → IsReceiptAt (log_of entries) d j
+    → (cut : Cut) × IsLeastMoment (log_of entries) j cut
+    × ((i : Position) → HasCome cut i ↔ Precedes (log_of entries) i j ⊎ IsInStepOf (log_of entries) j i)
+
+-- a run is always safe exactly where it is at the least moments at which the members depend on its receipts
+abbrev pub AlwaysSafeLaw : Type 0
+AlwaysSafeLaw =
+    (run : Run) (entries : List Entry) → run.logs ≡ log_of entries → AreEntries run.members entries → AllBelow run.strike run.members
+    → AlwaysSafe run ↔ IsSafeFromTheFirst run
+
+-- the members are those that hold the determinant at the moment
+abbrev pub AreHolders : Run → Cut → Determinant → Members → Type 0
+AreHolders run cut d holders = (q : ℕ) → (set.contains holders q ≡ true) ↔ HoldsAt run.logs cut d q
+
+-- wherever the run is judged, where at most f members hold a receipt that is not on stable storage, all that depend on it hold it: the
+-- always-no-orphans condition of Alvisi and Marzullo (1998); judged at each moment, the run does not possibly break it (Cooper and
+-- Marzullo 1991)
+abbrev pub HasAlwaysNoOrphans : Run → Type 0
+HasAlwaysNoOrphans run =
+    (cut : Cut) → IsJudgedAt run.judged run.logs cut → (d : Determinant) → ¬ (IsStoredAt run.logs cut d) → (holders : Members) → AreHolders run cut d holders
+    → set.len holders ≤ run.f → (q : ℕ) → DependsAt run.logs cut d q → set.contains holders q ≡ true
+
+-- where nobody is struck, a run is safe exactly by this condition
+abbrev pub NoOrphansLaw : Type 0
+NoOrphansLaw =
+    (run : Run) (entries : List Entry) → run.logs ≡ log_of entries → AreEntries run.members entries → run.strike ≡ set.empty
+    → IsSafe run ↔ HasAlwaysNoOrphans run
+
+-- an entry of the one list and one of the other are the same entry of the same member's log, if either is named
+abbrev pub IsSameEntry : List Entry → List Entry → Option ℕ → Option ℕ → Type 0
+IsSameEntry entries others None None = Unit {0}
+IsSameEntry entries others (Some p) (Some q) = (j : Position) × StandsAt entries p j × StandsAt others q j
+IsSameEntry entries others _ _ = ⊥
+
+-- both say the same of a receipt: the same members are struck and the same are orphans, at the same entry
+pub record SaySame (entries others : List Entry) (said other : UnsafeReceipt) : Type 0 where
+  pub strike : said.strike ≡ other.strike
+  pub orphans : said.orphans ≡ other.orphans
+  pub at : IsSameEntry entries others said.at other.at
+
+-- how the entries of different members are listed makes no difference to whether a run is safe, which receipts are unsafe, and what is
+-- said of each, but for the place
+abbrev pub OrderLaw : Type 0
+OrderLaw =
+    (run : RunParts) (others : List Entry) → ((q : ℕ) → log_of run.entries q ≡ log_of others q)
+    → (IsSafe (run_of run) ↔ IsSafe (run_of (record run { entries = others })))
+    × ((d : Determinant) → IsUnsafe (run_of run) d ↔ IsUnsafe (run_of (record run { entries = others })) d)
+    × ((d : Determinant) (said other : UnsafeReceipt) → IsSaidOf run d said → IsSaidOf (record run { entries = others }) d other → SaySame run.entries others said other)

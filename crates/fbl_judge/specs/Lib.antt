@@ -1,0 +1,7 @@
+pub mod Pasts
+pub mod Unsafe
+pub mod Candidates
+pub mod Audits
+pub mod Paths
+pub mod Reasons
+pub mod Laws

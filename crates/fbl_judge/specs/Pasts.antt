@@ -1,0 +1,27 @@
+-- What the pasts of a run's entries say of them.
+use Rattle.std.specs.Prelude.{ℕ, ◌≡◌, ◌<◌, List, length}
+use Rattle.fbl_trace.specs.declared.trace.Determinant.{Determinant}
+use Rattle.fbl_runs.specs.declared.clock.Clock.{Clock}
+use Rattle.fbl_runs.specs.declared.clocks.Advance.{Advance}
+use Rattle.fbl_runs.specs.declared.entry.Entry.{Entry}
+use Rattle.fbl_runs.specs.Clocks.{AreAdvances, IsNoClock}
+use Rattle.fbl_runs.specs.Entries.{Logs}
+use Rattle.fbl_runs.specs.HappenedBefore.{Position, Precedes, at}
+use Rattle.fbl_runs.specs.Logs.{IsRun, RunParts}
+use Rattle.fbl_runs.specs.Moments.{Cut, IsLeastMoment, IsReceiptAt}
+
+-- it is its member's first entry that the other precedes
+pub record IsFirstAfter (logs : Logs) (i j : Position) : Type 0 where
+  pub precedes : Precedes logs i j
+  pub first : (k : ℕ) → k < j.number → ¬ (Precedes logs i (at j.member k))
+
+-- if the entry is a receipt, the cut is the least moment at which it has come
+abbrev pub IsLeastMomentOfReceipt : Logs → Position → Cut → Type 0
+IsLeastMomentOfReceipt logs j cut = (r : Determinant) → IsReceiptAt logs r j → IsLeastMoment logs j cut
+
+-- the run obeys its rules, the index is of its entries, the one clock is that of nothing, and the others are known of each entry
+pub record AreOf (run : RunParts) (indexed : List Entry) (empty : Clock) (advances : List Advance) : Type 0 where
+  pub rules : IsRun run
+  pub index : indexed ≡ run.entries
+  pub none : IsNoClock empty
+  pub all : AreAdvances run.entries (length run.entries) advances

@@ -1,0 +1,66 @@
+-- Why a receipt is unsafe where the run is judged, or lost at its end.
+use Rattle.std.specs.Prelude.{ℕ, ◌≡◌, ◌<◌, ◌↔◌, true, false, List, Option, Some, None, slice_get, slice_index}
+use Rattle.std.specs.List.{AllZip}
+use Rattle.std.specs.FinSet as set
+use Rattle.fbl_trace.specs.declared.trace.Determinant.{Determinant}
+use Rattle.fbl_judge.specs.declared.check.UnsafeReceipt.{UnsafeReceipt}
+use Rattle.fbl_judge.specs.declared.reason.Reason.{Reason}
+use Rattle.fbl_judge.specs.Audits.{end_of}
+use Rattle.fbl_judge.specs.Paths.{ArePathsFrom}
+use Rattle.fbl_judge.specs.Unsafe.{IsSaidOf}
+use Rattle.fbl_runs.specs.declared.entry.Entry.{Entry}
+use Rattle.fbl_runs.specs.Clocks.{StandsAt}
+use Rattle.fbl_runs.specs.Entries.{entry_member, log_of, recorded_in}
+use Rattle.fbl_runs.specs.HappenedBefore.{Position}
+use Rattle.fbl_runs.specs.Logs.{RunParts}
+use Rattle.fbl_runs.specs.Moments.{Cut, DependsAt, HasCome, HoldsAt}
+
+-- so many of its first entries each member has
+abbrev pub cut_in : List ℕ → Cut
+cut_in counts q = slice_index counts q
+
+-- the place has a hold or a store of the determinant that has not come at the cut
+abbrev pub IsToCome : List Entry → Cut → Determinant → ℕ → Type 0
+IsToCome entries cut d place =
+    (e : Entry) × (i : Position) × (slice_get entries place ≡ Some e) × StandsAt entries place i × (recorded_in e ≡ Some d) × ¬ (HasCome cut i)
+
+-- it is the first such place, if there is one
+abbrev pub IsNextPlace : List Entry → Cut → Determinant → Option ℕ → Type 0
+IsNextPlace entries cut d None = (place : ℕ) → ¬ (IsToCome entries cut d place)
+IsNextPlace entries cut d (Some next) = IsToCome entries cut d next × ((place : ℕ) → place < next → ¬ (IsToCome entries cut d place))
+
+-- the reason has the cut, who holds the receipt's determinant there, the place of what makes it known next, and a path from the receipt to
+-- each member of which P holds
+pub record IsReasonAt (run : RunParts) (cut : Cut) (P : ℕ → Type 0) (reason : Reason) : Type 0 where
+  pub moment : cut_in reason.cut ≡ cut
+  pub holders : (q : ℕ) → (set.contains reason.holders q ≡ true) ↔ HoldsAt (log_of run.entries) cut reason.determinant q
+  pub next : IsNextPlace run.entries cut reason.determinant reason.next
+  pub paths : ArePathsFrom run reason.determinant P 0 reason.paths.items
+
+-- the members to whom paths lead: the orphans at the end, and at a moment the member whose entry has its place
+abbrev pub IsShown : RunParts → UnsafeReceipt → Option ℕ → ℕ → Type 0
+IsShown run said None q = set.contains said.orphans q ≡ true
+IsShown run said (Some place) q = (e : Entry) × (slice_get run.entries place ≡ Some e) × (entry_member e ≡ q)
+
+-- the reason of what is said of an unsafe receipt, at the cut of which it is said
+pub record IsUnsafeReason (run : RunParts) (said : UnsafeReceipt) (reason : Reason) : Type 0 where
+  pub determinant : reason.determinant ≡ said.determinant
+  pub at : reason.at ≡ said.at
+  pub strike : reason.strike ≡ said.strike
+  pub says : IsSaidOf run said.determinant said
+  pub why : IsReasonAt run says.cut (IsShown run said said.at) reason
+
+-- the reason of a lost receipt, at the end, with paths to all that are left and depend on it
+pub record IsLossReason (run : RunParts) (d : Determinant) (reason : Reason) : Type 0 where
+  pub determinant : reason.determinant ≡ d
+  pub at : reason.at ≡ None
+  pub strike : reason.strike ≡ run.strike
+  pub why : IsReasonAt run (end_of run) (λ q. (set.contains run.strike q ≡ false) × DependsAt (log_of run.entries) (end_of run) d q) reason
+
+-- the reasons are those of what is said, in its order
+abbrev pub AreUnsafeReasons : RunParts → List UnsafeReceipt → List Reason → Type 0
+AreUnsafeReasons run said reasons = AllZip (IsUnsafeReason run) said reasons
+
+-- the reasons are those of these receipts, in their order
+abbrev pub AreLossReasons : RunParts → List Determinant → List Reason → Type 0
+AreLossReasons run lost reasons = AllZip (IsLossReason run) lost reasons

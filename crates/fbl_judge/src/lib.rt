@@ -1,0 +1,19 @@
+//! Whether a recorded run is safe where it is judged, whichever members are lost: the check, the audit of its last moment, the reasons, with
+//! paths from receipts to orphans, and the laws.
+//!
+//! A moment is a consistent cut of the run (Mattern 1988) that divides no step: a receipt and the holds and stores that directly follow it
+//! in its member's log come together. A dump is judged at its last moment, a log at each.
+#![tactic(auto)]
+
+mod audit;
+mod check;
+pub mod laws;
+mod pasts;
+mod paths;
+mod reason;
+
+pub use audit::{Audit, audit_of, first_cause, first_on_any};
+pub use check::{UnsafeReceipt, unsafe_receipts};
+pub use pasts::Pasts;
+pub use paths::{OrphanPath, path_to, paths_to};
+pub use reason::{Reason, loss_reason, loss_reasons, unsafe_reason, unsafe_reasons};

@@ -1,0 +1,235 @@
+//! The pasts of a run's entries: which entries precede which.
+
+ghost use Rattle.std.specs.Prelude.{◌≡◌, ◌<◌, ◌+◌, ◌≤◌, ◌↔◌, ℕ, Some, true, IfOk, MatchOption, length, slice_get};
+ghost use Rattle.std.specs.FinSet as set;
+ghost use Rattle.fbl_runs.specs.Clocks.{IsAdvance, IsClock, PrecedesSome, StandsAt, cut_of};
+ghost use Rattle.fbl_runs.specs.Entries.{log_of};
+ghost use Rattle.fbl_runs.specs.HappenedBefore.{Position, Precedes, at};
+ghost use Rattle.fbl_runs.specs.Moments.{DependsAt, IsFirstDependent};
+ghost use Rattle.fbl_runs.specs.declared.entry.Entry.TheVariants.{Event};
+ghost use Rattle.fbl_trace.specs.Events.{receipt_of};
+ghost use Rattle.fbl_judge.specs.Pasts.{IsFirstAfter, IsLeastMomentOfReceipt};
+ghost use Rattle.fbl_judge.specs.Paths.{ArePathEnds, DependsSome, IsDependentPlace};
+ghost use Rattle.fbl_runs.specs.Logs.{IsRun};
+
+use fbl_runs::{Advance, Clock, Clocks, Entry, Index, Run};
+use fbl_trace::{Determinant, Member, MemberSet};
+use std::alloc::{AllocError, Global};
+use std::marker::Model;
+
+/// The pasts of a run's entries: the index of the entries, and their clocks, made once. Contracts see the run.
+#[derive(Drop)]
+pub struct Pasts<'a> {
+    run: &'a Run,
+    index: Index<'a>,
+    /// The clock at which nothing has come.
+    none: Clock,
+    /// For each entry, at its place, what a pass over them knows of it.
+    advances: Vec<Advance>,
+}
+
+impl<'a> Model for Pasts<'a> {
+    ghost use Rattle.fbl_judge.specs.Pasts.{AreOf};
+    ghost use Rattle.fbl_runs.specs.Logs.{RunParts};
+
+    ghost Value = { RunParts };
+
+    ghost use Rattle.std.specs.Coded.{codes, coded_ℕ};
+    ghost use Rattle.std.specs.Ordering.{nat_cmp};
+    ghost use Rattle.std.specs.FinSet as set;
+    ghost use Rattle.fbl_runs.specs.contracts.entry.Entry as entry;
+
+    ghost coded = { Prim.hlevel (codes, entry.the_row.coded, set.code {R = nat_cmp} coded_ℕ) };
+
+    ghost view = { λ p. p.run.now };
+
+    ghost invariant = { λ p. AreOf p.run.now p.index p.none p.advances.items };
+}
+
+impl<'a> Pasts<'a> {
+    /// The pasts of the run's entries. The time taken is that of the entries times the members. `Err` comes only where there is no memory
+    /// for them.
+    pub fn of(alloc: Global, run: &'a Run) -> Result<Pasts<'a>, AllocError>
+        ensures { IfOk result (λ pasts. pasts ≡ run.now) }
+    {
+        let entries = run.entries();
+        let mut pass = Clocks::new(alloc);
+        let mut advances = Vec::new(alloc);
+        for place in 0..entries.len() {
+            advances.push(pass.add(entries, place)?)?;
+        }
+        let index = Index::of(alloc, entries)?;
+        Ok(Pasts {
+            run,
+            index,
+            none: Clock::none(),
+            advances,
+        })
+    }
+
+    /// The run.
+    pub fn run(&self) -> &'a Run
+        ensures run { result.now ≡ self.now }
+        ensures rules { IsRun self.now }
+    {
+        self.run
+    }
+
+    /// The run's entries, as they are listed.
+    pub fn entries(&self) -> &'a [Entry]
+        ensures entries { result.now ≡ self.now.entries }
+        ensures rules { IsRun self.now }
+    {
+        self.run.entries()
+    }
+
+    /// What a pass over the entries knows of the entry at the place.
+    pub fn advance(&self, place: usize) -> &Advance
+        requires { place < length self.now.entries }
+        ensures { IsAdvance self.now.entries place result.now }
+    {
+        &self.advances[place]
+    }
+
+    /// The entries' index.
+    pub fn index(&self) -> &Index<'a>
+        ensures { result.now ≡ self.now.entries }
+    {
+        &self.index
+    }
+
+    /// The clock of the member's first entries, this many.
+    fn clock(&self, member: Member, count: usize) -> &Clock
+        requires { count ≤ length (log_of self.now.entries member) }
+        ensures { IsClock (log_of self.now.entries) member count (cut_of result.now) }
+    {
+        if count == 0 {
+            return &self.none;
+        }
+        &self.advance(self.index.place(member, count - 1)).with
+    }
+
+    /// Whether the source's entry with the number precedes one of the member's first entries, this many.
+    fn precedes(&self, source: Member, number: usize, member: Member, count: usize) -> bool
+        requires { count ≤ length (log_of self.now.entries member) }
+        ensures { (result ≡ true) ↔ PrecedesSome (log_of self.now.entries) (at source number) member count }
+    {
+        number < self.clock(member, count).count(source)
+    }
+
+    /// How many of the member's entries stand before the first that the source's entry with the number precedes: all where none does.
+    fn count_before(&self, source: Member, number: usize, member: Member) -> usize
+        ensures within { result ≤ length (log_of self.now.entries member) }
+        ensures none { ¬ (PrecedesSome (log_of self.now.entries) (at source number) member result) }
+        ensures next { result < length (log_of self.now.entries member) → PrecedesSome (log_of self.now.entries) (at source number) member (result + 1) }
+    {
+        let mut first = 0;
+        let mut end = self.index.count(member);
+        while first < end {
+            let middle = first + (end - first) / 2;
+            if self.precedes(source, number, member, middle + 1) {
+                end = middle;
+            } else {
+                first = middle + 1;
+            }
+        }
+        first
+    }
+
+    /// The number of the member's first entry that the source's entry with the number precedes.
+    pub(crate) fn first_after(&self, source: Member, number: usize, member: Member) -> Option<usize>
+        ensures { MatchOption result ((k : ℕ) → ¬ (Precedes (log_of self.now.entries) (at source number) (at member k))) (λ k. IsFirstAfter (log_of self.now.entries) (at source number) (at member k)) }
+    {
+        let count = self.count_before(source, number, member);
+        if count < self.index.count(member) {
+            Some(count)
+        } else {
+            None
+        }
+    }
+
+    /// The least moment at which the member's entry with the number, a receipt, has come.
+    pub(crate) fn moment(&self, member: Member, number: usize) -> Clock
+        requires { number < length (log_of self.now.entries member) }
+        ensures least { IsLeastMomentOfReceipt (log_of self.now.entries) (at member number) (cut_of result) }
+        ensures within { (q : ℕ) → cut_of result q ≤ length (log_of self.now.entries q) }
+    {
+        let end = self.index.step_end(member, number);
+        let clock = self.clock(member, number + 1);
+        clock.reaching(member, end)
+    }
+
+    /// The least moment at which the entry at the place, a receipt, has come.
+    pub fn moment_at(&self, place: usize) -> Clock
+        requires { (i : Position) × StandsAt self.now.entries place i }
+        ensures { (i : Position) → StandsAt self.now.entries place i → IsLeastMomentOfReceipt (log_of self.now.entries) i (cut_of result) }
+    {
+        let advance = self.advance(place);
+        self.moment(advance.member, advance.number)
+    }
+
+    /// The members that have an entry at the clock's cut that the source's entry with the number precedes.
+    pub fn reached(&self, source: Member, number: usize, moment: &Clock) -> MemberSet
+        requires { (q : ℕ) → cut_of moment.now q ≤ length (log_of self.now.entries q) }
+        ensures { (q : ℕ) → (set.contains result q ≡ true) ↔ PrecedesSome (log_of self.now.entries) (at source number) q (cut_of moment.now q) }
+    {
+        let mut reached = MemberSet::empty();
+        for number_of_member in 0..16u8 {
+            let member = Member::at(number_of_member);
+            if self.precedes(source, number, member, moment.count(member)) {
+                reached = reached.with(member);
+            }
+        }
+        reached
+    }
+
+    /// The place of the receipt with the determinant.
+    pub fn receipt_place(&self, determinant: &Determinant) -> Option<usize>
+        ensures { MatchOption result ((place : ℕ) → ¬ (slice_get self.now.entries place ≡ Some (Event (receipt_of determinant.now)))) (λ place. slice_get self.now.entries place ≡ Some (Event (receipt_of determinant.now))) }
+    {
+        let number = self.index.receipt_number(determinant)?;
+        Some(self.index.place(determinant.to, number))
+    }
+
+    /// The number of the member's first entry that depends on the receipt with the determinant.
+    pub fn first_dependent(&self, determinant: &Determinant, member: Member) -> Option<usize>
+        ensures { MatchOption result (¬ (DependsSome self.now determinant.now member)) (λ k. IsFirstDependent (log_of self.now.entries) determinant.now (at member k)) }
+    {
+        let number = self.index.receipt_number(determinant)?;
+        self.first_after(determinant.to, number, member)
+    }
+
+    /// The place of the member's first entry that depends on the receipt with the determinant.
+    pub fn dependent_place(&self, determinant: &Determinant, member: Member) -> Option<usize>
+        ensures { MatchOption result (¬ (DependsSome self.now determinant.now member)) (IsDependentPlace self.now determinant.now member) }
+    {
+        let number = self.first_dependent(determinant, member)?;
+        Some(self.index.place(member, number))
+    }
+
+    /// The places where a path from the receipt with the determinant to the member begins and ends: those of the receipt and of the member's
+    /// first entry that depends on it.
+    pub(crate) fn path_ends(
+        &self,
+        determinant: &Determinant,
+        member: Member,
+    ) -> Option<(usize, usize)>
+        ensures { MatchOption result (¬ (DependsSome self.now determinant.now member)) (λ ends. ArePathEnds self.now determinant.now member ends.0 ends.1) }
+    {
+        let _run = self.run;
+        let start = self.receipt_place(determinant)?;
+        let end = self.dependent_place(determinant, member)?;
+        Some((start, end))
+    }
+
+    /// The members that depend on the receipt with the determinant at the clock's cut.
+    pub fn dependents(&self, determinant: &Determinant, moment: &Clock) -> MemberSet
+        requires { (q : ℕ) → cut_of moment.now q ≤ length (log_of self.now.entries q) }
+        ensures { (q : ℕ) → (set.contains result q ≡ true) ↔ DependsAt (log_of self.now.entries) (cut_of moment.now) determinant.now q }
+    {
+        match self.index.receipt_number(determinant) {
+            Some(number) => self.reached(determinant.to, number, moment),
+            None => MemberSet::empty(),
+        }
+    }
+}

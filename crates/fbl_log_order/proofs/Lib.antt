@@ -1,4 +1,0 @@
-pub mod Common
-pub mod EventPlaces
-pub mod PlacingLaws
-pub mod EntryLaws

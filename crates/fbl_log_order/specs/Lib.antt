@@ -1,4 +1,0 @@
-pub mod LogOrders
-pub mod LogFaults
-pub mod Placings
-pub mod UnitedLogs

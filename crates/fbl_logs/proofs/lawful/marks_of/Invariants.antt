@@ -1,5 +1,0 @@
-use Rattle.fbl_logs.proofs.Common.{◌≡◌, take, marks}
-use Rattle.fbl_logs.proofs.lawful.marks_of.Given as goal
-
-abbrev pub invariant-loop-entry : goal.invariant-loop-entry
-invariant-loop-entry l = l.marks.items ≡ marks (take l.entry-index l.entries)

@@ -1,5 +1,0 @@
-use Rattle.fbl_moments.proofs.NoOrphans.{safe_by_condition}
-use Rattle.fbl_moments.proofs.laws.no_orphans_law.Goals as goal
-
-pub returns : goal.returns
-returns c = safe_by_condition

@@ -1,0 +1,67 @@
+//! Logs whose entries stand in any order that keeps the members' logs.
+
+ghost use Rattle.std.specs.Prelude.{◌≡◌, ◌<◌, ℕ, Some, IfErr, IfOk, length, slice_get};
+ghost use Rattle.fbl_trace.specs.Rules.{WellFormed};
+ghost use Rattle.fbl_runs.specs.Entries.{marks};
+ghost use Rattle.fbl_runs.specs.Logs.{IsLog, parts_of_log};
+ghost use Rattle.fbl_order.specs.Answers.{AnswersAlike};
+ghost use Rattle.fbl_order.specs.Faults.{RefusesUnorderedLog, record_given};
+ghost use Rattle.fbl_order.specs.Orders.{ArePlaces, IsOrderOfEntries, items_at, with_entries};
+
+use crate::fault::OrderFault;
+use crate::merge::Merge;
+use crate::order::{Ordered, group_refusal, merge_in_order};
+use fbl_dumps::DumpRefusal;
+use fbl_runs::{Entry, LogBreach, RawLog, RecordFault, Run, checked_log};
+use std::alloc::{AllocError, Global};
+
+/// The entries at these places, in this order.
+fn entries_at(alloc: Global, entries: &[Entry], places: &[usize]) -> Result<Vec<Entry>, AllocError>
+    requires { (k p : ℕ) → slice_get places.now k ≡ Some p → p < length entries.now }
+    ensures { IfOk result (λ v. v.items ≡ items_at entries.now places.now) }
+{
+    let mut chosen = Vec::new(alloc);
+    for place in places {
+        chosen.push(entries[*place])?;
+    }
+    Ok(chosen)
+}
+
+/// The refusal of a log whose entries were given at these places: a hold or a store that breaks a rule is named where it was given.
+fn refusal_as_given(refusal: DumpRefusal, breach: LogBreach, places: &[usize]) -> OrderFault
+    ensures { result ≡ record_given places.now refusal breach }
+{
+    let LogBreach::Record(fault) = breach else {
+        return OrderFault::Refused(refusal, breach);
+    };
+    let place = places.get(fault.place).copied().unwrap_or(fault.place);
+    let fault = RecordFault { place, ..fault };
+    OrderFault::Refused(DumpRefusal::BadEvent(place), LogBreach::Record(fault))
+}
+
+/// The log of these parts, with its entries in an order in which the sends and receipts obey the rules and each member's own entries
+/// stand as they do here: a hold or a store behind the same entry of its member. Whichever such order the run had, a check of it finds the
+/// same receipts unsafe; it may show one at another moment.
+///
+/// Where several faults hold, that of the group's numbers is answered before that the sends and receipts have no order, and this before
+/// those that `checked_log` finds in an order of them. The time taken is that of the entries by the members.
+pub fn order_log(alloc: Global, raw: RawLog) -> Result<Ordered<Run>, OrderFault>
+    ensures rules { IfOk result (λ o. IsLog o.run) }
+    ensures parts { IfOk result (λ o. o.run ≡ with_entries o.run.entries (parts_of_log raw)) }
+    ensures order { IfOk result (λ o. IsOrderOfEntries raw.members raw.entries.items o.run.entries) }
+    ensures places { IfOk result (λ o. ArePlaces raw.entries.items o.run.entries o.places.items) }
+    ensures kept { IfOk result (λ o. WellFormed raw.members (marks raw.entries.items) → o.run ≡ parts_of_log raw) }
+    ensures answers { IfOk result (λ o. AnswersAlike (parts_of_log raw) o.run) }
+    ensures refused { IfErr result (RefusesUnorderedLog (parts_of_log raw)) }
+{
+    if let Some(fault) = group_refusal(raw.members, raw.f) {
+        return Err(fault);
+    }
+    let given = raw.entries.as_slice();
+    let Merge { places, .. } = merge_in_order(alloc, raw.members, given)?;
+    let entries = entries_at(alloc, given, places.as_slice())?;
+    match checked_log(alloc, RawLog { entries, ..raw }) {
+        Ok(run) => Ok(Ordered { run, places }),
+        Err((refusal, breach)) => Err(refusal_as_given(refusal, breach, places.as_slice())),
+    }
+}

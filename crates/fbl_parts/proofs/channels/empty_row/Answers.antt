@@ -1,8 +1,0 @@
-use Rattle.fbl_parts.proofs.Common.{◌≡◌, arith, map-append, replicate_more}
-use Rattle.fbl_parts.proofs.channels.empty_row.Goals as goal
-
-pub loop-number-preserved : goal.loop-number-preserved
-loop-number-preserved g c = rw (c.in_ok-push.ensures.items, map-append, c.loop-number.invariant, c.new.ensures.items) (replicate_more _ _)
-
-pub returns : goal.returns
-returns g c = let all : c.loop-number._number ≡ c.args.n = omega arith in rw all at c.loop-number.invariant

@@ -1,5 +1,0 @@
-use Rattle.fbl_parts.proofs.Common.{arith}
-use Rattle.fbl_parts.proofs.channels.sum_channel.Goals as goal
-
-pub returns-clause-bound : goal.returns-clause-bound
-returns-clause-bound g c = omega (arith, c.loop-place.invariant.bound, c.loop-place.auto.place-end, c.len-place-end.ensures, c.requires)

@@ -1,5 +1,0 @@
-use Rattle.fbl_parts.proofs.Common.{◌≡◌, ◌≤◌, ◌*◌, take, value_of}
-use Rattle.fbl_parts.proofs.channels.sum_channel.Given as goal
-
-abbrev pub invariant-loop-place : goal.invariant-loop-place
-invariant-loop-place g l = record { summed : l.sum ≡ value_of (take l.place l.channel.items); bound : l.sum ≤ l.place * 4294967295 }

@@ -1,5 +1,0 @@
-use Rattle.fbl_parts.proofs.Common.{◌≡◌, ◌++◌, drop, pairs_from}
-use Rattle.fbl_parts.proofs.dumped.held_pairs.Given as goal
-
-abbrev pub invariant-loop-place : goal.invariant-loop-place
-invariant-loop-place g l = l.held.items ++ pairs_from l.place (drop l.place l.members) ≡ pairs_from 0 l.members

@@ -1,5 +1,0 @@
-use Rattle.fbl_parts.proofs.Common.{rules, filter_same}
-use Rattle.fbl_parts.proofs.staying.Replayed.cut.Goals as goal
-
-pub returns : goal.returns
-returns g c = filter_same _ _ _ (λ x b f' k. search rules) _ _ c.retain.ensures.filtered

@@ -1,5 +1,0 @@
-use Rattle.fbl_pictures.proofs.Common.{◌≡◌, ◌++◌, map, strike_mark}
-use Rattle.fbl_pictures.proofs.history_marks.push_strikes.Given as goal
-
-abbrev pub invariant-loop-member : goal.invariant-loop-member
-invariant-loop-member l = l.shapes.items ≡ l.initial.shapes.items ++ map (strike_mark l.column) l.yielded

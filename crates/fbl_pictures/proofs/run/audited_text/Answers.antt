@@ -1,0 +1,18 @@
+use Rattle.fbl_pictures.proofs.Common.{◌≡◌, ◌∙◌, IfOk-weaker, ap, length, refl, rules, vec_len}
+use Rattle.std.specs.Prelude.{string_bytes}
+use Rattle.fbl_runs.specs.Logs.{RunParts}
+use Rattle.fbl_pictures.proofs.Findings.{audited}
+use Rattle.fbl_pictures.specs.Headings.{audit_words}
+use Rattle.fbl_pictures.proofs.run.audited_text.Goals as goal
+
+pub returns : goal.returns
+returns c =
+    let run = c.args.pasts.now in
+    let audit = c.args.audit.now in
+    let tie : vec_len audit.lost ≡ length audit.lost.items = search rules in
+    let lost : c.len.result ≡ length audit.lost.items = c.len.ensures ∙ tie in
+    let struck : c.strike.result ≡ run.strike = c.strike.ensures ∙ ap (λ (r : RunParts). r.strike) c.run.ensures.run in
+    let struck_too = c.strike-2.ensures ∙ ap (λ (r : RunParts). r.strike) c.run-2.ensures.run in
+    let words = c.as_str.ensures.value ∙ c.in_ok-words.ensures ∙ (λ i. audit_words (struck i) (lost i) audit.orphans) in
+    IfOk-weaker c.finding_text.result _ _ (λ text drawn. audited run audit _ _ (string_bytes text) drawn words c.requires
+    (record { strike = struck_too; orphans = refl; receipts = c.as_slice.ensures.value; at = refl })) c.finding_text.ensures

@@ -1,0 +1,9 @@
+-- the marks so far, and those of the entries to come, are the marks of all
+use Rattle.fbl_pictures.proofs.Common.{List, ◌++◌, Glyph, cut_of, drop}
+use Rattle.fbl_pictures.specs.RunShapes.{AreGlyphs}
+use Rattle.fbl_pictures.proofs.run.marks.Receipts.glyphs.Given as goal
+
+abbrev pub invariant-loop-place : goal.invariant-loop-place
+invariant-loop-place l =
+    (rest : List Glyph) → AreGlyphs l.self.pasts.now (cut_of l.self.clock.now) l.self.lines.now l.place (drop l.place l.entries) rest
+    → AreGlyphs l.self.pasts.now (cut_of l.self.clock.now) l.self.lines.now 0 l.entries (l.glyphs.items ++ rest)

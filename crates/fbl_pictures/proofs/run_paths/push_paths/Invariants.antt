@@ -1,8 +1,0 @@
--- the paths so far, and those to the members to come, are the paths to all
-use Rattle.fbl_pictures.proofs.Common.{List, ◌≡◌, ◌++◌, ◌-◌, range_with_len, ArePathsDrawn, Shape}
-use Rattle.fbl_pictures.proofs.run_paths.push_paths.Given as goal
-
-abbrev pub invariant-loop-number : goal.invariant-loop-number
-invariant-loop-number l =
-    (rest : List Shape) → ArePathsDrawn l.audit (range_with_len l.number (l.audit.members - l.number)) rest
-    → (paths : List Shape) × ArePathsDrawn l.audit (range_with_len 0 l.audit.members) paths × (l.shapes.items ++ rest ≡ l.initial.shapes.items ++ paths)

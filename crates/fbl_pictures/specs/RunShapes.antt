@@ -1,0 +1,285 @@
+-- What is drawn of a recorded run: a mark for each entry, an arrow for each message, a line for each member, the line of a moment, and
+-- paths. The column of an entry is its place.
+use Rattle.std.specs.Prelude.{ℕ, ◌≡◌, ◌⊎◌, ◌↔◌, ◌<◌, ◌+◌, ◌==◌, Bool, true, false, not, nat_lt, List, [], ◌∷◌, ◌++◌, Option, Some, None, count_by, length, slice_get, take, option_and_then, if◌then◌else◌}
+use Rattle.std.specs.HashMap as hash_map
+use Rattle.std.specs.List.{flat_map, position_from, range_with_len}
+use Rattle.std.specs.Option.{option_to_list}
+use Rattle.std.specs.FinSet as set
+use Rattle.fbl_trace.specs.declared.trace.Determinant.{Determinant}
+use Rattle.fbl_trace.specs.declared.trace.Mark.{Mark}
+use Rattle.fbl_trace.specs.declared.trace.Mark.TheVariants.{Send, Receipt}
+use Rattle.fbl_trace.specs.declared.trace.MessageName.{MessageName}
+use Rattle.fbl_trace.specs.Events.{is_message, member_of, same_message}
+use Rattle.fbl_trace.specs.MemberSets.{Members}
+use Rattle.fbl_runs.specs.Clocks.{StandsAt}
+use Rattle.fbl_runs.specs.Entries.{entry_member, log_of, receipt_in}
+use Rattle.fbl_runs.specs.HappenedBefore.{Position}
+use Rattle.fbl_runs.specs.Logs.{RunParts}
+use Rattle.fbl_runs.specs.Moments.{Cut, HoldsAt, IsLeastMoment, IsReceiptAt, IsStoredAt}
+use Rattle.fbl_runs.specs.declared.entry.Entry.{Entry}
+use Rattle.fbl_runs.specs.declared.entry.Entry.TheVariants.{Event, Hold, Store}
+use Rattle.fbl_runs.specs.declared.judged.Judged.{Judged}
+use Rattle.fbl_runs.specs.declared.judged.Judged.TheVariants.{AtEachMoment, AtItsEnd}
+use Rattle.fbl_judge.specs.Audits.{IsFirstCause, IsFirstOnAny}
+use Rattle.fbl_judge.specs.Paths.{DependsSome, IsPathTo}
+use Rattle.fbl_pictures.specs.Columns.{column_in, has_come}
+use Rattle.fbl_pictures.specs.Crossings.{AreCrossings}
+use Rattle.fbl_pictures.specs.declared.run.columns.Columns.{Columns}
+use Rattle.fbl_pictures.specs.declared.run.finding.Finding.{Finding}
+use Rattle.fbl_pictures.specs.declared.run.members.Lines.{Lines}
+use Rattle.fbl_history.specs.declared.shape.ArrowKind.TheVariants as arrow_kind
+use Rattle.fbl_history.specs.declared.shape.Glyph.{Glyph}
+use Rattle.fbl_history.specs.declared.shape.GlyphKind.{GlyphKind}
+use Rattle.fbl_history.specs.declared.shape.GlyphKind.TheVariants as glyph
+use Rattle.fbl_history.specs.declared.shape.ReceiptKind.{ReceiptKind}
+use Rattle.fbl_history.specs.declared.shape.ReceiptKind.TheVariants.{Stable, Recorded, Lost, ToCome}
+use Rattle.fbl_history.specs.declared.shape.LineKind.TheVariants as line_kind
+use Rattle.fbl_history.specs.declared.shape.Shape.{Shape}
+use Rattle.fbl_history.specs.declared.shape.Shape.TheVariants as shape
+use Rattle.fbl_history.specs.declared.shape.Status.{Status}
+use Rattle.fbl_history.specs.declared.shape.Status.TheVariants.{Struck, Orphan, Up}
+use Rattle.fbl_history.specs.Names.{label_and_names}
+use Rattle.fbl_history.specs.Shapes.{drawn, line_kind_of}
+
+-- ---- receipts: of which kind each is by who holds it, and which message it takes
+
+-- stable where it is on stable storage; else lost where nobody but the struck holds it, and stable where more than f members hold it
+abbrev pub judged_kind : ℕ → Members → Bool → Members → ReceiptKind
+judged_kind f struck is_stored holders =
+    if is_stored then Stable else
+    (if set.len (set.difference holders struck) == 0 then Lost else (if nat_lt f (set.len holders) then Stable else Recorded))
+
+-- the message that the entry takes, if it is a receipt
+abbrev pub taken_in : Entry → Option MessageName
+taken_in e = option_and_then (λ d. Some (record { from = d.from; ssn = d.ssn })) (receipt_in e)
+
+-- the entry is a receipt of the message
+abbrev pub takes : MessageName → Entry → Bool
+takes message e = is_message message (taken_in e)
+
+-- the place of the receipt of a message, if it is received
+abbrev pub receipt_place : List Entry → MessageName → Option ℕ
+receipt_place entries message = position_from (takes message) 0 entries
+
+-- the map tells of each message the place of its receipt
+abbrev pub IsPlacesOf : {S : Type 0} → List Entry → hash_map.HashMap MessageName ℕ S → Type 0
+IsPlacesOf entries places = (message : MessageName) → hash_map.get same_message places message ≡ receipt_place entries message
+
+-- ---- entries: a mark for each, and an arrow for each message
+
+-- the shape of an entry that has come, or that has not: this is grey
+abbrev pub in_time : Bool → Shape → List Shape
+in_time true drawn_shape = drawn_shape ∷ []
+in_time false drawn_shape = shape.BeginToCome ∷ drawn_shape ∷ shape.EndToCome ∷ []
+
+-- what the mark of a receipt that has come tells: of which kind it is by who holds it and what is stored at the cut
+pub record IsHeld (run : RunParts) (cut : Cut) (struck : Members) (d : Determinant) (kind : GlyphKind) : Type 0 where
+  pub holders : Members
+  pub hold : (q : ℕ) → (set.contains holders q ≡ true) ↔ HoldsAt (log_of run.entries) cut d q
+  pub stored : Bool
+  pub store : (stored ≡ true) ↔ IsStoredAt (log_of run.entries) cut d
+  pub is : kind ≡ glyph.Held d (judged_kind run.f struck stored holders) holders
+
+-- that of a receipt, which has come, or has not: then it is not judged
+abbrev pub IsReceiptKind : RunParts → Cut → Members → Bool → Determinant → GlyphKind → Type 0
+IsReceiptKind run cut struck true d kind = IsHeld run cut struck d kind
+IsReceiptKind run cut struck false d kind = kind ≡ glyph.Held d ToCome set.empty
+
+-- that of an event
+abbrev pub IsEventKind : RunParts → Cut → Members → Bool → Mark → GlyphKind → Type 0
+IsEventKind run cut struck come (Send from ssn to) kind = kind ≡ glyph.Send ssn to false
+IsEventKind run cut struck come (Receipt to rsn from ssn) kind =
+    IsReceiptKind run cut struck come (record { from = from; ssn = ssn; to = to; rsn = rsn }) kind
+
+-- that of an entry
+abbrev pub IsKind : RunParts → Cut → Members → Bool → Entry → GlyphKind → Type 0
+IsKind run cut struck come (Event e) kind = IsEventKind run cut struck come e kind
+IsKind run cut struck come (Hold q d) kind = kind ≡ glyph.Hold d
+IsKind run cut struck come (Store q d) kind = kind ≡ glyph.Store d
+
+-- the mark of the entry at the place, on its member's line
+pub record IsGlyphOf (run : RunParts) (cut : Cut) (lines : Lines) (place : ℕ) (e : Entry) (mark : Glyph) : Type 0 where
+  pub column : mark.column ≡ place
+  pub member : mark.member ≡ entry_member e
+  pub kind : IsKind run cut lines.struck (has_come lines.moment place (entry_member e)) e mark.kind
+  pub to_come : mark.to_come ≡ not (has_come lines.moment place (entry_member e))
+
+-- the marks of entries, the first of which stands at this place
+abbrev pub AreGlyphs : RunParts → Cut → Lines → ℕ → List Entry → List Glyph → Type 0
+AreGlyphs run cut lines place [] glyphs = glyphs ≡ []
+AreGlyphs run cut lines place (e ∷ entries) glyphs =
+    (mark : Glyph) × IsGlyphOf run cut lines place e mark
+    × (others : List Glyph) × AreGlyphs run cut lines (place + 1) entries others × (glyphs ≡ mark ∷ others)
+
+-- the arrow of a message that is received at a place, or that of one in flight
+abbrev pub message_arrow : ℕ → ℕ → ℕ → Option ℕ → Shape
+message_arrow place from to (Some end) = shape.Arrow from place to end arrow_kind.Message
+message_arrow place from to None = shape.InFlight from place to false false
+
+-- the arrow of an event among the entries, if it is a send, which has come or not
+abbrev pub event_arrow : List Entry → Bool → ℕ → Mark → List Shape
+event_arrow entries come place (Send from ssn to) =
+    in_time come (message_arrow place from to (receipt_place entries (record { from = from; ssn = ssn })))
+event_arrow entries come place (Receipt to rsn from ssn) = []
+
+-- the same of an entry
+abbrev pub entry_arrow : List Entry → Columns → ℕ → Entry → List Shape
+entry_arrow entries moment place (Event e) = event_arrow entries (has_come moment place (member_of e)) place e
+entry_arrow entries moment place (Hold q d) = []
+entry_arrow entries moment place (Store q d) = []
+
+-- ---- members: a label, names and a line for each
+
+-- whether a member is struck, and else whether it is an orphan from some column on
+abbrev pub run_status : Bool → Option ℕ → Status
+run_status true start = Struck
+run_status false (Some column) = Orphan
+run_status false None = Up
+
+-- a member's line, which goes by all columns; a struck member is down, from the moment on where there is one
+abbrev pub member_line : ℕ → ℕ → Bool → Option ℕ → Shape
+member_line columns member true (Some moment) = shape.DownFrom member moment columns
+member_line columns member struck moment = shape.Line member None columns (line_kind_of struck)
+
+-- an orphan's line from its first event that depends on the lost receipt, up to the moment where there is one
+abbrev pub orphan_line : ℕ → ℕ → ℕ → Option ℕ → Shape
+orphan_line columns member start None = shape.Line member (Some start) columns line_kind.Orphan
+orphan_line columns member start (Some moment) = shape.OrphanUpTo member start moment
+
+abbrev pub orphan_lines : ℕ → ℕ → Option ℕ → Option ℕ → List Shape
+orphan_lines columns member None moment = []
+orphan_lines columns member (Some start) moment = orphan_line columns member start moment ∷ []
+
+-- a member's label, its number again in a wide picture, and its lines
+abbrev pub member_shapes : ℕ → ℕ → Bool → Option ℕ → Option ℕ → List Shape
+member_shapes columns member struck start moment =
+    label_and_names columns member (Some (run_status struck start)) ++ member_line columns member struck moment ∷ []
+    ++ orphan_lines columns member start moment
+
+abbrev pub shapes_of_member : ℕ → Lines → ℕ → List Shape
+shapes_of_member columns lines member =
+    member_shapes columns member (set.contains lines.struck member) (column_in lines.starts member) (column_in lines.moment member)
+
+-- the shapes of so many members, in their order, over so many columns
+abbrev pub members_drawn : ℕ → ℕ → Lines → List Shape
+members_drawn members columns lines = flat_map (shapes_of_member columns lines) (range_with_len 0 members)
+
+-- ---- the moment
+
+-- the part of its line at a member, from where it crosses the member's line to where it crosses the next one's
+abbrev pub moment_part : ℕ → Option ℕ → Option ℕ → Option Shape
+moment_part member None next = None
+moment_part member (Some column) next = Some (shape.Moment member column next)
+
+abbrev pub moment_shapes : Columns → ℕ → List Shape
+moment_shapes moment member = option_to_list (moment_part member (column_in moment member) (column_in moment (member + 1)))
+
+abbrev pub moment_drawn : ℕ → Columns → List Shape
+moment_drawn members moment = flat_map (moment_shapes moment) (range_with_len 0 members)
+
+-- ---- what is found, and where
+
+-- the place is that of a receipt, if there is one
+abbrev pub IsPlaceOf : RunParts → Option ℕ → Type 0
+IsPlaceOf run None = Unit {0}
+IsPlaceOf run (Some place) = (i : Position) × (d : Determinant) × StandsAt run.entries place i × IsReceiptAt (log_of run.entries) d i
+
+-- what has come at the moment: the least one at which the entry at the place has come, or all
+abbrev pub IsCutOf : RunParts → Option ℕ → Cut → Type 0
+IsCutOf run None cut = (q : ℕ) → cut q ≡ length (log_of run.entries q)
+IsCutOf run (Some place) cut = (i : Position) × StandsAt run.entries place i × IsLeastMoment (log_of run.entries) i cut
+
+-- the line of the moment has on its left what has come; it is drawn where the moment is not the run's end
+abbrev pub IsMomentLine : RunParts → Option ℕ → Cut → Columns → Type 0
+IsMomentLine run None cut columns = (q : ℕ) → column_in columns q ≡ None
+IsMomentLine run (Some place) cut columns = AreCrossings run.members run.entries cut columns
+
+-- the member is no orphan; or it is one, and starts to be one at its first entry that depends on one of the receipts
+abbrev pub IsStart : RunParts → Finding → ℕ → Option ℕ → Type 0
+IsStart run finding q start =
+    ((set.contains finding.orphans q ≡ false) × (start ≡ None))
+    ⊎ ((set.contains finding.orphans q ≡ true) × IsFirstOnAny run finding.receipts.now q start)
+
+-- how the members' lines are drawn, at the cut
+pub record AreLines (run : RunParts) (finding : Finding) (cut : Cut) (lines : Lines) : Type 0 where
+  pub struck : lines.struck ≡ finding.strike
+  pub starts : (q : ℕ) → q < 16 → IsStart run finding q (column_in lines.starts q)
+  pub moment : IsMomentLine run finding.at cut lines.moment
+
+-- ---- paths: why an orphan is one
+
+-- a step of a path from an entry to another: along their member's line, or from a send to its receipt
+abbrev pub step_shape : ℕ → ℕ → ℕ → ℕ → Shape
+step_shape start from end to =
+    if from == to then shape.Line from (Some start) end line_kind.Path else shape.Arrow from start to end arrow_kind.Path
+
+-- the same, if there are both
+abbrev pub step_between : ℕ → Option Entry → ℕ → Option Entry → Option Shape
+step_between start (Some a) end (Some b) = Some (step_shape start (entry_member a) end (entry_member b))
+step_between start (Some a) end None = None
+step_between start None end b = None
+
+-- the steps of a path by the entries at these places
+abbrev pub path_shapes : List Entry → List ℕ → List Shape
+path_shapes entries [] = []
+path_shapes entries (start ∷ []) = []
+path_shapes entries (start ∷ end ∷ places) =
+    option_to_list (step_between start (slice_get entries start) end (slice_get entries end)) ++ path_shapes entries (end ∷ places)
+
+-- the member is no orphan; or it is one, and the receipt is the first one on which it depends
+abbrev pub IsCause : RunParts → Finding → ℕ → Option Determinant → Type 0
+IsCause run finding q cause =
+    ((set.contains finding.orphans q ≡ false) × (cause ≡ None))
+    ⊎ ((set.contains finding.orphans q ≡ true) × IsFirstCause run finding.receipts.now q cause)
+
+-- the steps of a path from the receipt to the member, if there is one and the member depends on it
+abbrev pub AreStepsFrom : RunParts → Option Determinant → ℕ → List Shape → Type 0
+AreStepsFrom run None q steps = steps ≡ []
+AreStepsFrom run (Some d) q steps =
+    (¬ (DependsSome run d q) × (steps ≡ []))
+    ⊎ ((path : List ℕ) × IsPathTo run d q path × (steps ≡ path_shapes run.entries path))
+
+abbrev pub AreStepsTo : RunParts → Finding → ℕ → List Shape → Type 0
+AreStepsTo run finding q steps = (cause : Option Determinant) × IsCause run finding q cause × AreStepsFrom run cause q steps
+
+-- the steps of the path to each of these members, in their order
+abbrev pub ArePathsDrawn : RunParts → Finding → List ℕ → List Shape → Type 0
+ArePathsDrawn run finding [] shapes = shapes ≡ []
+ArePathsDrawn run finding (q ∷ members) shapes =
+    (steps : List Shape) × AreStepsTo run finding q steps × (rest : List Shape) × ArePathsDrawn run finding members rest × (shapes ≡ steps ++ rest)
+
+-- ---- the whole
+
+-- whether the entry is a send or a receipt
+abbrev pub is_event : Entry → Bool
+is_event (Event e) = true
+is_event (Hold q d) = false
+is_event (Store q d) = false
+
+-- the entries that are drawn: of a dump its events, behind which who holds what stands, and of a log all
+abbrev pub shown : Judged → List Entry → List Entry
+shown AtItsEnd entries = take (count_by is_event entries) entries
+shown AtEachMoment entries = entries
+
+abbrev pub shown_entries : RunParts → List Entry
+shown_entries run = shown run.judged run.entries
+
+-- the members' lines, the arrows, and over them the line of the moment
+abbrev pub lines_and_arrows : ℕ → List Entry → Lines → List Shape
+lines_and_arrows members entries lines =
+    members_drawn members (length entries) lines ++ drawn (entry_arrow entries lines.moment) 0 entries ++ moment_drawn members lines.moment
+
+-- the shapes of what is found: these, and over them paths
+abbrev pub AreShapesOf : RunParts → Finding → Lines → List Shape → Type 0
+AreShapesOf run finding lines shapes =
+    (paths : List Shape) × ArePathsDrawn run finding (range_with_len 0 run.members) paths
+    × (shapes ≡ lines_and_arrows run.members (shown_entries run) lines ++ paths)
+
+-- what is drawn of what is found: these shapes, and over them the marks, judged at the moment
+pub record IsDrawnOf (run : RunParts) (finding : Finding) (shapes : List Shape) (glyphs : List Glyph) : Type 0 where
+  pub cut : Cut
+  pub moment : IsCutOf run finding.at cut
+  pub lines : Lines
+  pub are : AreLines run finding cut lines
+  pub under : AreShapesOf run finding lines shapes
+  pub over : AreGlyphs run cut lines 0 (shown_entries run) glyphs

@@ -1,0 +1,129 @@
+//! The marks of entries.
+
+ghost use Rattle.std.specs.Prelude.{◌≡◌, ◌++◌, ◌∷◌, [], IfOk, OnOk};
+ghost use Rattle.fbl_history.specs.declared.shape.Glyph.{Glyph};
+ghost use Rattle.fbl_runs.specs.Clocks.{cut_of};
+ghost use Rattle.fbl_pictures.specs.RunShapes.{AreGlyphs, IsEventKind, IsGlyphOf, IsHeld, IsKind, IsReceiptKind, judged_kind};
+
+use crate::run::members::Lines;
+use fbl_history::{Glyph, GlyphKind, ReceiptKind};
+use fbl_judge::Pasts;
+use fbl_runs::{Clock, Entry};
+use fbl_trace::{Determinant, Mark, MemberSet};
+use std::alloc::{AllocError, Global};
+
+/// What the receipts of a run are judged by.
+#[derive(Clone, Copy)]
+pub(crate) struct Receipts<'a> {
+    /// Who holds and stores what from when on.
+    pub(crate) pasts: &'a Pasts<'a>,
+    /// What has come where they are judged.
+    pub(crate) clock: &'a Clock,
+    /// Who is struck, and where the moment is, if one is drawn: what is right of it is not judged.
+    pub(crate) lines: &'a Lines,
+}
+
+/// The kind of a receipt that these members hold.
+fn judged(f: u8, struck: MemberSet, is_stored: bool, holders: MemberSet) -> ReceiptKind
+    ensures { result ≡ judged_kind f struck is_stored holders }
+{
+    if is_stored {
+        ReceiptKind::Stable
+    } else if holders.without(struck).is_empty() {
+        ReceiptKind::Lost
+    } else if u32::from(f) < holders.count() {
+        ReceiptKind::Stable
+    } else {
+        ReceiptKind::Recorded
+    }
+}
+
+impl Receipts<'_> {
+    /// The kind of glyph of a receipt that has come.
+    fn held(&self, determinant: Determinant) -> GlyphKind
+        ensures { IsHeld self.now.pasts.now (cut_of self.now.clock.now) self.now.lines.now.struck determinant result }
+    {
+        let f = self.pasts.run().f();
+        let records = self.pasts.index().records(&determinant);
+        let is_stored = records.is_stored(self.clock);
+        let holders = records.holders(self.clock);
+        GlyphKind::Held {
+            determinant,
+            kind: judged(f, self.lines.struck, is_stored, holders),
+            holders,
+        }
+    }
+
+    /// The kind of glyph of a receipt, which has come or not.
+    fn receipt_kind(&self, has_come: bool, determinant: Determinant) -> GlyphKind
+        ensures { IsReceiptKind self.now.pasts.now (cut_of self.now.clock.now) self.now.lines.now.struck has_come determinant result }
+    {
+        if has_come {
+            return self.held(determinant);
+        }
+        GlyphKind::Held {
+            determinant,
+            kind: ReceiptKind::ToCome,
+            holders: MemberSet::empty(),
+        }
+    }
+
+    /// The kind of glyph of an event, which has come or not.
+    fn event_kind(&self, has_come: bool, event: Mark) -> GlyphKind
+        ensures { IsEventKind self.now.pasts.now (cut_of self.now.clock.now) self.now.lines.now.struck has_come event result }
+    {
+        match event {
+            Mark::Send { ssn, to, .. } => GlyphKind::Send {
+                ssn,
+                to,
+                undone: false,
+            },
+            Mark::Receipt { to, rsn, from, ssn } => {
+                self.receipt_kind(has_come, Determinant { from, ssn, to, rsn })
+            }
+        }
+    }
+
+    /// The kind of glyph of an entry, which has come or not.
+    fn kind(&self, has_come: bool, entry: Entry) -> GlyphKind
+        ensures { IsKind self.now.pasts.now (cut_of self.now.clock.now) self.now.lines.now.struck has_come entry result }
+    {
+        match entry {
+            Entry::Event(event) => self.event_kind(has_come, event),
+            Entry::Hold { determinant, .. } => GlyphKind::Hold(determinant),
+            Entry::Store { determinant, .. } => GlyphKind::Store(determinant),
+        }
+    }
+
+    /// Adds the glyph of the entry at the place.
+    fn push_glyph(
+        &self,
+        glyphs: &mut Vec<Glyph>,
+        place: usize,
+        entry: &Entry,
+    ) -> Result<(), AllocError>
+        ensures { OnOk result ((mark : Glyph) × IsGlyphOf self.now.pasts.now (cut_of self.now.clock.now) self.now.lines.now place entry.now mark × (glyphs.new.items ≡ glyphs.old.items ++ mark ∷ [])) }
+    {
+        let member = entry.member();
+        let has_come = self.lines.moment.has_come(place, member);
+        let kind = self.kind(has_come, *entry);
+        glyphs.push(Glyph {
+            column: place,
+            member,
+            kind,
+            to_come: !has_come,
+        })?;
+        Ok(())
+    }
+
+    /// The glyphs of these entries of the run.
+    pub(crate) fn glyphs(&self, alloc: Global, entries: &[Entry]) -> Result<Vec<Glyph>, AllocError>
+        ensures { IfOk result (λ glyphs. AreGlyphs self.now.pasts.now (cut_of self.now.clock.now) self.now.lines.now 0 entries.now glyphs.items) }
+    {
+        let mut glyphs = Vec::new(alloc);
+        for place in 0..entries.len() {
+            self.push_glyph(&mut glyphs, place, &entries[place])?;
+        }
+        Ok(glyphs)
+    }
+}

@@ -1,0 +1,5 @@
+pub mod Common
+pub mod Lines
+pub mod Endings
+pub mod Several
+pub mod Sayings

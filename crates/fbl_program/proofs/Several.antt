@@ -1,0 +1,164 @@
+-- Several files, in their order, and what they record.
+use Rattle.std.proofs.lemmas.List.{map-append}
+use Rattle.fbl_trace.proofs.Gets.{take-more}
+use Rattle.std.specs.List.{AllZip}
+use Rattle.std.specs.Prelude.{slice_get, take}
+use Rattle.clap.specs.Words.{Text}
+use Rattle.fbl_records.specs.declared.reader.Recorded.{Recorded}
+use Rattle.fbl_records.specs.declared.reader.Recorded.TheVariants as raws
+use Rattle.fbl_program.specs.declared.merge.Together.{Together}
+use Rattle.fbl_program.specs.declared.merge.Together.TheVariants.{Dumps, Logs}
+use Rattle.fbl_program.specs.Jobs.{IsUnrecorded, Known, NotTogether, RecordTogether, Records}
+use Rattle.fbl_input.specs.declared.input_fault.InputFault.{InputFault}
+use Rattle.fbl_records.specs.Logs.{IsNotRecorded}
+use Rattle.fbl_program.specs.Merges.{AreTogether, IsOtherVersion, RefusesMerge, count_of, is_log}
+use Rattle.fbl_program.specs.declared.merge.MergeFault.TheVariants as faults
+use Rattle.fbl_order.specs.declared.files.FilesDiffer.TheVariants as differ
+use Rattle.fbl_program.specs.Statuses.{fault_status}
+use Rattle.std.proofs.Common.{cond, is_err, is_ok, length, true≢false}
+use Rattle.std.proofs.lemmas.List.{length-map}
+use Rattle.fbl_program.proofs.Common.{◌≡◌, ℕ, zero, suc, ◌+◌, ◌<◌, Bool, false, true, Bor, IfSome, List, [], ◌∷◌, ◌++◌, Some, None, Result, Ok, Err, IfErr, IsErrAnd, ap, arith, drop, inl, inr, map, refl, subst, sym, unwrap_or, ◌∙◌}
+
+-- ---- lists
+
+-- one more pair
+pub zip_more : {A B : Type 0} (R : A → B → Type 0) (xs : List A) (ys : List B) (x : A) (y : B) → AllZip R xs ys → R x y → AllZip R (xs ++ x ∷ []) (ys ++ y ∷ [])
+zip_more R [] [] x y all r = (r, tt)
+zip_more R [] (b ∷ ys) x y all r = absurd all
+zip_more R (a ∷ xs) [] x y all r = absurd all
+zip_more R (a ∷ xs) (b ∷ ys) x y all r = (all.0, zip_more R xs ys x y all.1 r)
+
+same_item : {A : Type 0} (x y : A) → Some x ≡ Some y → x ≡ y
+same_item x y e = ap (λ o. unwrap_or o x) e
+
+pub item_at : {A : Type 0} (xs : List A) (i : ℕ) → i < length xs → (x : A) × (slice_get xs i ≡ Some x)
+item_at [] i inside = absurd (omega (arith, inside))
+item_at (x ∷ xs) zero inside = (x, refl)
+item_at (x ∷ xs) (suc i) inside = item_at xs i (omega (arith, inside))
+
+module _ {A B C : Type 0} (f : A → B) (g : B → C) where
+  -- what is known of the names up to a place, and of the one there
+  pub known_more : (xs : List A) (i : ℕ) (x : A) → slice_get xs i ≡ Some x → map g (map f (take (suc i) xs)) ≡ map g (map f (take i xs)) ++ g (f x) ∷ []
+  known_more [] i x at = absurd (cc)
+  known_more (y ∷ ys) zero x at = ap (λ z. g (f z) ∷ []) (same_item y x at)
+  known_more (y ∷ ys) (suc i) x at = ap (λ zs. g (f y) ∷ zs) (known_more ys i x at)
+
+  -- and of those behind it
+  pub known_split : (xs : List A) (i : ℕ) (x : A) → slice_get xs i ≡ Some x → map g (map f xs) ≡ map g (map f (take i xs)) ++ g (f x) ∷ map g (map f (drop (suc i) xs))
+  known_split [] i x at = absurd (cc)
+  known_split (y ∷ ys) zero x at = ap (λ z. g (f z) ∷ map g (map f ys)) (same_item y x at)
+  known_split (y ∷ ys) (suc i) x at = ap (λ zs. g (f y) ∷ zs) (known_split ys i x at)
+
+-- one more behind others that were seen by a function
+pub map_more : {A B : Type 0} (f : A → B) (xs : List A) (x : A) (found : List B) → found ≡ map f xs → found ++ f x ∷ [] ≡ map f (xs ++ x ∷ [])
+map_more f xs x found is = ap (λ all. all ++ f x ∷ []) is ∙ sym (map-append f xs (x ∷ []))
+
+-- ---- files that are read in turn
+
+module _ (input : Text → Known) (names : List (Bor Text)) (i : ℕ) (name : Bor Text) (at : slice_get names i ≡ Some name) (found : List Recorded)
+    (so_far : AllZip Records (map input (map (λ n. n.now) (take i names))) found) where
+  -- one more records something
+  pub read_more : (more : Recorded) → Records (input name.now) more → AllZip Records (map input (map (λ n. n.now) (take (i + 1) names))) (found ++ more ∷ [])
+  read_more more records =
+      let next : i + 1 ≡ suc i = omega arith in
+      rw (next, known_more (λ (n : Bor Text). n.now) input names i name at) (zip_more Records _ found (input name.now) more so_far records)
+
+  -- or records nothing
+  pub read_none : (status : ℕ) → IsUnrecorded (input name.now) status → NotTogether (map input (map (λ n. n.now) names)) status
+  read_none status none =
+      inl (
+        map input (map (λ n. n.now) (take i names)),
+        input name.now,
+        map input (map (λ n. n.now) (drop (suc i) names)),
+        found,
+        known_split (λ (n : Bor Text). n.now) input names i name at,
+        so_far,
+        none,
+      )
+
+-- the fault of a file is told, with this exit status
+abbrev IsTold : ℕ → List ℕ → Type 0
+IsTold status input = (fault : InputFault) × IsNotRecorded input fault × (status ≡ fault_status fault.fault)
+
+pub told_fault : (before file : Known) (fault : InputFault) (status : ℕ) → before ≡ file → IfSome before (λ input. IsNotRecorded input fault)
+    → status ≡ fault_status fault.fault → IsUnrecorded file status
+told_fault before file fault status same found told = inr (subst (λ known. IfSome known (IsTold status)) same (known before found))
+  where
+    known : (o : Known) → IfSome o (λ input. IsNotRecorded input fault) → IfSome o (IsTold status)
+    known None h = tt
+    known (Some input) h = (fault, h, told)
+
+-- a fault that is passed on
+pub passed : {X E : Type 0} (P : E → Type 0) (fault : E) (r : Result X E) → IsErrAnd r (λ e. e ≡ fault) → P fault → IfErr r P
+passed P fault (Ok x) same p = tt
+passed P fault (Err e) same p = subst P (sym same) p
+
+-- one was pushed, since that did not fail
+pub pushed : {X E A : Type 0} (r : Result X E) (new more old : List A) → is_err r ≡ false → new ≡ cond (is_ok r) more old → new ≡ more
+pushed (Ok x) new more old fine is = is
+pushed (Err e) new more old fine is = absurd (true≢false fine)
+
+-- ---- versions
+
+-- there are so many dumps, and the next one is a log, or the reverse
+abbrev IsOther : Together → Recorded → ℕ → Type 0
+IsOther (Dumps dumps) (raws.Log raw) n = (n ≡ length dumps.items) × (0 < length dumps.items)
+IsOther (Logs logs) (raws.Dump raw) n = n ≡ length logs.items
+IsOther together next n = ⊥
+
+all_same : {A : Type 0} (f : A → Recorded) (b : Bool) (xs : List A) → ((x : A) → is_log (f x) ≡ b) → map is_log (map f xs) ≡ map (λ _. b) (map f xs)
+all_same f b [] is = refl
+all_same f b (x ∷ xs) is = rw (is x, all_same f b xs is) refl
+
+pub other_version : (together : Together) (next : Recorded) (n : ℕ) → IsOther together next n → (found rest : List Recorded) → AreTogether found together → IsOtherVersion (found ++ next ∷ rest) (is_log next) n
+other_version (Dumps dumps) (raws.Log raw) n other found rest are = record {
+  before = found;
+  other = raws.Log raw;
+  is = refl;
+  rest = rest;
+  found_is = refl;
+  some = omega (arith, other.0, other.1);
+  place = ap length are ∙ length-map dumps.items raws.Dump ∙ sym other.0;
+  differ = rw are (all_same raws.Dump false dumps.items (λ _. refl));
+}
+other_version (Logs logs) (raws.Dump raw) n other found rest are = record {
+  before = found;
+  other = raws.Dump raw;
+  is = refl;
+  rest = rest;
+  found_is = refl;
+  some = omega (arith, other, are.0);
+  place = ap length are.1 ∙ length-map logs.items raws.Log ∙ sym other;
+  differ = rw are.1 (all_same raws.Log true logs.items (λ _. refl));
+}
+other_version (Dumps dumps) (raws.Dump raw) n other found rest are = absurd other
+other_version (Logs logs) (raws.Log raw) n other found rest are = absurd other
+
+not_empty : {A B : Type 0} (f : A → B) (xs : List A) (y : B) (ys : List B) → y ∷ ys ≡ map f xs → 0 < length xs
+not_empty f [] y ys is = absurd (cc)
+not_empty f (x ∷ xs) y ys is = omega arith
+
+-- what some files record together are some dumps or logs
+pub some_together : (input : Text → Known) (names : List (Bor Text)) (together : Together) → 0 < length names
+    → RecordTogether (map input (map (λ n. n.now) names)) together → 0 < count_of together
+some_together input [] together some is = absurd (omega (arith, some))
+some_together input (n ∷ ns) (Dumps dumps) some ([], zip, is) = absurd zip
+some_together input (n ∷ ns) (Dumps dumps) some (r ∷ rs, zip, is) = not_empty raws.Dump dumps.items r rs is
+some_together input (n ∷ ns) (Logs logs) some (found, zip, is) = is.0
+
+-- so is what one file records
+pub one_together : (recorded : Recorded) (together : Together) → AreTogether (recorded ∷ []) together → 0 < count_of together
+one_together recorded (Dumps dumps) is = not_empty raws.Dump dumps.items recorded [] is
+one_together recorded (Logs logs) is = is.0
+
+-- memory may run out for what they are together
+pub short_of_memory : (together : Together) → RefusesMerge together (faults.Files differ.Memory)
+short_of_memory (Dumps dumps) = inl refl
+short_of_memory (Logs logs) = inl refl
+
+-- one number more, of one item more
+pub counted_more : {A : Type 0} (f : A → ℕ) (xs : List A) (i : ℕ) (x : A) → slice_get xs i ≡ Some x → (counts : List ℕ) (count : ℕ) → counts ≡ map f (take i xs) → count ≡ f x
+    → counts ++ count ∷ [] ≡ map f (take (i + 1) xs)
+counted_more f xs i x at counts count are is =
+    let next : i + 1 ≡ suc i = omega arith in
+    rw (next, take-more xs i x at, are, is) (sym (map-append f (take i xs) (x ∷ [])))

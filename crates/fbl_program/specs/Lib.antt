@@ -1,0 +1,5 @@
+pub mod Statuses
+pub mod Merges
+pub mod Outcomes
+pub mod CommandLines
+pub mod Jobs

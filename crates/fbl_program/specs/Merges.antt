@@ -1,0 +1,102 @@
+-- What comes of several dumps, or of several logs: one run of all their events, in an order.
+use Rattle.std.specs.Prelude.{◌≡◌, ℕ, ◌<◌, Bool, false, true, not, List, ◌∷◌, ◌++◌, length, map}
+use Rattle.fbl_dumps.specs.declared.refusal.DumpRefusal.TheVariants as dump
+use Rattle.fbl_dumps.specs.Dumps.{Parts, IsDump}
+use Rattle.fbl_trace.specs.Rules.{WellFormed}
+use Rattle.fbl_order.specs.declared.fault.OrderFault.TheVariants as orders
+use Rattle.fbl_order.specs.declared.files.FilesDiffer.TheVariants as files
+use Rattle.fbl_order.specs.declared.order.Ordered.{Ordered}
+use Rattle.fbl_order.specs.Faults.{RefusesUnordered, RefusesUnorderedLog}
+use Rattle.fbl_order.specs.Files.{IsUnionOfDumps, IsUnionOfLogs, RefusesFiles, dump_group, log_group}
+use Rattle.fbl_order.specs.Answers.{AnswersAlike, DumpsAnswerAlike}
+use Rattle.fbl_order.specs.Orders.{ArePlaces, IsOrder, IsOrderOfEntries, as_entries, with_entries, with_events}
+use Rattle.fbl_runs.specs.Entries.{marks}
+use Rattle.fbl_runs.specs.Logs.{IsLog, RunParts}
+use Rattle.fbl_records.specs.declared.reader.Checked.{Checked}
+use Rattle.fbl_records.specs.declared.reader.Checked.TheVariants as checked
+use Rattle.fbl_records.specs.declared.reader.Recorded.{Recorded}
+use Rattle.fbl_records.specs.declared.reader.Recorded.TheVariants as raws
+use Rattle.fbl_program.specs.declared.merge.MergeFault.{MergeFault}
+use Rattle.fbl_program.specs.declared.merge.MergeFault.TheVariants as faults
+use Rattle.fbl_program.specs.declared.merge.Together.{Together}
+use Rattle.fbl_program.specs.declared.merge.Together.TheVariants.{Dumps, Logs}
+
+-- what was found are these dumps, or these logs, of which there is one, in their order
+abbrev pub AreTogether : List Recorded → Together → Type 0
+AreTogether found (Dumps dumps) = found ≡ map raws.Dump dumps.items
+AreTogether found (Logs logs) = (0 < length logs.items) × (found ≡ map raws.Log logs.items)
+
+-- whether it is a log
+abbrev pub is_log : Recorded → Bool
+is_log (raws.Dump raw) = false
+is_log (raws.Log raw) = true
+
+-- the one with this number is the first of another version: it is a log, and those before it are dumps, or the reverse
+pub record IsOtherVersion (found : List Recorded) (log : Bool) (part : ℕ) : Type 0 where
+  pub before : List Recorded
+  pub other : Recorded
+  pub is : is_log other ≡ log
+  pub rest : List Recorded
+  pub found_is : found ≡ before ++ other ∷ rest
+  pub some : 0 < part
+  pub place : length before ≡ part
+  pub differ : map is_log before ≡ map (λ _. not log) before
+
+-- they have two versions; or memory ran out
+abbrev pub RefusesVersions : List Recorded → MergeFault → Type 0
+RefusesVersions found (faults.LogAmongDumps part) = IsOtherVersion found true part
+RefusesVersions found (faults.DumpAmongLogs part) = IsOtherVersion found false part
+RefusesVersions found (faults.Files files.Memory) = Unit {0}
+RefusesVersions found fault = ⊥
+
+-- how many events or entries each of them has
+abbrev pub lengths_of : Together → List ℕ
+lengths_of (Dumps dumps) = map (λ dump. length dump.events.items) dumps.items
+lengths_of (Logs logs) = map (λ log. length log.entries.items) logs.items
+
+-- how many dumps or logs there are
+abbrev pub count_of : Together → ℕ
+count_of (Dumps dumps) = length dumps.items
+count_of (Logs logs) = length logs.items
+
+-- the dump is the whole, but for its events, which stand in an order, each given at a place; where they obeyed the rules, they stand as
+-- they did; and in whichever order they stand, an audit and a check answer the same
+pub record IsMergedDump (whole dump : Parts) (places : List ℕ) : Type 0 where
+  pub rules : IsDump dump
+  pub parts : dump ≡ with_events dump.events whole
+  pub order : IsOrder whole.members whole.events dump.events
+  pub given : ArePlaces (as_entries whole.events) (as_entries dump.events) places
+  pub kept : WellFormed whole.members whole.events → dump ≡ whole
+  pub answers : DumpsAnswerAlike whole dump
+
+-- the same of a log and its entries: a check finds the same receipts unsafe
+pub record IsMergedLog (whole log : RunParts) (places : List ℕ) : Type 0 where
+  pub rules : IsLog log
+  pub parts : log ≡ with_entries log.entries whole
+  pub order : IsOrderOfEntries whole.members whole.entries log.entries
+  pub given : ArePlaces whole.entries log.entries places
+  pub kept : WellFormed whole.members (marks whole.entries) → log ≡ whole
+  pub answers : AnswersAlike whole log
+
+-- the same of what the files have together
+abbrev pub IsMerged : Together → Checked → List ℕ → Type 0
+IsMerged (Dumps dumps) (checked.Dump dump) places = (whole : Parts) × IsUnionOfDumps dumps.items whole × IsMergedDump whole dump places
+IsMerged (Logs logs) (checked.Log log) places = (whole : RunParts) × IsUnionOfLogs logs.items whole × IsMergedLog whole log places
+IsMerged together run places = ⊥
+
+abbrev pub IsMergeOf : Together → Ordered Checked → Type 0
+IsMergeOf together merged = IsMerged together merged.run merged.places.items
+
+-- the files differ; or what they have together has no order, or breaks another rule; or memory ran out
+abbrev pub RefusesMerge : Together → MergeFault → Type 0
+RefusesMerge (Dumps dumps) (faults.Files fault) = RefusesFiles dump_group dumps.items fault
+RefusesMerge (Logs logs) (faults.Files fault) = RefusesFiles log_group logs.items fault
+RefusesMerge (Dumps dumps) (faults.Order fault) = (whole : Parts) × IsUnionOfDumps dumps.items whole × RefusesUnordered whole fault
+RefusesMerge (Logs logs) (faults.Order fault) = (whole : RunParts) × IsUnionOfLogs logs.items whole × RefusesUnorderedLog whole fault
+RefusesMerge together fault = ⊥
+
+-- 4 where memory ran out, and else 2
+abbrev pub merge_status : MergeFault → ℕ
+merge_status (faults.Files files.Memory) = 4
+merge_status (faults.Order (orders.Refused dump.Memory breach)) = 4
+merge_status fault = 2

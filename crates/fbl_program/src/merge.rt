@@ -1,0 +1,173 @@
+//! What several files record of one run, as one: what they have together, with its events in an order that obeys the rules.
+
+ghost use Rattle.std.specs.Prelude.{◌≡◌, ◌<◌, IfErr, IfOk, List, [], ◌∷◌, ◌++◌};
+ghost use Rattle.fbl_records.specs.declared.reader.Recorded.{Recorded};
+ghost use Rattle.fbl_program.specs.Merges.{AreTogether, IsMergeOf, RefusesMerge, RefusesVersions, count_of, merge_status};
+
+use crate::status::{INPUT_FAULT, MEMORY_FAULT};
+use fbl_dumps::{DumpRefusal, RawDump};
+use fbl_order::{
+    FilesDiffer, OrderFault, Ordered, order_dump, order_log, union_of_dumps, union_of_logs,
+};
+use fbl_records::{Checked, Recorded};
+use fbl_runs::RawLog;
+use std::alloc::{AllocError, AllocFailed, Global};
+use std::convert::From;
+
+/// Why what several files record is no run together.
+#[derive(Drop)]
+pub(crate) enum MergeFault {
+    /// The file with this number, the first such, has a log, and the first file a dump, which has no version.
+    LogAmongDumps(usize),
+    /// The file with this number, the first such, has a dump, and the first file a log.
+    DumpAmongLogs(usize),
+    /// They differ in their members or in `f`, or memory runs out.
+    Files(FilesDiffer),
+    /// The events have no order, or what the files have together breaks another rule.
+    Order(OrderFault),
+}
+
+impl From<FilesDiffer> for MergeFault {
+    ghost use Rattle.fbl_program.specs.declared.merge.MergeFault.TheVariants.{Files};
+
+    ghost from_gives = { λ fault e. e ≡ Files fault };
+
+    fn from(fault: FilesDiffer) -> MergeFault {
+        MergeFault::Files(fault)
+    }
+}
+
+impl From<OrderFault> for MergeFault {
+    ghost use Rattle.fbl_program.specs.declared.merge.MergeFault.TheVariants.{Order};
+
+    ghost from_gives = { λ fault e. e ≡ Order fault };
+
+    fn from(fault: OrderFault) -> MergeFault {
+        MergeFault::Order(fault)
+    }
+}
+
+impl From<AllocError> for MergeFault {
+    ghost use Rattle.fbl_program.specs.declared.merge.MergeFault.TheVariants.{Files};
+    ghost use Rattle.fbl_order.specs.declared.files.FilesDiffer.TheVariants.{Memory};
+
+    ghost from_gives = { λ _ e. e ≡ Files Memory };
+
+    fn from(_: AllocError) -> MergeFault {
+        MergeFault::Files(FilesDiffer::Memory)
+    }
+}
+
+impl<T: Drop> From<AllocFailed<T>> for MergeFault {
+    ghost use Rattle.fbl_program.specs.declared.merge.MergeFault.TheVariants.{Files};
+    ghost use Rattle.fbl_order.specs.declared.files.FilesDiffer.TheVariants.{Memory};
+
+    ghost from_gives = { λ _ e. e ≡ Files Memory };
+
+    fn from(_: AllocFailed<T>) -> MergeFault {
+        MergeFault::Files(FilesDiffer::Memory)
+    }
+}
+
+impl MergeFault {
+    /// The exit status of the fault.
+    pub(crate) fn status(&self) -> u8
+        ensures { result ≡ merge_status self.now }
+    {
+        match self {
+            MergeFault::Files(FilesDiffer::Memory)
+            | MergeFault::Order(OrderFault::Refused(DumpRefusal::Memory, _)) => MEMORY_FAULT,
+            _ => INPUT_FAULT,
+        }
+    }
+}
+
+/// What several files record of one run, all in one version.
+#[derive(Drop)]
+pub(crate) enum Together {
+    Dumps(Vec<RawDump>),
+    Logs(Vec<RawLog>),
+}
+
+impl Together {
+    /// What one file records.
+    pub(crate) fn of(alloc: Global, recorded: Recorded) -> Result<Together, AllocError>
+        ensures { IfOk result (AreTogether (recorded ∷ [])) }
+    {
+        Ok(match recorded {
+            Recorded::Dump(raw) => {
+                let mut dumps = Vec::new(alloc);
+                dumps.push(raw)?;
+                Together::Dumps(dumps)
+            }
+            Recorded::Log(raw) => {
+                let mut logs = Vec::new(alloc);
+                logs.push(raw)?;
+                Together::Logs(logs)
+            }
+        })
+    }
+
+    /// These and the next one, where it is of their version.
+    fn with(self, alloc: Global, next: Recorded) -> Result<Together, MergeFault>
+        ensures together { (found : List Recorded) → AreTogether found self → IfOk result (AreTogether (found ++ next ∷ [])) }
+        ensures refused { (found rest : List Recorded) → AreTogether found self → IfErr result (RefusesVersions (found ++ next ∷ rest)) }
+    {
+        match (self, next) {
+            (Together::Dumps(dumps), Recorded::Dump(raw)) => {
+                let mut dumps = dumps;
+                dumps.push(raw)?;
+                Ok(Together::Dumps(dumps))
+            }
+            (Together::Logs(logs), Recorded::Log(raw)) => {
+                let mut logs = logs;
+                logs.push(raw)?;
+                Ok(Together::Logs(logs))
+            }
+            (Together::Dumps(dumps), Recorded::Log(raw)) => {
+                if !dumps.is_empty() {
+                    return Err(MergeFault::LogAmongDumps(dumps.len()));
+                }
+                Ok(Together::of(alloc, Recorded::Log(raw))?)
+            }
+            (Together::Logs(logs), Recorded::Dump(_)) => {
+                Err(MergeFault::DumpAmongLogs(logs.len()))
+            }
+        }
+    }
+}
+
+/// What these files record, where they are of one version.
+pub(crate) fn in_one_version(alloc: Global, files: Vec<Recorded>) -> Result<Together, MergeFault>
+    ensures together { IfOk result (AreTogether files.items) }
+    ensures refused { IfErr result (RefusesVersions files.items) }
+{
+    let mut together = Together::Dumps(Vec::new(alloc));
+    for recorded in files {
+        together = together.with(alloc, recorded)?;
+    }
+    Ok(together)
+}
+
+/// What the files have together, its events in an order in which each member's own stand as the files have them, one file's behind
+/// another's.
+pub(crate) fn merge_of(alloc: Global, files: &Together) -> Result<Ordered<Checked>, MergeFault>
+    requires { 0 < count_of files.now }
+    ensures merged { IfOk result (IsMergeOf files.now) }
+    ensures refused { IfErr result (RefusesMerge files.now) }
+{
+    match files {
+        Together::Dumps(dumps) => {
+            let whole = union_of_dumps(alloc, dumps.as_slice())?;
+            let Ordered { run, places } = order_dump(alloc, whole)?;
+            let run = Checked::Dump(run);
+            Ok(Ordered { run, places })
+        }
+        Together::Logs(logs) => {
+            let whole = union_of_logs(alloc, logs.as_slice())?;
+            let Ordered { run, places } = order_log(alloc, whole)?;
+            let run = Checked::Log(run);
+            Ok(Ordered { run, places })
+        }
+    }
+}

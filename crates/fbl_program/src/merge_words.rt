@@ -1,0 +1,344 @@
+//! What is told of files that record no run together: the line of the fault, and its explanation.
+
+ghost use Rattle.std.specs.Prelude.{◌≡◌, [], IfOk};
+ghost use Rattle.fbl_program.specs.Merges.{lengths_of};
+
+use crate::merge::{MergeFault, Together};
+use fbl_dumps::DumpRefusal;
+use fbl_input::{InFile, Sources, Spot};
+use fbl_order::{FilesDiffer, Obstacle, OrderFault, Stuck, first_outsider};
+use fbl_runs::LogBreach;
+use fbl_trace::{Breach, MemberSet, PairFault};
+use std::alloc::{AllocError, Global};
+use std::fmt;
+
+/// What is told of files that are merged: their names, if they are several, how many events and held pairs each has, and whom it
+/// strikes.
+#[derive(Drop)]
+pub(crate) struct InputFiles<'a> {
+    names: &'a [&'a str],
+    events: Vec<usize>,
+    held: Vec<usize>,
+    strikes: Vec<MemberSet>,
+}
+
+/// A place in a file, as an explanation has it: `3 of "a.json"`.
+#[derive(Clone, Copy)]
+struct Place<'a>(Spot<'a>);
+
+impl fmt::Display for Place<'_> {
+    fn fmt<W: fmt::Write>(&self, f: &mut fmt::Formatter<W>) -> fmt::Result {
+        let Spot { place, file } = self.0;
+        match file.name {
+            Some(name) => write!(f, "{place} of {name:?}"),
+            None => write!(f, "{place}"),
+        }
+    }
+}
+
+impl<'a> InputFiles<'a> {
+    /// Files with these names, of which no more is told.
+    pub(crate) fn named(alloc: Global, names: &'a [&'a str]) -> InputFiles<'a>
+        ensures names { result.names.now ≡ names.now }
+        ensures none { result.events.items ≡ [] }
+    {
+        InputFiles {
+            names,
+            events: Vec::new(alloc),
+            held: Vec::new(alloc),
+            strikes: Vec::new(alloc),
+        }
+    }
+
+    /// Files with these names, or with none where there is one, that record this.
+    pub(crate) fn of(
+        alloc: Global,
+        names: &'a [&'a str],
+        together: &Together,
+    ) -> Result<InputFiles<'a>, AllocError>
+        ensures names { IfOk result (λ files. files.names.now ≡ names.now) }
+        ensures lengths { IfOk result (λ files. files.events.items ≡ lengths_of together.now) }
+    {
+        let mut files = InputFiles::named(alloc, names);
+        match together {
+            Together::Dumps(dumps) => {
+                for dump in dumps.iter() {
+                    files.events.push(dump.events.len())?;
+                    files.held.push(dump.held.len())?;
+                    files.strikes.push(dump.strike)?;
+                }
+            }
+            Together::Logs(logs) => {
+                for log in logs.iter() {
+                    files.events.push(log.entries.len())?;
+                    files.strikes.push(log.strike)?;
+                }
+            }
+        }
+        Ok(files)
+    }
+
+    /// The files of a run whose events were given at these places.
+    pub(crate) fn sources<'b>(&'b self, places: &'b [usize]) -> Sources<'b>
+        ensures names { result.names.now ≡ self.now.names.now }
+        ensures lengths { result.lengths.now ≡ self.now.events.items }
+        ensures places { result.places.now ≡ places.now }
+    {
+        Sources {
+            names: self.names,
+            lengths: self.events.as_slice(),
+            places,
+        }
+    }
+
+    /// The name of the file with this number, where there are several.
+    fn name(&self, file: usize) -> Option<&'a str> {
+        self.names.get(file).copied()
+    }
+
+    /// Where a place of all these lists, one behind another, stands in its own file.
+    fn spot<'b>(&'b self, lengths: &'b [usize], place: usize) -> Spot<'b> {
+        let sources = Sources {
+            names: self.names,
+            lengths,
+            places: &[],
+        };
+        sources.spot(place)
+    }
+
+    /// Where an event of all stands in its own file.
+    fn event(&self, place: usize) -> Spot<'_> {
+        self.spot(self.events.as_slice(), place)
+    }
+
+    /// Where a held pair of all stands in its own file.
+    fn pair(&self, place: usize) -> Spot<'_> {
+        self.spot(self.held.as_slice(), place)
+    }
+
+    /// The first file that strikes a member outside the group, where there are several and this is the breach.
+    fn striking(&self, breach: LogBreach) -> InFile<'a> {
+        let outsider = match breach {
+            LogBreach::Trace(Breach::Strike(outsider)) => {
+                first_outsider(self.strikes.as_slice(), outsider.members)
+            }
+            _ => None,
+        };
+        let name = outsider.and_then(|(file, _)| self.name(file));
+        InFile { name }
+    }
+
+    /// The first name that stands behind the same name.
+    fn repeated(&self) -> Option<&'a str> {
+        for (file, name) in self.names.iter().enumerate() {
+            if self.names[..file].contains(name) {
+                return Some(*name);
+            }
+        }
+        None
+    }
+}
+
+/// The line of a fault.
+#[derive(Clone, Copy)]
+pub(crate) struct MergeLine<'a> {
+    pub(crate) fault: &'a MergeFault,
+    pub(crate) files: &'a InputFiles<'a>,
+}
+
+impl MergeLine<'_> {
+    /// Writes the refusal of what the files have together.
+    fn write_refusal<W: fmt::Write>(
+        &self,
+        f: &mut fmt::Formatter<W>,
+        refusal: DumpRefusal,
+        breach: LogBreach,
+    ) -> fmt::Result {
+        match refusal {
+            DumpRefusal::BadEvent(place) => {
+                let spot = self.files.event(place);
+                write!(f, "BadEvent {spot}")
+            }
+            DumpRefusal::BadHeld(place) => {
+                let spot = self.files.pair(place);
+                write!(f, "BadHeld {spot}")
+            }
+            DumpRefusal::Memory => f.write_str("memory"),
+            _ => {
+                let file = self.files.striking(breach);
+                write!(f, "{refusal}{file}")
+            }
+        }
+    }
+}
+
+impl fmt::Display for MergeLine<'_> {
+    fn fmt<W: fmt::Write>(&self, f: &mut fmt::Formatter<W>) -> fmt::Result {
+        f.write_str("fault: ")?;
+        match self.fault {
+            MergeFault::LogAmongDumps(file)
+            | MergeFault::DumpAmongLogs(file)
+            | MergeFault::Files(FilesDiffer::Members { file, .. } | FilesDiffer::F { file, .. }) =>
+                {
+                    let name = self.files.name(*file).unwrap_or("-");
+                    write!(f, "BadParts {name:?}")
+                }
+            MergeFault::Files(FilesDiffer::Memory) => f.write_str("memory"),
+            MergeFault::Order(OrderFault::NoOrder(chain)) => {
+                let place = chain.first().map_or(0, |stuck| stuck.place);
+                let spot = self.files.event(place);
+                write!(f, "BadEvent {spot}")
+            }
+            MergeFault::Order(OrderFault::Refused(refusal, breach)) => {
+                self.write_refusal(f, *refusal, *breach)
+            }
+        }
+    }
+}
+
+/// The fault in words for a person.
+#[derive(Clone, Copy)]
+pub(crate) struct MergeExplanation<'a> {
+    pub(crate) fault: &'a MergeFault,
+    pub(crate) files: &'a InputFiles<'a>,
+}
+
+impl MergeExplanation<'_> {
+    /// Writes what two files have at a key.
+    fn write_values<W: fmt::Write, V: fmt::Display + Copy>(
+        &self,
+        f: &mut fmt::Formatter<W>,
+        key: &str,
+        file: usize,
+        first: V,
+        other: V,
+    ) -> fmt::Result {
+        let name = self.files.name(file).unwrap_or("-");
+        let first_name = self.files.name(0).unwrap_or("-");
+        write!(
+            f,
+            "{key} is {other} in {name:?}, and {first} in {first_name:?}"
+        )
+    }
+
+    /// Writes why an event comes in no order.
+    fn write_obstacle<W: fmt::Write>(
+        &self,
+        f: &mut fmt::Formatter<W>,
+        obstacle: Obstacle,
+    ) -> fmt::Result {
+        match obstacle {
+            Obstacle::Waits(place) => {
+                let spot = Place(self.files.event(place));
+                write!(f, "its message is sent no earlier than event {spot}")
+            }
+            _ => write!(f, "{obstacle}"),
+        }
+    }
+
+    /// Writes of the event, or of each in a circle, why it comes in no order.
+    fn write_chain<W: fmt::Write>(
+        &self,
+        f: &mut fmt::Formatter<W>,
+        chain: &[Stuck],
+    ) -> fmt::Result {
+        for (number, stuck) in chain.iter().enumerate() {
+            let spot = Place(self.files.event(stuck.place));
+            let event = stuck.event;
+            if number == 0 {
+                write!(f, "event {spot} is {event}, and comes in no order: ")?;
+            } else {
+                write!(f, "; event {spot}, {event}, comes in none either: ")?;
+            }
+            self.write_obstacle(f, stuck.obstacle)?;
+        }
+        if chain.len() > 1 {
+            f.write_str(", and so each of them waits for another")?;
+        }
+        Ok(())
+    }
+
+    /// Writes which rule the held pair breaks.
+    fn write_pair<W: fmt::Write>(
+        &self,
+        f: &mut fmt::Formatter<W>,
+        fault: PairFault,
+    ) -> fmt::Result {
+        let spot = Place(self.files.pair(fault.place));
+        let holder = fault.holder;
+        let determinant = fault.determinant;
+        let rule = fault.rule;
+        let (from, ssn) = (determinant.from, determinant.ssn);
+        let (to, rsn) = (determinant.to, determinant.rsn);
+        write!(
+            f,
+            "held pair {spot} is [{holder},{from},{ssn},{to},{rsn}], and {rule}"
+        )
+    }
+
+    /// Writes which rule what the files have together breaks.
+    fn write_breach<W: fmt::Write>(
+        &self,
+        f: &mut fmt::Formatter<W>,
+        breach: LogBreach,
+    ) -> fmt::Result {
+        match breach {
+            LogBreach::Trace(Breach::Event(fault)) => {
+                let spot = Place(self.files.event(fault.place));
+                let (event, rule) = (fault.event, fault.rule);
+                write!(f, "event {spot} is {event}, and {rule}")
+            }
+            LogBreach::Record(fault) => {
+                let spot = Place(self.files.event(fault.place));
+                let (entry, rule) = (fault.entry, fault.rule);
+                write!(f, "event {spot} is {entry}, and {rule}")
+            }
+            LogBreach::Trace(Breach::Held(fault)) => self.write_pair(f, fault),
+            LogBreach::Trace(Breach::Strike(least)) => {
+                let strikes = self.files.strikes.as_slice();
+                let outsider = first_outsider(strikes, least.members).map_or(
+                    least,
+                    |found| found.1,
+                );
+                write!(f, "{}", Breach::Strike(outsider))
+            }
+            _ => write!(f, "{breach}"),
+        }
+    }
+
+    /// Writes which of the files is named more than once, if one is.
+    fn write_repeated<W: fmt::Write>(&self, f: &mut fmt::Formatter<W>) -> fmt::Result {
+        match self.files.repeated() {
+            Some(name) => write!(f, "; {name:?} is named more than once"),
+            None => Ok(()),
+        }
+    }
+}
+
+impl fmt::Display for MergeExplanation<'_> {
+    fn fmt<W: fmt::Write>(&self, f: &mut fmt::Formatter<W>) -> fmt::Result {
+        match self.fault {
+            MergeFault::LogAmongDumps(file) => {
+                self.write_values(f, "version", *file, "missing", "2")
+            }
+            MergeFault::DumpAmongLogs(file) => {
+                self.write_values(f, "version", *file, "2", "missing")
+            }
+            MergeFault::Files(FilesDiffer::Members { file, first, other }) => {
+                self.write_values(f, "members", *file, *first, *other)
+            }
+            MergeFault::Files(FilesDiffer::F { file, first, other }) => {
+                self.write_values(f, "f", *file, *first, *other)
+            }
+            MergeFault::Files(FilesDiffer::Memory) => f.write_str("out of memory"),
+            MergeFault::Order(OrderFault::NoOrder(chain)) => {
+                self.write_chain(f, chain.as_slice())?;
+                self.write_repeated(f)
+            }
+            MergeFault::Order(OrderFault::Refused(_, breach)) => {
+                self.write_breach(f, *breach)?;
+                self.write_repeated(f)
+            }
+        }
+    }
+}

@@ -1,0 +1,247 @@
+//! Recorded runs: what is in one file, or what several have together, is audited, checked, drawn or written.
+
+ghost use Rattle.std.specs.Prelude.{◌≡◌, ◌<◌, [], IfOk, map, string_bytes};
+ghost use Rattle.std.specs.List.{All};
+ghost use Rattle.fbl_input.specs.Faults.{PutsOut};
+ghost use Rattle.fbl_judge.specs.Unsafe.{IsSaidOf};
+ghost use Rattle.fbl_program.specs.Merges.{count_of};
+ghost use Rattle.fbl_program.specs.Outcomes.{EndsMerged, EndsRecorded, EndsWith, IsAnswer, IsAnswerTo, run_line, run_of};
+
+use crate::job::{Question, RunTask};
+use crate::merge::{Together, merge_of};
+use crate::merge_words::InputFiles;
+use crate::status::{end, fail};
+use crate::streams::Named;
+use crate::teller::refuse_merge;
+use fbl_input::shapes::LONGEST;
+use fbl_input::{OutputFault, RunFault, Sources, put};
+use fbl_judge::{Pasts, Reason, UnsafeReceipt, audit_of, loss_reasons, unsafe_reasons};
+use fbl_pictures::write_run_picture;
+use fbl_records::{Checked, Recorded, Why, dump_text, log_text, write_audit, write_check};
+use fbl_runs::Run;
+use fbl_trace::Determinant;
+use std::alloc::{AllocError, Global};
+use std::io::Write;
+
+/// The dump or the log as a line.
+fn line_of(alloc: Global, found: &Checked) -> Result<String, AllocError>
+    ensures { IfOk result (λ line. string_bytes line ≡ run_line found.now) }
+{
+    match found {
+        Checked::Dump(dump) => dump_text(alloc, dump),
+        Checked::Log(log) => log_text(alloc, log),
+    }
+}
+
+/// Writes the line. One that is longer than an input may be is told of on standard error.
+fn write_line<T: Eprint, W: Write>(rt: &T, line: &str, writer: &mut W) -> Result<(), OutputFault>
+    ensures { PutsOut (λ _ told. told ≡ line.now) (W.contents writer.old) (W.contents writer.new) result }
+{
+    let length = line.len();
+    let done = put(writer, line.as_bytes());
+    if length > LONGEST && done.is_ok() {
+        let _ = eprintln!(rt;
+            "the dump has {length} bytes, and an input may have {LONGEST}: it can't be read again"
+        );
+    }
+    done
+}
+
+/// Tells on standard error why receipts are lost, or could be. Where memory ran out for that it is left out.
+fn tell_why<R: Eprint>(
+    rt: &R,
+    run: &Run,
+    sources: &Sources<'_>,
+    reasons: Result<Vec<Reason>, AllocError>,
+) {
+    let Ok(reasons) = reasons else {
+        return;
+    };
+    let why = Why {
+        run,
+        sources: *sources,
+        reasons: reasons.as_slice(),
+    };
+    let _ = eprint!(rt; "{why}");
+}
+
+/// Tells why these receipts are lost, where that is asked for.
+fn explain_losses<R: Eprint>(
+    rt: &R,
+    alloc: Global,
+    explain: bool,
+    pasts: &Pasts<'_>,
+    sources: &Sources<'_>,
+    lost: &[Determinant],
+) {
+    if explain {
+        tell_why(rt, pasts.run(), sources, loss_reasons(alloc, pasts, lost));
+    }
+}
+
+/// Tells why these receipts are unsafe, where that is asked for.
+fn explain_check<R: Eprint>(
+    rt: &R,
+    alloc: Global,
+    explain: bool,
+    pasts: &Pasts<'_>,
+    sources: &Sources<'_>,
+    receipts: &[UnsafeReceipt],
+)
+    requires { All (λ said. IsSaidOf pasts.now said.determinant said) receipts.now }
+{
+    if explain {
+        tell_why(
+            rt,
+            pasts.run(),
+            sources,
+            unsafe_reasons(alloc, pasts, receipts),
+        );
+    }
+}
+
+/// Answers the question of the run, and whether all is well. Where that is asked for, why is told on standard error.
+fn answer<T: Eprint, W: Write>(
+    rt: &T,
+    alloc: Global,
+    question: Question,
+    explain: bool,
+    run: &Run,
+    sources: &Sources<'_>,
+    writer: &mut W,
+) -> Result<bool, OutputFault>
+    ensures { PutsOut (IsAnswerTo question run.now sources.now) (W.contents writer.old) (W.contents writer.new) result }
+{
+    let pasts = Pasts::of(alloc, run)?;
+    match question {
+        Question::Audit => {
+            let audit = audit_of(alloc, &pasts)?;
+            write_audit(alloc, &audit, writer)?;
+            explain_losses(rt, alloc, explain, &pasts, sources, audit.lost.as_slice());
+            Ok(true)
+        }
+        Question::Check => {
+            let receipts = write_check(alloc, &pasts, sources, writer)?;
+            explain_check(rt, alloc, explain, &pasts, sources, receipts.as_slice());
+            Ok(receipts.is_empty())
+        }
+        Question::Draw => {
+            write_run_picture(alloc, &pasts, sources, writer)?;
+            Ok(true)
+        }
+    }
+}
+
+/// Answers the question of the run that the dump or the log records.
+fn judge<T: Eprint, W: Write>(
+    rt: &T,
+    alloc: Global,
+    question: Question,
+    explain: bool,
+    found: &Checked,
+    sources: &Sources<'_>,
+    writer: &mut W,
+) -> Result<bool, OutputFault>
+    ensures { PutsOut (IsAnswerTo question (run_of found.now) sources.now) (W.contents writer.old) (W.contents writer.new) result }
+{
+    match found {
+        Checked::Dump(dump) => {
+            let run = Run::of_dump(alloc, dump)?;
+            answer(rt, alloc, question, explain, &run, sources, writer)
+        }
+        Checked::Log(run) => answer(rt, alloc, question, explain, run, sources, writer),
+    }
+}
+
+/// Does the task with the dump or the log, and answers whether all is well.
+fn do_run<T: Eprint, W: Write>(
+    rt: &T,
+    alloc: Global,
+    task: RunTask,
+    explain: bool,
+    found: &Checked,
+    sources: &Sources<'_>,
+    writer: &mut W,
+) -> Result<bool, OutputFault>
+    ensures { PutsOut (IsAnswer task found.now sources.now) (W.contents writer.old) (W.contents writer.new) result }
+{
+    match task {
+        RunTask::Judge(question) => judge(rt, alloc, question, explain, found, sources, writer),
+        RunTask::Merge => {
+            let line = line_of(alloc, found)?;
+            write_line(rt, line.as_str(), writer)?;
+            Ok(true)
+        }
+    }
+}
+
+/// Does the task with the dump or the log, and answers the exit status.
+pub(crate) fn end_run<T: Eprint, W: Write>(
+    rt: &T,
+    alloc: Global,
+    task: RunTask,
+    explain: bool,
+    found: &Checked,
+    sources: &Sources<'_>,
+    writer: &mut Named<'_, W>,
+) -> u8
+    ensures { EndsWith task found.now sources.now (W.contents writer.old.stream) (W.contents writer.new.stream) result }
+{
+    let done = do_run(rt, alloc, task, explain, found, sources, writer);
+    end(rt, done, writer.failure())
+}
+
+/// The sources of what is in one file.
+pub(crate) fn one_file() -> Sources<'static>
+    ensures { result.places.now ≡ [] }
+{
+    Sources {
+        names: &[],
+        lengths: &[],
+        places: &[],
+    }
+}
+
+/// Merges what the files record, does the task with what they are together, and answers the exit status. The names are those of the
+/// files, or none where there is one.
+pub(crate) fn end_merged<T: Eprint, W: Write>(
+    rt: &T,
+    alloc: Global,
+    task: RunTask,
+    explain: bool,
+    together: &Together,
+    names: &[&str],
+    writer: &mut Named<'_, W>,
+) -> u8
+    requires { 0 < count_of together.now }
+    ensures { EndsMerged task together.now (map (λ name. name.now) names.now) (W.contents writer.old.stream) (W.contents writer.new.stream) result }
+{
+    let files = match InputFiles::of(alloc, names, together) {
+        Ok(files) => files,
+        Err(_) => return fail(rt, RunFault::Memory, None),
+    };
+    match merge_of(alloc, together) {
+        Ok(merged) => {
+            let sources = files.sources(merged.places.as_slice());
+            end_run(rt, alloc, task, explain, &merged.run, &sources, writer)
+        }
+        Err(fault) => refuse_merge(rt, explain, &fault, &files),
+    }
+}
+
+/// Puts the events of what one file records into an order, does the task with it, and answers the exit status.
+pub(crate) fn end_recorded<T: Eprint, W: Write>(
+    rt: &T,
+    alloc: Global,
+    task: RunTask,
+    explain: bool,
+    recorded: Recorded,
+    writer: &mut Named<'_, W>,
+) -> u8
+    ensures { EndsRecorded task recorded (W.contents writer.old.stream) (W.contents writer.new.stream) result }
+{
+    match Together::of(alloc, recorded) {
+        Ok(together) => end_merged(rt, alloc, task, explain, &together, &[], writer),
+        Err(_) => fail(rt, RunFault::Memory, None),
+    }
+}

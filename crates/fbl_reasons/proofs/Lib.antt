@@ -1,5 +1,0 @@
-pub mod Common
-pub mod LastChecks
-pub mod Audits
-pub mod PathLaws
-pub mod MomentDumps

@@ -1,3 +1,0 @@
-pub mod LastMoments
-pub mod Reasons
-pub mod MomentDumps

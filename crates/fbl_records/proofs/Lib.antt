@@ -1,0 +1,6 @@
+pub mod Common
+pub mod Newlines
+pub mod Records
+pub mod Values
+pub mod DumpValues
+pub mod LogValues

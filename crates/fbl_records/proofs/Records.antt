@@ -1,0 +1,133 @@
+-- The fault of an input that records a run, where what it gives is refused.
+use Rattle.std.proofs.Common.{◌≡◌, ℕ, ◌∙◌, ◌⊎◌, ap, inl, inr, refl, sym, subst, List, Ok, Err, Result, Option, Some, None, IfSome, Bool, true, false}
+use Rattle.std.specs.Prelude.{is_some, option_and_then, if◌then◌else◌}
+use Rattle.serde_json.specs.Find.{get}
+use Rattle.fbl_input.proofs.Unread.{too_long}
+use Rattle.fbl_input.specs.Faults.{HasInput, IsFaultOf, IsFirstFault, IsUnread}
+use Rattle.fbl_runs.specs.declared.fault.LogBreach.{LogBreach}
+use Rattle.fbl_input.specs.declared.fault.RunFault.TheVariants as faults
+use Rattle.fbl_input.specs.declared.key.Key.TheVariants as keys
+use Rattle.fbl_input.specs.declared.kind.InputKind.TheVariants as kinds
+use Rattle.std.specs.Prelude.{Vec}
+use Rattle.std.specs.declared.alloc.Global.{Global}
+use Rattle.fbl_dumps.specs.Dumps.{IsDumpBreach, RefusesDump}
+use Rattle.fbl_dumps.specs.declared.refusal.DumpRefusal.{DumpRefusal}
+use Rattle.fbl_dumps.specs.declared.refusal.DumpRefusal.TheVariants as dump
+use Rattle.fbl_input.specs.Faults.{dump_fault}
+use Rattle.fbl_runs.specs.declared.fault.LogBreach.TheVariants.{Trace}
+use Rattle.fbl_trace.specs.declared.fault.Breach.{Breach}
+use Rattle.fbl_runs.specs.Logs.{IsLogBreach, RefusesLog, RunParts}
+use Rattle.fbl_records.proofs.Common.{Data, InputFault, InputKind, Parts, RunFault, name_of, parts_of_data, parts_of_input, value_of_input, ◌>>=◌}
+use Rattle.fbl_records.specs.Dumps.{IsNoDump, BreaksParts, RefusesParts}
+use Rattle.fbl_records.specs.Logs.{HasKind, IsNotChecked, IsNotRecorded, IsRefusal, BreaksRecorded, RefusesNone, RefusesRecorded, kind_of, log_of_data, log_version, recorded_as, recorded_kind, recorded_of_data, recorded_of_input}
+use Rattle.fbl_records.specs.declared.reader.Checked.{Checked}
+use Rattle.fbl_records.specs.declared.reader.Checked.TheVariants as parts
+
+-- ---- the kind
+
+of_log : (r : Result RunParts RunFault) (found : Checked) → (r >>= λ log. Ok (parts.Log log)) ≡ Ok found → kind_of found ≡ kinds.Log
+of_log (Err e) found is = absurd cc
+of_log (Ok log) (parts.Dump dump) is = absurd cc
+of_log (Ok log) (parts.Log other) is = refl
+
+of_dump : (r : Result Parts RunFault) (found : Checked) → (r >>= λ dump. Ok (parts.Dump dump)) ≡ Ok found → kind_of found ≡ kinds.Dump
+of_dump (Err e) found is = absurd cc
+of_dump (Ok dump) (parts.Dump other) is = refl
+of_dump (Ok dump) (parts.Log log) is = absurd cc
+
+by_version : (has_version : Bool) (d : Data) (found : Checked) → recorded_as (if has_version then kinds.Log else kinds.Dump) d ≡ Ok found
+    → kind_of found ≡ (if has_version then kinds.Log else kinds.Dump)
+by_version true d found is = of_log (log_of_data d) found is
+by_version false d found is = of_dump (parts_of_data d) found is
+
+kind_is : (input : List ℕ) (found : Checked) → recorded_of_input input ≡ Ok found → (d : Data) → value_of_input input ≡ Ok d → kind_of found ≡ recorded_kind d
+kind_is input found is d spelled = by_version (is_some (option_and_then log_version (get (name_of keys.Version) d))) d found (ap (λ v. v >>= recorded_of_data) (sym spelled) ∙ is)
+
+has_kind : (e : RunFault) (input : List ℕ) (kind : InputKind) → ((d : Data) → value_of_input input ≡ Ok d → kind ≡ recorded_kind d) → HasKind e input kind
+has_kind faults.Read input kind is = tt
+has_kind faults.Memory input kind is = tt
+has_kind e input kind is = is
+
+-- ---- refusals
+
+has_bytes : (e : RunFault) (bytes input : List ℕ) → bytes ≡ input → HasInput e bytes input
+has_bytes faults.Read bytes input same = tt
+has_bytes faults.TooLong bytes input same = tt
+has_bytes faults.Memory bytes input same = tt
+has_bytes e bytes input same = same
+
+first_is : {A : Type 0} (asked : Result A RunFault) (Refuses : A → RunFault → Type 0) (a : A) (e : RunFault) → asked ≡ Ok a → Refuses a e → IsFirstFault asked Refuses e
+first_is asked Refuses a faults.Read is h = tt
+first_is asked Refuses a faults.Memory is h = tt
+first_is asked Refuses a e is h = inr (a, is, h)
+
+pub dump_refusal : (found : Parts) (e : DumpRefusal) (breach : Breach) (bytes : Vec ℕ Global) → RefusesDump found e → IsDumpBreach found e breach
+    → IsRefusal (parts.Dump found) bytes.items (record { kind = kinds.Dump; fault = dump_fault e; breach = Some (Trace breach); input = bytes })
+dump_refusal found dump.Memory breach bytes refuses why = record { kind = refl; has = refl; refused = inl refl; why = tt }
+dump_refusal found e breach bytes refuses why = record { kind = refl; has = refl; refused = inr refuses; why = why }
+
+pub log_refusal : (log : RunParts) (e : DumpRefusal) (breach : LogBreach) (bytes : Vec ℕ Global) → RefusesLog log e → IsLogBreach log e breach
+    → IsRefusal (parts.Log log) bytes.items (record { kind = kinds.Log; fault = dump_fault e; breach = Some breach; input = bytes })
+log_refusal log dump.Memory breach bytes refuses why = record { kind = refl; has = refl; refused = inl refl; why = tt }
+log_refusal log e breach bytes refuses why = record { kind = refl; has = refl; refused = inr refuses; why = why }
+
+-- a refusal of what an input records is its first fault
+pub refused : (input : List ℕ) (found : Checked) (bytes : List ℕ) (fault : InputFault) → recorded_of_input input ≡ Ok found → bytes ≡ input
+    → IsRefusal found bytes fault → IsNotChecked input fault
+refused input found bytes fault is same refusal = (
+  has_kind fault.fault input fault.kind (λ d spelled. refusal.kind ∙ kind_is input found is d spelled),
+  record {
+    first = by_refusal refusal.refused;
+    breach = λ a i. (let other : found ≡ a = cc in subst (λ x. BreaksRecorded x fault.fault fault.breach) other refusal.why);
+    bytes = has_bytes fault.fault fault.input.items input (refusal.has ∙ same);
+  },
+)
+  where
+    by_refusal : (fault.fault ≡ faults.Memory) ⊎ RefusesRecorded found fault.fault → IsFirstFault (recorded_of_input input) RefusesRecorded fault.fault
+    by_refusal (inl memory) = rw memory tt
+    by_refusal (inr refuses) = first_is (recorded_of_input input) RefusesRecorded found fault.fault is refuses
+
+-- so is that of a dump
+pub dump_refused : (input : List ℕ) (dump : Parts) (bytes : List ℕ) (fault : InputFault) → parts_of_input input ≡ Ok dump → bytes ≡ input
+    → IsRefusal (parts.Dump dump) bytes fault → IsNoDump input fault
+dump_refused input dump bytes fault is same refusal = (
+  refusal.kind,
+  record {
+    first = by_refusal refusal.refused;
+    breach = λ a i. (let other : dump ≡ a = cc in subst (λ x. BreaksParts x fault.fault fault.breach) other refusal.why);
+    bytes = has_bytes fault.fault fault.input.items input (refusal.has ∙ same);
+  },
+)
+  where
+    by_refusal : (fault.fault ≡ faults.Memory) ⊎ RefusesParts dump fault.fault → IsFirstFault (parts_of_input input) RefusesParts fault.fault
+    by_refusal (inl memory) = rw memory tt
+    by_refusal (inr refuses) = first_is (parts_of_input input) RefusesParts dump fault.fault is refuses
+
+-- ---- faults of the form
+
+form_first : (asked : Result Checked RunFault) (e : RunFault) → IsFirstFault asked RefusesNone e → IsFirstFault asked RefusesRecorded e
+form_first asked faults.Read h = h
+form_first asked faults.Memory h = h
+form_first asked e (inl is) = inl is
+form_first asked e (inr none) = absurd (none.2)
+
+-- the first fault of the form is the input's first
+pub form_fault : (input : List ℕ) (fault : InputFault) → IsNotRecorded input fault → IsNotChecked input fault
+form_fault input fault is = (is.0, record { first = form_first (recorded_of_input input) fault.fault is.1.first; breach = is.1.breach; bytes = is.1.bytes })
+
+-- ---- inputs that could not be had
+
+pub any_memory : (found : Checked) (breach : Option LogBreach) → BreaksRecorded found faults.Read breach × BreaksRecorded found faults.Memory breach
+any_memory (parts.Dump dump) breach = (tt, tt)
+any_memory (parts.Log log) breach = (tt, tt)
+
+no_value : (input : List ℕ) (e : RunFault) (kind : InputKind) → IsUnread (Some input) e → HasKind e input kind
+no_value input faults.Read kind is = tt
+no_value input faults.Memory kind is = tt
+no_value input faults.TooLong kind is = λ d spelled. (let long = too_long input is in absurd cc)
+no_value input e kind is = absurd is
+
+pub unread_kind : (known : Option (List ℕ)) (fault : InputFault) → IsUnread known fault.fault
+    → IfSome known (λ input. IsFaultOf (recorded_of_input input) RefusesNone BreaksRecorded input fault) → IfSome known (λ input. IsNotRecorded input fault)
+unread_kind None fault is h = tt
+unread_kind (Some input) fault is h = (no_value input fault.fault fault.kind is, h)

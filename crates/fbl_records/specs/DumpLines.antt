@@ -1,0 +1,76 @@
+-- A dump as a JSON value, and as a line.
+use Rattle.std.specs.Prelude.{◌≡◌, ℕ, ◌≤◌, length, false, Ok, List, [], ◌∷◌, ◌++◌, map, codes}
+use Rattle.std.specs.Ordering.{nat_cmp}
+use Rattle.std.specs.FinSet as set
+use Rattle.serde_json.specs.Data.{Data, Members, depth, number, unsigned, string, array, object, member, no_members}
+use Rattle.serde_json.specs.View.{items_of}
+use Rattle.serde_json.specs.Read.{max_depth}
+use Rattle.serde_json.specs.Written.{compact_text, has_float}
+use Rattle.fbl_trace.specs.declared.trace.Determinant.{Determinant}
+use Rattle.fbl_trace.specs.declared.trace.Mark.{Mark}
+use Rattle.fbl_trace.specs.declared.trace.Mark.TheVariants.{Send, Receipt}
+use Rattle.fbl_runs.specs.declared.entry.Entry.{Entry}
+use Rattle.fbl_runs.specs.declared.entry.Entry.TheVariants.{Event, Hold, Store}
+use Rattle.fbl_dumps.specs.Dumps.{Parts}
+use Rattle.fbl_trace.specs.MemberSets.{member_list}
+use Rattle.fbl_input.specs.declared.key.Key.TheVariants as keys
+use Rattle.fbl_input.specs.Shapes.{longest, name_of}
+use Rattle.fbl_records.specs.Dumps.{parts_of_input}
+
+abbrev pub number_data : ℕ → Data
+number_data n = number (unsigned n)
+
+abbrev pub list_data : List Data → Data
+list_data ds = array (items_of ds)
+
+-- `[name, member, from, ssn, to, rsn]`
+abbrev pub record_data : List ℕ → ℕ → Determinant → Data
+record_data name q d = list_data (string name ∷ number_data q ∷ number_data d.from ∷ number_data d.ssn ∷ number_data d.to ∷ number_data d.rsn ∷ [])
+
+-- `["send", from, ssn, to]`, `["receipt", to, rsn, from, ssn]`, `["hold", holder, from, ssn, to, rsn]` or
+-- `["store", member, from, ssn, to, rsn]`
+abbrev pub entry_data : Entry → Data
+entry_data (Event (Send from ssn to)) = list_data (string (codes "send") ∷ number_data from ∷ number_data ssn ∷ number_data to ∷ [])
+entry_data (Event (Receipt to rsn from ssn)) =
+    list_data (string (codes "receipt") ∷ number_data to ∷ number_data rsn ∷ number_data from ∷ number_data ssn ∷ [])
+entry_data (Hold holder d) = record_data (codes "hold") holder d
+entry_data (Store q d) = record_data (codes "store") q d
+
+abbrev pub event_data : Mark → Data
+event_data e = entry_data (Event e)
+
+-- `[holder, from, ssn, to, rsn]`
+abbrev pub pair_data : ℕ × Determinant → Data
+pair_data h = list_data (number_data h.0 ∷ number_data h.1.from ∷ number_data h.1.ssn ∷ number_data h.1.to ∷ number_data h.1.rsn ∷ [])
+
+-- the members of an object that a dump has in either version, but for its events, in the order of their letters
+abbrev pub common_data : ℕ → ℕ → set.FinSet nat_cmp → Members
+common_data members f strike =
+    member (name_of keys.F) (number_data f)
+    (member (name_of keys.Members) (number_data members)
+    (member (name_of keys.Strike) (list_data (map number_data (member_list strike))) no_members))
+
+-- an object with the keys of a dump, in the order of their letters
+abbrev pub dump_object : ℕ → ℕ → Data → Data → Data → Data
+dump_object members f events held strike =
+    object (member (name_of keys.Events) events
+    (member (name_of keys.F) (number_data f)
+    (member (name_of keys.Held) held
+    (member (name_of keys.Members) (number_data members)
+    (member (name_of keys.Strike) strike no_members)))))
+
+-- the dump as an object, its strike set rising
+unfoldable pub dump_data : Parts → Data
+dump_data dump = dump_object dump.members dump.f (list_data (map event_data dump.events)) (list_data (map pair_data dump.held)) (list_data (map number_data (member_list dump.strike)))
+
+-- the dump with no space, on one line
+abbrev pub dump_line : Parts → List ℕ
+dump_line dump = compact_text (dump_data dump) ++ 10 ∷ []
+
+-- the line, where it is no longer than an input may be, is read as the same dump
+abbrev pub ReadsBack : Parts → Type 0
+ReadsBack dump = length (dump_line dump) ≤ longest → parts_of_input (dump_line dump) ≡ Ok dump
+
+-- the value has no float, and nests to a depth that is read
+abbrev pub IsWritable : Data → Type 0
+IsWritable d = (has_float d ≡ false) × (depth d ≤ max_depth)

@@ -1,0 +1,132 @@
+-- What an input records of a run, a dump or a log, or its first fault.
+use Rattle.std.specs.Prelude.{◌≡◌, ℕ, ◌⊎◌, List, Option, Some, None, is_some, option_and_then, Result, Ok, Err, if◌then◌else◌}
+use Rattle.serde_json.specs.Data.{Data}
+use Rattle.serde_json.specs.Find.{as_object, get}
+use Rattle.fbl_dumps.specs.declared.refusal.DumpRefusal.TheVariants as dump
+use Rattle.fbl_dumps.specs.Dumps.{IsDump, parts_of}
+use Rattle.fbl_input.specs.declared.key.Key.TheVariants as keys
+use Rattle.fbl_input.specs.declared.fault.RunFault.{RunFault}
+use Rattle.fbl_input.specs.declared.fault.RunFault.TheVariants as faults
+use Rattle.fbl_input.specs.declared.input_fault.InputFault.{InputFault}
+use Rattle.fbl_input.specs.declared.kind.InputKind.{InputKind}
+use Rattle.fbl_input.specs.declared.kind.InputKind.TheVariants as kinds
+use Rattle.fbl_input.specs.Faults.{IsFaultOf}
+use Rattle.fbl_runs.specs.declared.fault.LogBreach.{LogBreach}
+use Rattle.fbl_input.specs.Items.{entry_shape, unknown_key}
+use Rattle.fbl_input.specs.Shapes.{◌>>=◌, or_fault, byte_shape, field, list_of, name_of, number_within, set_shape, value_of_input}
+use Rattle.fbl_runs.specs.Logs.{IsLog, IsLogBreach, RunParts, RefusesLog, parts_of_log}
+use Rattle.fbl_runs.specs.declared.judged.Judged.TheVariants.{AtEachMoment}
+use Rattle.fbl_records.specs.declared.reader.Checked.{Checked}
+use Rattle.fbl_records.specs.declared.reader.Checked.TheVariants as parts
+use Rattle.fbl_records.specs.declared.reader.Recorded.{Recorded}
+use Rattle.fbl_records.specs.declared.reader.Recorded.TheVariants as raws
+use Rattle.fbl_records.specs.declared.reader.RecordedInput.{RecordedInput}
+use Rattle.fbl_records.specs.Dumps.{BreaksParts, RefusesParts, parts_of_data}
+
+-- ---- what an input gives
+
+-- the version of a log
+abbrev pub log_version : Data → Option ℕ
+log_version = number_within 2 2
+
+-- the parts of a log that a value gives, or its first fault
+unfoldable pub log_of_data : Data → Result RunParts RunFault
+log_of_data d = do
+  object ← or_fault faults.NotObject (as_object d)
+  version ← field keys.Version log_version d
+  members ← field keys.Members byte_shape d
+  f ← field keys.F byte_shape d
+  entries ← field keys.Events (list_of entry_shape) d
+  strike ← field keys.Strike set_shape d
+  if is_some (unknown_key kinds.Log d) then Err faults.UnknownKey else Ok (record { members = members; f = f; entries = entries; strike = strike; judged = AtEachMoment })
+
+-- what a value is read as: a log where its version is 2, and else a dump
+abbrev pub recorded_kind : Data → InputKind
+recorded_kind d = if is_some (option_and_then log_version (get (name_of keys.Version) d)) then kinds.Log else kinds.Dump
+
+-- the parts of what a value of this kind records of a run, or its first fault
+abbrev pub recorded_as : InputKind → Data → Result Checked RunFault
+recorded_as kinds.Log d = log_of_data d >>= λ log. Ok (parts.Log log)
+recorded_as kind d = parts_of_data d >>= λ dump. Ok (parts.Dump dump)
+
+abbrev pub recorded_of_data : Data → Result Checked RunFault
+recorded_of_data d = recorded_as (recorded_kind d) d
+
+-- the parts of what an input records of a run, or its first fault
+abbrev pub recorded_of_input : List ℕ → Result Checked RunFault
+recorded_of_input input = value_of_input input >>= recorded_of_data
+
+-- ---- what a reader says of it
+
+-- the parts, whether or not they obey the rules
+abbrev pub recorded_parts : Recorded → Checked
+recorded_parts (raws.Dump raw) = parts.Dump (parts_of raw)
+recorded_parts (raws.Log raw) = parts.Log (parts_of_log raw)
+
+-- the input gives these parts, and has these bytes
+abbrev pub IsRecordedOf : List ℕ → RecordedInput → Type 0
+IsRecordedOf input found = (recorded_of_input input ≡ Ok (recorded_parts found.recorded)) × (found.bytes.items ≡ input)
+
+-- the parts obey the rules of their kind
+abbrev pub ObeysRules : Checked → Type 0
+ObeysRules (parts.Dump dump) = IsDump dump
+ObeysRules (parts.Log log) = IsLog log
+
+-- the input records this of a run, which obeys the rules
+abbrev pub IsCheckedOf : List ℕ → Checked → Type 0
+IsCheckedOf input found = (recorded_of_input input ≡ Ok found) × ObeysRules found
+
+-- the fault is a refusal of the log
+abbrev pub RefusesLogParts : RunParts → RunFault → Type 0
+RefusesLogParts log (faults.Dump dump.Memory) = ⊥
+RefusesLogParts log (faults.Dump e) = RefusesLog log e
+RefusesLogParts log e = ⊥
+
+-- which rule of logs is broken
+abbrev pub BreaksLogParts : RunParts → RunFault → Option LogBreach → Type 0
+BreaksLogParts log (faults.Dump e) (Some breach) = IsLogBreach log e breach
+BreaksLogParts log (faults.Dump e) None = ⊥
+BreaksLogParts log fault breach = Unit {0}
+
+-- the fault is a refusal of what is recorded, and which rule is broken
+abbrev pub RefusesRecorded : Checked → RunFault → Type 0
+RefusesRecorded (parts.Dump dump) e = RefusesParts dump e
+RefusesRecorded (parts.Log log) e = RefusesLogParts log e
+
+abbrev pub BreaksRecorded : Checked → RunFault → Option LogBreach → Type 0
+BreaksRecorded (parts.Dump dump) e breach = BreaksParts dump e breach
+BreaksRecorded (parts.Log log) e breach = BreaksLogParts log e breach
+
+-- what has the form that is asked for is not refused
+abbrev pub RefusesNone : Checked → RunFault → Type 0
+RefusesNone found fault = ⊥
+
+-- the kind of what is recorded
+abbrev pub kind_of : Checked → InputKind
+kind_of (parts.Dump dump) = kinds.Dump
+kind_of (parts.Log log) = kinds.Log
+
+-- the fault is a refusal of what these bytes record, or memory ran out
+pub record IsRefusal (found : Checked) (bytes : List ℕ) (fault : InputFault) : Type 0 where
+  pub kind : fault.kind ≡ kind_of found
+  pub has : fault.input.items ≡ bytes
+  pub refused : (fault.fault ≡ faults.Memory) ⊎ RefusesRecorded found fault.fault
+  pub why : BreaksRecorded found fault.fault fault.breach
+
+-- the kind is that of the value that the input is, where the fault is not one of reading or of memory
+abbrev pub HasKind : RunFault → List ℕ → InputKind → Type 0
+HasKind faults.Read input kind = Unit {0}
+HasKind faults.Memory input kind = Unit {0}
+HasKind fault input kind = (d : Data) → value_of_input input ≡ Ok d → kind ≡ recorded_kind d
+
+-- the fault of a reader, where this is how what it gives may be refused, is so
+abbrev pub IsFaultIn : (Checked → RunFault → Type 0) → List ℕ → InputFault → Type 0
+IsFaultIn Refuses input fault = HasKind fault.fault input fault.kind × IsFaultOf (recorded_of_input input) Refuses BreaksRecorded input fault
+
+-- the fault of a reader of what has the form of a dump or of a log is so
+abbrev pub IsNotRecorded : List ℕ → InputFault → Type 0
+IsNotRecorded = IsFaultIn RefusesNone
+
+-- the fault of a reader of dumps and logs is so
+abbrev pub IsNotChecked : List ℕ → InputFault → Type 0
+IsNotChecked = IsFaultIn RefusesRecorded

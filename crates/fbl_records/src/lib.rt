@@ -1,0 +1,17 @@
+//! Recorded runs as text: dumps and logs as JSON, read and written, what audits and checks say, and why receipts are lost, in words for a
+//! person.
+#![tactic(auto)]
+
+mod audit_text;
+mod check_text;
+mod lines;
+mod reader;
+mod reason_text;
+
+pub use audit_text::{audit, write_audit};
+pub use check_text::write_check;
+pub use lines::{dump_text, log_text};
+pub use reader::{
+    Checked, Recorded, RecordedInput, checked_input, read_checked, read_dump, read_recorded,
+};
+pub use reason_text::Why;

@@ -1,0 +1,237 @@
+//! Recorded runs as JSON: dumps, and logs, which are dumps of version 2.
+
+ghost use Rattle.std.specs.Prelude.{◌≡◌, ℕ, List, Ok, option_and_then, IfOk, IfErr, IfSome};
+ghost use Rattle.serde_json.specs.Find.{get};
+ghost use Rattle.serde_json.specs.View.{view};
+ghost use Rattle.fbl_dumps.specs.Dumps.{IsDump, parts_of};
+ghost use Rattle.fbl_input.specs.Shapes.{Fails, Gives, name_of};
+ghost use Rattle.fbl_input.specs.declared.key.Key.TheVariants.{Version};
+ghost use Rattle.fbl_runs.specs.Logs.{IsLog, parts_of_log};
+ghost use Rattle.fbl_records.specs.Dumps.{IsDumpOf, IsNoDump, parts_of_data, parts_of_input};
+ghost use Rattle.fbl_records.specs.Logs.{HasKind, IsCheckedOf, IsNotChecked, IsNotRecorded, IsRecordedOf, IsRefusal, ObeysRules, log_of_data, log_version, recorded_kind, recorded_of_data, recorded_of_input, recorded_parts};
+ghost use Rattle.fbl_records.specs.declared.reader.Checked.TheVariants as parts;
+
+use fbl_dumps::{Dump, RawDump, checked_dump};
+use fbl_input::items::{EntryShape, EventShape, PairShape};
+use fbl_input::shapes::{
+    ByteShape, JsonShape, SetShape, no_other_key, number_in, object_in, value_field, value_in,
+    values_field,
+};
+use fbl_input::{InputFault, InputKind, Key, RunFault, read_input};
+use fbl_runs::{Entry, LogBreach, RawLog, Run, checked_log};
+use fbl_trace::{Determinant, Mark, Member, MemberSet};
+use serde_json::Value;
+use std::alloc::Global;
+use std::io::Read;
+
+/// What an input records of a run. It may break the rules of its kind.
+#[derive(Drop)]
+pub enum Recorded {
+    /// The run's end.
+    Dump(RawDump),
+    /// The run.
+    Log(RawLog),
+}
+
+/// An input that has the form of a dump or of a log.
+#[derive(Drop)]
+pub struct RecordedInput {
+    /// What it records.
+    pub recorded: Recorded,
+    /// The bytes of the input.
+    pub bytes: Vec<u8>,
+}
+
+/// What an input records of a run, which obeys the rules of its kind.
+#[derive(Drop)]
+pub enum Checked {
+    /// The run's end.
+    Dump(Dump),
+    /// The run.
+    Log(Run),
+}
+
+/// The dump that a value gives, its rules not yet checked.
+#[tactic(auto, unfolding(crate::specs::Dumps::parts_of_data))]
+fn raw_dump_of(alloc: Global, value: &Value) -> Result<RawDump, RunFault>
+    ensures { Gives parts_of result (parts_of_data (view value.now)) }
+{
+    object_in(value)?;
+    let members = value_field::<u8, ByteShape>(value, Key::Members)?;
+    let f = value_field::<u8, ByteShape>(value, Key::F)?;
+    let events = values_field::<Mark, EventShape>(alloc, value, Key::Events)?;
+    let held = values_field::<(Member, Determinant), PairShape>(alloc, value, Key::Held)?;
+    let strike = value_field::<MemberSet, SetShape>(value, Key::Strike)?;
+    no_other_key(InputKind::Dump, value)?;
+    Ok(RawDump {
+        members,
+        f,
+        events,
+        held,
+        strike,
+    })
+}
+
+/// The version of a log: the number 2.
+struct LogVersionShape;
+
+impl JsonShape<u8> for LogVersionShape {
+    ghost use Rattle.fbl_records.specs.Logs.{log_version};
+
+    ghost shape = { log_version };
+
+    fn in_value(value: &Value) -> Option<u8> {
+        let number = number_in(value, 2, 2)?;
+        Some(number as u8)
+    }
+}
+
+/// The log that a value gives, its rules not yet checked.
+#[tactic(auto, unfolding(crate::specs::Logs::log_of_data))]
+fn raw_log_of(alloc: Global, value: &Value) -> Result<RawLog, RunFault>
+    ensures { Gives parts_of_log result (log_of_data (view value.now)) }
+{
+    object_in(value)?;
+    value_field::<u8, LogVersionShape>(value, Key::Version)?;
+    let members = value_field::<u8, ByteShape>(value, Key::Members)?;
+    let f = value_field::<u8, ByteShape>(value, Key::F)?;
+    let entries = values_field::<Entry, EntryShape>(alloc, value, Key::Events)?;
+    let strike = value_field::<MemberSet, SetShape>(value, Key::Strike)?;
+    no_other_key(InputKind::Log, value)?;
+    Ok(RawLog {
+        members,
+        f,
+        entries,
+        strike,
+    })
+}
+
+/// The version of a log, if the value has it.
+fn log_version_in(value: &Value) -> Option<u8>
+    ensures { result ≡ option_and_then log_version (get (name_of Version) (view value.now)) }
+{
+    LogVersionShape::in_value(value.get(Key::Version.name())?)
+}
+
+/// What the value is read as: a log where its version is 2, and else a dump.
+fn kind_of(value: &Value) -> InputKind
+    ensures { result ≡ recorded_kind (view value.now) }
+{
+    match log_version_in(value) {
+        Some(_) => InputKind::Log,
+        None => InputKind::Dump,
+    }
+}
+
+/// What the value records of a run, its rules not yet checked.
+fn recorded_of(alloc: Global, value: &Value) -> Result<Recorded, RunFault>
+    ensures { Gives recorded_parts result (recorded_of_data (view value.now)) }
+{
+    match kind_of(value) {
+        InputKind::Log => raw_log_of(alloc, value).map(Recorded::Log),
+        _ => raw_dump_of(alloc, value).map(Recorded::Dump),
+    }
+}
+
+/// The dump with these parts and bytes, if it obeys the rules.
+fn dump_of(alloc: Global, raw: RawDump, bytes: Vec<u8>) -> Result<Dump, InputFault>
+    ensures dump { IfOk result (λ dump. dump ≡ parts_of raw) }
+    ensures rules { IfOk result IsDump }
+    ensures fault { IfErr result (IsRefusal (parts.Dump (parts_of raw)) bytes.items) }
+{
+    match checked_dump(alloc, raw) {
+        Ok(dump) => Ok(dump),
+        Err((refusal, breach)) => Err(InputFault {
+            kind: InputKind::Dump,
+            fault: RunFault::from(refusal),
+            breach: Some(LogBreach::Trace(breach)),
+            input: bytes,
+        }),
+    }
+}
+
+/// The log with these parts and bytes, if it obeys the rules.
+fn log_of(alloc: Global, raw: RawLog, bytes: Vec<u8>) -> Result<Run, InputFault>
+    ensures log { IfOk result (λ log. log ≡ parts_of_log raw) }
+    ensures rules { IfOk result IsLog }
+    ensures fault { IfErr result (IsRefusal (parts.Log (parts_of_log raw)) bytes.items) }
+{
+    match checked_log(alloc, raw) {
+        Ok(log) => Ok(log),
+        Err((refusal, breach)) => Err(InputFault {
+            kind: InputKind::Log,
+            fault: RunFault::from(refusal),
+            breach: Some(breach),
+            input: bytes,
+        }),
+    }
+}
+
+/// What the bytes spell as a dump, its rules not yet checked.
+fn raw_dump_in(alloc: Global, input: &[u8]) -> Result<RawDump, RunFault>
+    ensures { Gives parts_of result (parts_of_input input.now) }
+{
+    let value = value_in(alloc, input)?;
+    raw_dump_of(alloc, &value)
+}
+
+/// The dump that the reader has, as one JSON object, or the first fault of the input.
+pub fn read_dump<R: Read>(alloc: Global, reader: &mut R) -> Result<Dump, InputFault>
+    ensures dump { IfOk result (λ dump. IfSome (R.remaining reader.old) (λ input. IsDumpOf input dump)) }
+    ensures fault { IfErr result (λ fault. IfSome (R.remaining reader.old) (λ input. IsNoDump input fault)) }
+{
+    let kind = InputKind::Dump;
+    let bytes = read_input(alloc, kind, reader)?;
+    match raw_dump_in(alloc, bytes.as_slice()) {
+        Ok(raw) => dump_of(alloc, raw, bytes),
+        Err(fault) => Err(InputFault::new(kind, fault, bytes)),
+    }
+}
+
+/// What the bytes spell as a record of a run, or what they are read as and the first fault of their form.
+fn recorded_in(alloc: Global, input: &[u8]) -> Result<Recorded, (InputKind, RunFault)>
+    ensures parts { IfOk result (λ found. recorded_of_input input.now ≡ Ok (recorded_parts found)) }
+    ensures fault { IfErr result (λ e. Fails e.1 (recorded_of_input input.now) × HasKind e.1 input.now e.0) }
+{
+    match value_in(alloc, input) {
+        Ok(value) => match recorded_of(alloc, &value) {
+            Ok(recorded) => Ok(recorded),
+            Err(fault) => Err((kind_of(&value), fault)),
+        },
+        Err(fault) => Err((InputKind::Dump, fault)),
+    }
+}
+
+/// What the reader has, as one JSON object in the form of a log where its `version` is 2, and else in the form of a dump, or the
+/// first fault of that form.
+pub fn read_recorded<R: Read>(alloc: Global, reader: &mut R) -> Result<RecordedInput, InputFault>
+    ensures parts { IfOk result (λ found. IfSome (R.remaining reader.old) (λ input. IsRecordedOf input found)) }
+    ensures fault { IfErr result (λ fault. IfSome (R.remaining reader.old) (λ input. IsNotRecorded input fault)) }
+{
+    let bytes = read_input(alloc, InputKind::Dump, reader)?;
+    match recorded_in(alloc, bytes.as_slice()) {
+        Ok(recorded) => Ok(RecordedInput { recorded, bytes }),
+        Err((kind, fault)) => Err(InputFault::new(kind, fault, bytes)),
+    }
+}
+
+/// What the input records, once its rules are checked, or the first fault.
+pub fn checked_input(alloc: Global, input: RecordedInput) -> Result<Checked, InputFault>
+    ensures parts { IfOk result (λ found. found ≡ recorded_parts input.recorded) }
+    ensures rules { IfOk result ObeysRules }
+    ensures fault { (bytes : List ℕ) → IsRecordedOf bytes input → IfErr result (IsNotChecked bytes) }
+{
+    let RecordedInput { recorded, bytes } = input;
+    match recorded {
+        Recorded::Dump(raw) => Ok(Checked::Dump(dump_of(alloc, raw, bytes)?)),
+        Recorded::Log(raw) => Ok(Checked::Log(log_of(alloc, raw, bytes)?)),
+    }
+}
+
+/// What the reader has, as one JSON object, a dump or a log, or the first fault of the input.
+pub fn read_checked<R: Read>(alloc: Global, reader: &mut R) -> Result<Checked, InputFault>
+    ensures checked { IfOk result (λ found. IfSome (R.remaining reader.old) (λ input. IsCheckedOf input found)) }
+    ensures fault { IfErr result (λ fault. IfSome (R.remaining reader.old) (λ input. IsNotChecked input fault)) }
+{
+    checked_input(alloc, read_recorded(alloc, reader)?)
+}

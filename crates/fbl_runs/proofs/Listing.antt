@@ -1,0 +1,145 @@
+-- Where the entries of a list stand in the members' logs.
+use Rattle.fbl_runs.proofs.Common.{ℕ, zero, suc, true, false, cond, ◌≡◌, ◌≢◌, ◌==◌, ◌<◌, ◌≤◌, ◌+◌, inl, inr, List, [], ◌∷◌, ◌++◌, length, take, drop, Some, slice_get}
+use Rattle.fbl_runs.proofs.Common.{refl, sym, ap, subst, ◌∙◌, arith, nat_tests, cases_eq, cases_order, append-nil, length-append, filter-append, filter_map-append}
+use Rattle.fbl_runs.proofs.Common.{At-filter_map, At-front, At-seam, filter_map-At, slice_get-take, slice_get_within, take-more, take-append-drop, take_all, length-take}
+use Rattle.fbl_runs.proofs.Common.{MayFollow-last, MayFollow-new, WellFormed-front, in_flight-sent, MayFollow, WellFormed, Mark, Send, Receipt, send_of}
+use Rattle.fbl_runs.proofs.Common.{Entry, Event, Hold, Store, entry_member, is_at, log_of, mark_in, marks, IsAt, Position, at}
+use Rattle.std.proofs.lemmas.List.{take-take}
+use Rattle.fbl_runs.specs.Clocks.{StandsAt, seen}
+
+pub log_of-own : (t : List Entry) (e : Entry) (m : ℕ) → entry_member e ≡ m → log_of (t ++ e ∷ []) m ≡ log_of t m ++ e ∷ []
+log_of-own t e m own = (let is : (entry_member e == m) ≡ true = grind (arith, nat_tests) in filter-append (is_at m) t (e ∷ []) ∙ (rw is refl))
+
+pub log_of-other : (t : List Entry) (e : Entry) (m : ℕ) → entry_member e ≢ m → log_of (t ++ e ∷ []) m ≡ log_of t m
+log_of-other t e m other = (let is : (entry_member e == m) ≡ false = grind (arith, nat_tests) in filter-append (is_at m) t (e ∷ []) ∙ (rw (is, append-nil) refl))
+
+pub seen-own : (entries : List Entry) (p : ℕ) (e : Entry) (m : ℕ) → slice_get entries p ≡ Some e → entry_member e ≡ m → seen entries (suc p) m ≡ seen entries p m + 1
+seen-own entries p e m here own = (rw (take-more entries p e here, log_of-own (take p entries) e m own) (length-append (log_of (take p entries) m) (e ∷ [])))
+
+pub seen-other : (entries : List Entry) (p : ℕ) (e : Entry) (m : ℕ) → slice_get entries p ≡ Some e → entry_member e ≢ m → seen entries (suc p) m ≡ seen entries p m
+seen-other entries p e m here other = (rw (take-more entries p e here, log_of-other (take p entries) e m other) refl)
+
+-- an entry stands in its member's log behind those of the member that come before it
+pub placed : (entries : List Entry) (p : ℕ) (e : Entry) (m : ℕ) → slice_get entries p ≡ Some e → entry_member e ≡ m → IsAt (log_of entries) (at m (seen entries p m)) e
+placed entries p e m here own =
+    let t = take p entries in
+    let front : log_of (take (suc p) entries) m ≡ log_of t m ++ e ∷ [] = (rw (take-more entries p e here) (log_of-own t e m own)) in
+    let whole : log_of entries m ≡ (log_of t m ++ e ∷ []) ++ log_of (drop (suc p) entries) m =
+    ap (λ x. log_of x m) (sym (take-append-drop (suc p) entries)) ∙ filter-append (is_at m) (take (suc p) entries) (drop (suc p) entries) ∙ ap (λ x. x ++ log_of (drop (suc p) entries) m) front in
+    (rw whole (At-front (log_of t m ++ e ∷ []) (log_of (drop (suc p) entries) m) (length (log_of t m)) e (At-seam (log_of t m) e [])))
+
+-- so the entry at a place stands at its position
+pub stands_at : (entries : List Entry) (p : ℕ) (i : Position) (x : Entry) → StandsAt entries p i → slice_get entries p ≡ Some x → IsAt (log_of entries) i x
+stands_at entries p i x stands here =
+    let same : stands.0 ≡ x = (let s : Some stands.0 ≡ Some x = sym stands.1 ∙ here in cc) in
+    let there = placed entries p x i.member here (ap entry_member (sym same) ∙ stands.2) in
+    subst (λ (k : ℕ). slice_get (log_of entries i.member) k ≡ Some x) stands.3 there
+
+pub some_entry : (entries : List Entry) (p : ℕ) → p < length entries → (e : Entry) × (slice_get entries p ≡ Some e)
+some_entry [] p below = absurd (omega (arith, below))
+some_entry (x ∷ xs) zero below = (x, refl)
+some_entry (x ∷ xs) (suc p) below = some_entry xs p (omega (arith, below))
+
+locate_below : (entries : List Entry) (P m k : ℕ) → P ≤ length entries → k < seen entries P m → (e : Entry) × (p : ℕ) × (p < P) × (slice_get entries p ≡ Some e) × (entry_member e ≡ m) × (seen entries p m ≡ k)
+locate_below entries zero m k within below = absurd (omega (arith, below))
+locate_below entries (suc P) m k within below =
+    let here = some_entry entries P (omega (arith, within)) in
+    elim (cases_eq (entry_member here.0) m) [
+      | inl own ↦ (let one = seen-own entries P here.0 m here.1 own in elim (cases_eq (seen entries P m) k) [
+        | inl same ↦ (here.0, P, omega arith, here.1, own, same)
+        | inr ne ↦ (let r = locate_below entries P m k (omega (arith, within)) (omega (arith, below, one, ne)) in (r.0, r.1, omega (arith, r.2), r.3, r.4, r.5))
+      ])
+      | inr other ↦
+          let same = seen-other entries P here.0 m here.1 other in
+          let r = locate_below entries P m k (omega (arith, within)) (omega (arith, below, same)) in
+          (r.0, r.1, omega (arith, r.2), r.3, r.4, r.5)
+    ]
+
+-- what stands at a position stands somewhere in the list
+pub locate : (entries : List Entry) (P m k : ℕ) (e : Entry) → P ≤ length entries → k < seen entries P m → IsAt (log_of entries) (at m k) e
+    → (p : ℕ) × (p < P) × (slice_get entries p ≡ Some e) × (entry_member e ≡ m) × (seen entries p m ≡ k)
+locate entries P m k e within below is =
+    let r = locate_below entries P m k within below in
+    let there : IsAt (log_of entries) (at m (seen entries r.1 m)) r.0 = placed entries r.1 r.0 m r.3 r.4 in
+    let there' : IsAt (log_of entries) (at m k) r.0 = (rw r.5 at there) in
+    let same : r.0 ≡ e = (let some : Some r.0 ≡ Some e = sym there' ∙ is in cc) in
+    (r.1, r.2, r.3 ∙ ap Some same, (rw (← same) r.4), r.5)
+
+pub seen-all : (entries : List Entry) (m : ℕ) → seen entries (length entries) m ≡ length (log_of entries m)
+seen-all entries m = ap (λ t. length (log_of t m)) (take_all (length entries) entries (omega arith))
+
+pub locate_all : (entries : List Entry) (m k : ℕ) (e : Entry) → IsAt (log_of entries) (at m k) e
+    → (p : ℕ) × (p < length entries) × (slice_get entries p ≡ Some e) × (entry_member e ≡ m) × (seen entries p m ≡ k)
+locate_all entries m k e is = locate entries (length entries) m k e (omega arith) (rw seen-all (slice_get_within (log_of entries m) k e is)) is
+
+-- no fewer entries are seen later
+pub seen_mono : (entries : List Entry) (a b q : ℕ) → a ≤ b → seen entries a q ≤ seen entries b q
+seen_mono entries zero b q before = omega arith
+seen_mono entries (suc a) zero q before = absurd (omega (arith, before))
+seen_mono [] (suc a) (suc b) q before = omega arith
+seen_mono (e ∷ t) (suc a) (suc b) q before =
+    let rest = seen_mono t a b q (omega (arith, before)) in
+    elim (entry_member e == q) as (λ c. length (cond c (e ∷ log_of (take a t) q) (log_of (take a t) q)) ≤ length (cond c (e ∷ log_of (take b t) q) (log_of (take b t) q))) [ true ↦ omega (arith, rest) | false ↦ rest ]
+
+-- more entries are seen later
+pub seen-later : (entries : List Entry) (p q m : ℕ) (e : Entry) → slice_get entries p ≡ Some e → entry_member e ≡ m → p < q → seen entries p m < seen entries q m
+seen-later entries p q m e here own before =
+    let front : IsAt (log_of (take q entries)) (at m (seen (take q entries) p m)) e = placed (take q entries) p e m (slice_get-take entries q p e before here) own in
+    let within = slice_get_within (log_of (take q entries) m) _ e front in
+    (rw (take-take p q entries (omega (arith, before))) at within)
+
+-- ---- the rules
+
+module _ (n : ℕ) (entries : List Entry) (obeys : WellFormed n (marks entries)) where
+  front_obeys : (p : ℕ) (e : Mark) → slice_get entries p ≡ Some (Event e) → WellFormed n (marks (take p entries) ++ e ∷ [])
+  front_obeys p e here =
+      let t = marks (take p entries) in
+      let rest = marks (drop (suc p) entries) in
+      let front : marks (take (suc p) entries) ≡ t ++ e ∷ [] = (rw (take-more entries p (Event e) here) (filter_map-append mark_in (take p entries) (Event e ∷ []))) in
+      let whole : marks entries ≡ (t ++ e ∷ []) ++ rest =
+      ap marks (sym (take-append-drop (suc p) entries)) ∙ filter_map-append mark_in (take (suc p) entries) (drop (suc p) entries) ∙ ap (λ x. x ++ rest) front in
+      WellFormed-front n (t ++ e ∷ []) rest (rw whole at obeys)
+
+  pub may : (p : ℕ) (e : Mark) → slice_get entries p ≡ Some (Event e) → MayFollow n (marks (take p entries)) e
+  may p e here = MayFollow-last n (marks (take p entries)) e (front_obeys p e here)
+
+  is_mark : (e : Entry) (m : Mark) → mark_in e ≡ Some m → e ≡ Event m
+  is_mark (Event m') m is = cc
+  is_mark (Hold q d) m is = cc
+  is_mark (Store q d) m is = cc
+
+  -- no send or receipt stands twice
+  not_twice : (p q : ℕ) (e : Mark) → slice_get entries p ≡ Some (Event e) → slice_get entries q ≡ Some (Event e) → p < q → ⊥
+  not_twice p q e at_p at_q before =
+      let among = filter_map-At mark_in (take q entries) p (Event e) e (slice_get-take entries q p (Event e) before at_p) refl in
+      MayFollow-new n (marks (take q entries)) e (WellFormed-front n (marks (take q entries)) (e ∷ []) (front_obeys q e at_q)) (may q e at_q) among
+
+  pub once : (p q : ℕ) (e : Mark) → slice_get entries p ≡ Some (Event e) → slice_get entries q ≡ Some (Event e) → p ≡ q
+  once p q e at_p at_q = elim (cases_order p q) [
+    | inl same ↦ same
+    | inr (inl below) ↦ absurd (not_twice p q e at_p at_q below)
+    | inr (inr above) ↦ absurd (not_twice q p e at_q at_p above)
+  ]
+
+  -- what a receipt takes is sent before
+  pub sent_before : (p : ℕ) (r s : Mark) → slice_get entries p ≡ Some (Event r) → send_of r ≡ Some s → (q : ℕ) × (q < p) × (slice_get entries q ≡ Some (Event s))
+  sent_before p (Send from ssn to) s here takes = cc
+  sent_before p (Receipt to rsn from ssn) s here takes =
+      let m = may p (Receipt to rsn from ssn) here in
+      let sent = in_flight-sent (marks (take p entries)) from ssn to 0 m.5 in
+      let among = At-filter_map mark_in (take p entries) sent.0 (Send from ssn to) sent.1 in
+      let below = slice_get_within (take p entries) among.0 among.1 among.2 in
+      let is : among.1 ≡ Event s = is_mark among.1 (Send from ssn to) among.3 ∙ (let same : Send from ssn to ≡ s = cc in ap Event same) in
+      let early : among.0 < p = omega (arith, below, length-take p entries) in
+      (among.0, early, front_at among.0 among.1 among.2 ∙ ap Some is) where
+        front_at : (i : ℕ) (x : Entry) → slice_get (take p entries) i ≡ Some x → slice_get entries i ≡ Some x
+        front_at i x is = (rw take-append-drop at (At-front (take p entries) (drop p entries) i x is))
+
+  -- one send stands at one position
+  pub one_position : (m k q l : ℕ) (e : Mark) → IsAt (log_of entries) (at m k) (Event e) → IsAt (log_of entries) (at q l) (Event e) → (m ≡ q) × (k ≡ l)
+  one_position m k q l e at_m at_q =
+      let x = locate_all entries m k (Event e) at_m in
+      let y = locate_all entries q l (Event e) at_q in
+      let same : x.0 ≡ y.0 = once x.0 y.0 e x.2 y.2 in
+      let member : m ≡ q = sym x.3 ∙ y.3 in
+      (member, sym x.4 ∙ ap (λ p. seen entries p m) same ∙ ap (λ m'. seen entries y.0 m') member ∙ y.4)

@@ -1,0 +1,89 @@
+-- Vector clocks (Mattern 1988; Fidge 1988): how many of each member's first entries precede one of a member's first entries.
+use Rattle.std.specs.Prelude.{ℕ, ◌≡◌, ◌==◌, ◌&&◌, ◌+◌, ◌<◌, Bool, List, length, take, Option, Some, None, slice_get, slice_index}
+use Rattle.std.specs.HashMap as hash_map
+use Rattle.fbl_trace.specs.declared.trace.Mark.{Mark}
+use Rattle.fbl_trace.specs.declared.trace.Mark.TheVariants.{Send, Receipt}
+use Rattle.fbl_trace.specs.Rules.{WellFormed}
+use Rattle.fbl_runs.specs.declared.clock.Clock.{Clock}
+use Rattle.fbl_runs.specs.declared.clocks.AddressedMessage.{AddressedMessage}
+use Rattle.fbl_runs.specs.declared.clocks.Clocks.{Clocks}
+use Rattle.fbl_runs.specs.declared.clocks.Advance.{Advance}
+use Rattle.fbl_runs.specs.declared.entry.Entry.{Entry}
+use Rattle.fbl_runs.specs.declared.entry.Entry.TheVariants.{Event}
+use Rattle.fbl_runs.specs.Entries.{Carries, Logs, entry_member, log_of, marks}
+use Rattle.fbl_runs.specs.HappenedBefore.{Position, IsAt, Precedes, at}
+use Rattle.fbl_runs.specs.Moments.{Cut, HasCome}
+
+-- the clock as a cut
+abbrev pub cut_of : Clock → Cut
+cut_of clock q = slice_index clock.counts q
+
+-- the clock of nothing
+abbrev pub IsNoClock : Clock → Type 0
+IsNoClock clock = (q : ℕ) → cut_of clock q ≡ 0
+
+-- the entry precedes one of the member's first ones
+abbrev pub PrecedesSome : Logs → Position → ℕ → ℕ → Type 0
+PrecedesSome logs i m count = (l : ℕ) × (l < count) × Precedes logs i (at m l)
+
+-- the cut has exactly what precedes one of the member's first entries
+pub record IsClock (logs : Logs) (m count : ℕ) (cut : Cut) : Type 0 where
+  pub all : (i : Position) → PrecedesSome logs i m count → HasCome cut i
+  pub only : (i : Position) → HasCome cut i → PrecedesSome logs i m count
+
+-- what the entry's message brings: exactly what precedes a send of it
+pub record IsBrought (logs : Logs) (b : Entry) (cut : Cut) : Type 0 where
+  pub all : (i j : Position) (a : Entry) → IsAt logs j a → Carries a b → Precedes logs i j → HasCome cut i
+  pub only : (i : Position) → HasCome cut i → (j : Position) × (a : Entry) × IsAt logs j a × Carries a b × Precedes logs i j
+
+-- how many entries of the member are among the first p
+abbrev pub seen : List Entry → ℕ → ℕ → ℕ
+seen entries p m = length (log_of (take p entries) m)
+
+-- the entry at the place is the one at the position
+abbrev pub StandsAt : List Entry → ℕ → Position → Type 0
+StandsAt entries p i = (e : Entry) × (slice_get entries p ≡ Some e) × (entry_member e ≡ i.member) × (seen entries p i.member ≡ i.number)
+
+-- ---- a pass over the entries
+
+-- whether two messages, each with its receiver, are the same
+abbrev pub same_message : AddressedMessage → AddressedMessage → Bool
+same_message a b = a.from == b.from && (a.ssn == b.ssn && a.to == b.to)
+
+-- the message that the event sends, if it is a send
+abbrev pub message_sent_by : Mark → Option AddressedMessage
+message_sent_by (Send from ssn to) = Some (record { from = from; ssn = ssn; to = to })
+message_sent_by (Receipt to rsn from ssn) = None
+
+-- the message that the event takes, if it is a receipt
+abbrev pub message_taken_by : Mark → Option AddressedMessage
+message_taken_by (Send from ssn to) = None
+message_taken_by (Receipt to rsn from ssn) = Some (record { from = from; ssn = ssn; to = to })
+
+-- the clock of a message's send, if it was seen
+abbrev pub sent_clock : {S : Type 0} → hash_map.HashMap AddressedMessage Clock S → AddressedMessage → Option Clock
+sent_clock map m = hash_map.get same_message map m
+
+-- the pass has seen the first p entries: it knows each member's clock, its number of entries, and the clocks of the sends
+pub record HasSeen (entries : List Entry) (p : ℕ) (clocks : Clocks) : Type 0 where
+  pub room : length clocks.latest ≡ 16
+  pub places : length clocks.numbers ≡ 16
+  pub clock : (m : ℕ) (c : Clock) → slice_get clocks.latest m ≡ Some c → IsClock (log_of entries) m (seen entries p m) (cut_of c)
+  pub number : (m : ℕ) → m < 16 → slice_index clocks.numbers m ≡ seen entries p m
+  pub sends : (k from ssn to : ℕ) → k < seen entries p from → IsAt (log_of entries) (at from k) (Event (Send from ssn to))
+      → (c : Clock) × (sent_clock clocks.sent (record { from = from; ssn = ssn; to = to }) ≡ Some c) × IsClock (log_of entries) from (k + 1) (cut_of c)
+
+-- what is known of the entry at the place: whose it is, its number, and its member's clock with it
+pub record IsAdvance (entries : List Entry) (p : ℕ) (advance : Advance) : Type 0 where
+  pub member : (e : Entry) → slice_get entries p ≡ Some e → entry_member e ≡ advance.member
+  pub number : advance.number ≡ seen entries p advance.member
+  pub with : IsClock (log_of entries) advance.member (advance.number + 1) (cut_of advance.with)
+
+-- that of each of the first p entries, at its place
+pub record AreAdvances (entries : List Entry) (p : ℕ) (advances : List Advance) : Type 0 where
+  pub count : length advances ≡ p
+  pub each : (k : ℕ) (a : Advance) → slice_get advances k ≡ Some a → IsAdvance entries k a
+
+-- the entries obey the rules of traces
+abbrev pub IsLawful : List Entry → Type 0
+IsLawful entries = (n : ℕ) × WellFormed n (marks entries)

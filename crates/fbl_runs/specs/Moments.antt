@@ -1,0 +1,67 @@
+-- The moments of a run, and what is held and who depends on what at a moment.
+use Rattle.std.specs.Prelude.{ℕ, ◌≡◌, ◌<◌, ◌≤◌, length}
+use Rattle.fbl_trace.specs.declared.trace.Determinant.{Determinant}
+use Rattle.fbl_trace.specs.Events.{receipt_of}
+use Rattle.fbl_runs.specs.declared.entry.Entry.{Entry}
+use Rattle.fbl_runs.specs.declared.entry.Entry.TheVariants.{Event, Hold, Store}
+use Rattle.fbl_runs.specs.Entries.{IsRecord, Logs}
+use Rattle.fbl_runs.specs.HappenedBefore.{Position, at, IsAt, Leads, Precedes}
+
+-- a cut: how many of its first entries each member has
+abbrev pub Cut : Type 0
+Cut = ℕ → ℕ
+
+-- all entries have come
+abbrev pub last_cut : Logs → Cut
+last_cut logs q = length (logs q)
+
+-- the cut has the entry
+abbrev pub HasCome : Cut → Position → Type 0
+HasCome cut i = i.number < cut i.member
+
+-- the entry is the receipt that the determinant names
+abbrev pub IsReceiptAt : Logs → Determinant → Position → Type 0
+IsReceiptAt logs d i = IsAt logs i (Event (receipt_of d))
+
+-- the one is a receipt, and the other follows it in the same log with no send or receipt between: they are one step. What a member
+-- holds with a receipt it holds before anybody can see what it does of it: it has sent nothing, and if it is lost here, it depends
+-- on nothing. What stands behind a send is no part of it, since the message may be taken before
+abbrev pub IsInStepOf : Logs → Position → Position → Type 0
+IsInStepOf logs i j =
+    ((d : Determinant) × IsReceiptAt logs d i)
+    × (i.member ≡ j.member) × (i.number < j.number)
+    × ((k : ℕ) → i.number < k → k ≤ j.number → (e : Entry) × IsAt logs (at i.member k) e × IsRecord e)
+
+-- a moment: a consistent cut (with an entry it has all that precede it; Mattern 1988) that divides no step
+pub record IsMoment (logs : Logs) (cut : Cut) : Type 0 where
+  pub consistent : (i j : Position) → Leads logs i j → HasCome cut j → HasCome cut i
+  pub whole : (i j : Position) → IsInStepOf logs i j → HasCome cut i → HasCome cut j
+
+-- at the moment the member's volatile memory has the determinant
+abbrev pub HoldsAt : Logs → Cut → Determinant → ℕ → Type 0
+HoldsAt logs cut d holder = (k : ℕ) × IsAt logs (at holder k) (Hold holder d) × HasCome cut (at holder k)
+
+-- at the moment the determinant is on stable storage
+abbrev pub IsStoredAt : Logs → Cut → Determinant → Type 0
+IsStoredAt logs cut d = (q : ℕ) × (k : ℕ) × IsAt logs (at q k) (Store q d) × HasCome cut (at q k)
+
+-- the entry depends on the receipt that the determinant names
+abbrev pub DependsOn : Logs → Determinant → Position → Type 0
+DependsOn logs d j = (i : Position) × IsReceiptAt logs d i × Precedes logs i j
+
+-- at the moment the member depends on the receipt: some entry of it that has come does
+abbrev pub DependsAt : Logs → Cut → Determinant → ℕ → Type 0
+DependsAt logs cut d member = (k : ℕ) × DependsOn logs d (at member k) × HasCome cut (at member k)
+
+-- ---- the least moments
+
+-- it is the member's first entry that depends on the receipt
+pub record IsFirstDependent (logs : Logs) (d : Determinant) (j : Position) : Type 0 where
+  pub depends : DependsOn logs d j
+  pub first : (k : ℕ) → k < j.number → ¬ (DependsOn logs d (at j.member k))
+
+-- the least moment at which the entry has come
+pub record IsLeastMoment (logs : Logs) (j : Position) (cut : Cut) : Type 0 where
+  pub moment : IsMoment logs cut
+  pub has : HasCome cut j
+  pub least : (other : Cut) → IsMoment logs other → HasCome other j → (q : ℕ) → cut q ≤ other q

@@ -1,0 +1,164 @@
+//! Which entries may stand in a log.
+
+ghost use Rattle.std.specs.Prelude.{◌≡◌, ◌<◌, ◌+◌, ◌≤◌, ◌↔◌, ℕ, IfOk, IfSome, MatchOption, Some, length, slice_get, take, true};
+ghost use Rattle.fbl_dumps.specs.Dumps.{IsDump, RefusesDump, IsDumpBreach};
+ghost use Rattle.fbl_runs.specs.Clocks.{IsAdvance, IsLawful};
+ghost use Rattle.fbl_runs.specs.Entries.{marks};
+ghost use Rattle.fbl_runs.specs.Lawful.{BreaksAt, IsEventPlace, IsFirstBad, IsKnownAt, ObeysAt, records};
+ghost use Rattle.fbl_runs.specs.Logs.{IsLog, IsLogBreach, RefusesLog, parts_of_log, trace_of};
+
+use crate::clocks::{Advance, Clocks};
+use crate::entry::Entry;
+use crate::fault::{LogBreach, RecordFault, RecordRule};
+use crate::index::Index;
+use crate::run::RawLog;
+use fbl_dumps::{DumpRefusal, RawDump, checked_dump};
+use fbl_trace::{Breach, EventFault, GroupRule, MOST_PAIRS, Mark, Outsider, group_breach};
+use std::alloc::{AllocError, Global};
+
+/// The sends and receipts, in order.
+pub fn marks_of(alloc: Global, entries: &[Entry]) -> Result<Vec<Mark>, AllocError>
+    ensures { IfOk result (λ v. v.items ≡ marks entries.now) }
+{
+    let mut marks = Vec::new(alloc);
+    for entry in entries {
+        if let Some(event) = entry.event() {
+            marks.push(event)?;
+        }
+    }
+    Ok(marks)
+}
+
+/// Why the sends and receipts are those of no trace of the group, if they are not. A place is that among the sends and receipts.
+fn trace_refusal(alloc: Global, raw: &RawLog) -> Option<(DumpRefusal, Breach)>
+    ensures trace { MatchOption result (IsDump (trace_of (parts_of_log raw.now))) (λ e. RefusesDump (trace_of (parts_of_log raw.now)) e.0) }
+    ensures breach { IfSome result (λ e. IsDumpBreach (trace_of (parts_of_log raw.now)) e.0 e.1) }
+{
+    let (members, f) = (raw.members, raw.f);
+    match group_breach(members, f) {
+        Some(GroupRule::Members) => return Some((
+            DumpRefusal::BadMembers,
+            Breach::Members { members },
+        )),
+        Some(GroupRule::F) => return Some((DumpRefusal::BadF, Breach::F { f, members })),
+        None => {}
+    }
+    let Ok(events) = marks_of(alloc, raw.entries.as_slice()) else {
+        return Some((DumpRefusal::Memory, Breach::Memory));
+    };
+    let trace = RawDump {
+        members,
+        f,
+        events,
+        held: Vec::new(alloc),
+        strike: raw.strike,
+    };
+    checked_dump(alloc, trace).err()
+}
+
+/// Whether what the entry at the place says is held or stored, if it says so, is a receipt that precedes it.
+fn is_known(index: &Index<'_>, entry: &Entry, advance: &Advance) -> bool
+    ensures { (p : ℕ) → IsAdvance index.now p advance.now → slice_get index.now p ≡ Some entry.now → (result ≡ true) ↔ IsKnownAt index.now p }
+{
+    match entry.recorded() {
+        Some(determinant) => index.has_received(&determinant, &advance.with),
+        None => true,
+    }
+}
+
+/// The first rule that the entry at the place breaks, where so many holds and stores stand before it.
+fn broken_rule(
+    members: u8,
+    index: &Index<'_>,
+    entry: &Entry,
+    advance: &Advance,
+    before: usize,
+) -> Option<RecordRule>
+    ensures { (p : ℕ) → IsAdvance index.now p advance.now → slice_get index.now p ≡ Some entry.now → before ≡ length (records (take p index.now)) → MatchOption result (ObeysAt members index.now p) (BreaksAt members index.now p) }
+{
+    if entry.recorded().is_some() && before >= MOST_PAIRS {
+        return Some(RecordRule::TooMany);
+    }
+    let member = advance.member;
+    if member.number() >= members {
+        return Some(RecordRule::Outside(Outsider { member, members }));
+    }
+    if !is_known(index, entry, advance) {
+        return Some(RecordRule::NotBefore);
+    }
+    None
+}
+
+/// The first entry that breaks a rule of holds and stores, and the first rule that it breaks.
+fn first_bad(
+    alloc: Global,
+    members: u8,
+    entries: &[Entry],
+) -> Result<Option<RecordFault>, AllocError>
+    requires { IsLawful entries.now }
+    ensures { IfOk result (λ r. MatchOption r ((i : ℕ) → ObeysAt members entries.now i) (IsFirstBad members entries.now)) }
+{
+    let index = Index::of(alloc, entries)?;
+    let mut clocks = Clocks::new(alloc);
+    let mut count = 0;
+    for (place, entry) in entries.iter().enumerate() {
+        let advance = clocks.add(entries, place)?;
+        if let Some(rule) = broken_rule(members, &index, entry, &advance, count) {
+            let entry = *entry;
+            return Ok(Some(RecordFault { place, entry, rule }));
+        }
+        if entry.recorded().is_some() {
+            count += 1;
+        }
+    }
+    Ok(None)
+}
+
+/// The place among the entries of the send or receipt that stands at this place among the sends and receipts.
+pub fn event_place(entries: &[Entry], event: usize) -> Option<usize>
+    ensures { MatchOption result (length (marks entries.now) ≤ event) (IsEventPlace entries.now event) }
+{
+    let mut count = 0;
+    for (place, entry) in entries.iter().enumerate() {
+        if entry.event().is_some() {
+            if count == event {
+                return Some(place);
+            }
+            count += 1;
+        }
+    }
+    None
+}
+
+/// What the log is refused for, where this is what its sends and receipts are refused for: the place is that among all entries.
+fn log_breach(raw: &RawLog, refusal: DumpRefusal, breach: &Breach) -> (DumpRefusal, LogBreach)
+    requires refused { RefusesDump (trace_of (parts_of_log raw.now)) refusal }
+    requires breach { IsDumpBreach (trace_of (parts_of_log raw.now)) refusal breach.now }
+    ensures refused { RefusesLog (parts_of_log raw.now) result.0 }
+    ensures breach { IsLogBreach (parts_of_log raw.now) result.0 result.1 }
+{
+    let Breach::Event(fault) = *breach else {
+        return (refusal, LogBreach::Trace(*breach));
+    };
+    let place = event_place(raw.entries.as_slice(), fault.place).unwrap_or(fault.place);
+    let fault = EventFault { place, ..fault };
+    (
+        DumpRefusal::BadEvent(place),
+        LogBreach::Trace(Breach::Event(fault)),
+    )
+}
+
+/// Why the log is refused, if it is, as `checked_log` says it.
+pub(crate) fn refusal(alloc: Global, raw: &RawLog) -> Option<(DumpRefusal, LogBreach)>
+    ensures log { MatchOption result (IsLog (parts_of_log raw.now)) (λ e. RefusesLog (parts_of_log raw.now) e.0) }
+    ensures breach { IfSome result (λ e. IsLogBreach (parts_of_log raw.now) e.0 e.1) }
+{
+    if let Some((refusal, breach)) = trace_refusal(alloc, raw) {
+        return Some(log_breach(raw, refusal, &breach));
+    }
+    match first_bad(alloc, raw.members, raw.entries.as_slice()) {
+        Ok(None) => None,
+        Ok(Some(fault)) => Some((DumpRefusal::BadEvent(fault.place), LogBreach::Record(fault))),
+        Err(_) => Some((DumpRefusal::Memory, LogBreach::Trace(Breach::Memory))),
+    }
+}

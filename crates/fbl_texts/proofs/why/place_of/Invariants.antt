@@ -1,5 +1,0 @@
-use Rattle.fbl_texts.proofs.Common.{ℕ, ◌<◌, At, receipt_of}
-use Rattle.fbl_texts.proofs.why.place_of.Given as goal
-
-abbrev pub invariant-loop-place : goal.invariant-loop-place
-invariant-loop-place l = (k : ℕ) → k < l.place → ¬ (At l.events k (receipt_of l.determinant))

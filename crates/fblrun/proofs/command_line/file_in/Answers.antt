@@ -1,5 +1,0 @@
-use Rattle.fblrun.proofs.Common.{◌∙◌, first_value-rows, found_of}
-use Rattle.fblrun.proofs.command_line.file_in.Goals as goal
-
-pub returns : goal.returns
-returns c = c.get_str.ensures ∙ first_value-rows (found_of c.args.found.now) c.args.name.now

@@ -1,5 +1,0 @@
-pub mod Statuses
-pub mod Merging
-pub mod Orders
-pub mod CommandLines
-pub mod Requests
