@@ -51,9 +51,12 @@ receipt_of d = Receipt d.to d.rsn d.from d.ssn
 abbrev pub same_determinant : Determinant → Determinant → Bool
 same_determinant a b = (a.from == b.from) && ((a.to == b.to) && ((a.ssn == b.ssn) && (a.rsn == b.rsn)))
 
--- all of a determinant in one number, from which its hash is made
-abbrev pub hashed_number : Determinant → ℕ
-hashed_number d = d.from + 2 ^ 8 * d.to + 2 ^ 16 * d.ssn + 2 ^ 48 * d.rsn
+-- the numbers of a determinant as one number, and its members as one: what its hash is made of
+abbrev pub both_numbers : Determinant → ℕ
+both_numbers d = d.ssn + 2 ^ 32 * d.rsn
+
+abbrev pub both_members : Determinant → ℕ
+both_members d = d.from + 2 ^ 8 * d.to
 
 -- whether two messages are the same
 abbrev pub same_message : MessageName → MessageName → Bool

@@ -67,23 +67,21 @@ pub struct Determinant {
     pub rsn: u32,
 }
 
-/// The four fields go into one write, which is one step of a hasher. A derived `Hash` makes four.
+/// The four fields go into two writes, the numbers and the members. A derived `Hash` makes four, and each is a step of a hasher.
 impl Hash for Determinant {
     ghost use Rattle.std.specs.Hash as fed;
     ghost use Rattle.std.specs.Cmp.Rules.{hashing};
     ghost use Rattle.std.proofs.Common.{rules};
-    ghost use Rattle.fbl_trace.specs.Events.{hashed_number};
+    ghost use Rattle.std.specs.Prelude.{◌++◌};
+    ghost use Rattle.fbl_trace.specs.Events.{both_members, both_numbers};
 
-    ghost hash_input = { λ d. fed.u128 (hashed_number d) };
+    ghost hash_input = { λ d. fed.u64 (both_numbers d) ++ fed.u16 (both_members d) };
 
     ghost respects_eq = { Prim.search (hashing, rules) };
 
     fn hash<H: Hasher>(&self, state: &mut H) {
-        let from = u128::from(self.from.number());
-        let to = u128::from(self.to.number());
-        let ssn = u128::from(self.ssn);
-        let rsn = u128::from(self.rsn);
-        state.write_u128(from + (to << 8) + (ssn << 16) + (rsn << 48));
+        state.write_u64(u64::from(self.ssn) + (u64::from(self.rsn) << 32));
+        state.write_u16(u16::from(self.from.number()) + (u16::from(self.to.number()) << 8));
     }
 }
 

@@ -3,7 +3,8 @@ use Rattle.fbl_records.specs.Texts.{IsChecked}
 use Rattle.fbl_pictures.specs.RunPictures.{IsRunPicture}
 use Rattle.fbl_runs.specs.Entries.{receipts_in}
 use Rattle.std.proofs.Common.{length, nat_eq}
-use Rattle.fbl_program.proofs.Common.{◌≡◌, Audit, Check, Draw, IsAnswerTo, refl, true}
+use Rattle.fbl_runs.specs.Logs.{RunParts}
+use Rattle.fbl_program.proofs.Common.{◌≡◌, Audit, Check, Draw, IsAnswerTo, PutsOut, refl, subst, true}
 use Rattle.fbl_program.proofs.Endings.{cut}
 use Rattle.fbl_program.proofs.Sayings.{all_said}
 use Rattle.fbl_program.proofs.runs.answer.Goals as goal
@@ -25,7 +26,7 @@ returns-in-Audit g c =
 pub returns-in_err-receipts-in-Check : goal.returns-in_err-receipts-in-Check
 returns-in_err-receipts-in-Check g c =
     let run = c.args.run.now in
-    let puts = rw c.in_ok-pasts.ensures at c.in_err-receipts-in-Check.ensures in
+    let puts = subst (λ (r : RunParts). PutsOut (λ said. IsChecked r c.args.sources.now said.items) _ _ _) c.in_ok-pasts.ensures c.in_err-receipts-in-Check.ensures in
     rw c.in-Check.is (cut (λ said. IsChecked run c.args.sources.now said.items) (IsAnswerTo Check run c.args.sources.now) (λ said. nat_eq (length said.items) 0)
     (λ said _ told. (said.items, told, refl)) _ _ _ _ c.from_residual-in_err-receipts-in-Check.ensures.1 puts)
 
@@ -36,17 +37,17 @@ explain_check-requires g c =
 
 pub returns-in-Check : goal.returns-in-Check
 returns-in-Check g c =
-    let puts = rw c.in_ok-pasts.ensures at c.in_ok-receipts-in-Check.ensures in
+    let puts = subst (λ (r : RunParts). PutsOut (λ said. IsChecked r c.args.sources.now said.items) _ _ _) c.in_ok-pasts.ensures c.in_ok-receipts-in-Check.ensures in
     rw c.in-Check.is (puts.0, (c.in_ok-receipts-in-Check.receipts.items, puts.1, c.is_empty.ensures), puts.2)
 
 pub returns-in_err-write_run_picture-in-Draw : goal.returns-in_err-write_run_picture-in-Draw
 returns-in_err-write_run_picture-in-Draw g c =
     let run = c.args.run.now in
-    let puts = rw c.in_ok-pasts.ensures at c.in_err-write_run_picture-in-Draw.ensures in
+    let puts = subst (λ (r : RunParts). PutsOut (λ _. IsRunPicture r c.args.sources.now) _ _ _) c.in_ok-pasts.ensures c.in_err-write_run_picture-in-Draw.ensures in
     rw c.in-Draw.is (cut (λ _. IsRunPicture run c.args.sources.now) (IsAnswerTo Draw run c.args.sources.now) (λ _. true) (λ _ _ told. (told, refl)) _ _ _ _
     c.from_residual-in_err-write_run_picture-in-Draw.ensures.1 puts)
 
-pub returns-in_ok-write_run_picture-in-Draw : goal.returns-in_ok-write_run_picture-in-Draw
-returns-in_ok-write_run_picture-in-Draw g c =
-    let puts = rw c.in_ok-pasts.ensures at c.in_ok-write_run_picture-in-Draw.ensures in
+pub returns : goal.returns
+returns g c =
+    let puts = subst (λ (r : RunParts). PutsOut (λ _. IsRunPicture r c.args.sources.now) _ _ _) c.in_ok-pasts.ensures c.in_ok-write_run_picture-in-Draw.ensures in
     rw c.in-Draw.is (puts.0, (puts.1, refl), puts.2)
