@@ -14,8 +14,7 @@ use Rattle.fbl_runs.specs.Entries.{receipt_in, receipts_in}
 use Rattle.fbl_judge.specs.Pasts.{IsFirstAfter}
 use Rattle.fbl_runs.specs.Logs.{RunParts, run_of}
 use Rattle.fbl_judge.specs.Unsafe.{ComesFirst, IsCandidate, IsFewer, IsFirstCandidate, IsLeastLoss, IsLeastStrike, IsLeftOrphanAt, IsSaidAt, IsSaidOf, IsUnsafe, IsUnsafeAt, ListsFirst, SaysUnsafe}
-use Rattle.fbl_judge.specs.Candidates.{HasNoCandidate, IsCandidateOf, IsCoveredBelow, IsFirstBelow, IsFirstOf, IsLeastIn, IsLossAt, IsSaidAtEnd, IsSaidWith, IsUnsafeAtEnd}
-use Rattle.fbl_judge.specs.declared.check.Loss.{Loss}
+use Rattle.fbl_judge.specs.Candidates.{HasNoCandidate, IsCandidateOf, IsCoveredBelow, IsFirstBelow, IsFirstOf, IsLeastIn, IsSaidAtEnd, IsSaidWith, IsUnsafeAtEnd}
 use Rattle.fbl_runs.specs.declared.judged.Judged.{Judged}
 use Rattle.fbl_runs.specs.declared.judged.Judged.TheVariants.{AtEachMoment, AtItsEnd}
 use Rattle.fbl_trace.proofs.Sets.{len-remove_one}
@@ -188,12 +187,13 @@ module _ (log : RunParts) (rules : AreEntries log.members log.entries) (struck :
   pub safe_at : (cut : Cut) → ((strike : Members) → ¬ (IsLeastStrike run cut d strike)) → ¬ (IsUnsafeAt run cut d)
   safe_at cut none u = (let has = unsafe_has cut u in none has.0 has.1)
 
-  pub nobody_left : (cut : Cut) (loss : Loss) → IsLossAt run cut d loss → set.len loss.orphans ≡ 0 → ¬ (IsUnsafeAt run cut d)
-  nobody_left cut loss is none u =
+  pub nobody_left : (cut : Cut) (strike orphans : Members) → IsLeastStrike run cut d strike → ((q : ℕ) → (set.contains orphans q ≡ true) ↔ IsLeftOrphanAt run cut strike d q) → set.len orphans ≡ 0
+      → ¬ (IsUnsafeAt run cut d)
+  nobody_left cut strike orphans is are none u =
       let has = unsafe_has cut u in
-      let same : has.0 ≡ loss.strike = one_set run cut d has.0 loss.strike has.1.least is.strike.least in
-      let here = (is.orphans has.2.0).1 (subst (λ (s : Members). IsLeftOrphanAt run cut s d has.2.0) same has.2.1) in
-      let one = len-remove_one loss.orphans has.2.0 here in
+      let same : has.0 ≡ strike = one_set run cut d has.0 strike has.1.least is.least in
+      let here = (are has.2.0).1 (subst (λ (s : Members). IsLeftOrphanAt run cut s d has.2.0) same has.2.1) in
+      let one = len-remove_one orphans has.2.0 here in
       omega (arith, one, none)
 
   -- ---- candidates
@@ -209,16 +209,15 @@ module _ (log : RunParts) (rules : AreEntries log.members log.entries) (struck :
     pub none_there : ((strike : Members) → ¬ (IsLeastStrike run cut d strike)) → HasNoCandidate run d q
     none_there none l other strike candidate = none strike (subst (λ (cut : Cut). IsLeastStrike run cut d strike) (same_cut l other strike candidate) candidate.least)
 
-    pub not_left : (loss : Loss) → IsLossAt run cut d loss → set.contains loss.orphans q ≡ false → HasNoCandidate run d q
-    not_left loss is none l other strike candidate =
-        let least = subst (λ (cut : Cut). IsLeastStrike run cut d strike) (same_cut l other strike candidate) candidate.least in
-        let same : strike ≡ loss.strike = one_set run cut d strike loss.strike least.least is.strike.least in
-        let out : set.contains loss.strike q ≡ false = ap (λ s. set.contains s q) (sym same) ∙ candidate.left in
-        false≢true (sym none ∙ (is.orphans q).1 (out, (k, first.depends, moment.has)))
+    pub not_left : (least : Members) → IsLeastStrike run cut d least → set.contains least q ≡ true → HasNoCandidate run d q
+    not_left least is struck l other strike candidate =
+        let here = subst (λ (cut : Cut). IsLeastStrike run cut d strike) (same_cut l other strike candidate) candidate.least in
+        let same : strike ≡ least = one_set run cut d strike least here.least is.least in
+        false≢true (sym candidate.left ∙ ap (λ s. set.contains s q) same ∙ struck)
 
-    -- and there is one where they do
-    pub left_there : (loss : Loss) → IsLossAt run cut d loss → set.contains loss.orphans q ≡ true → IsCandidate run d (at q k) cut loss.strike
-    left_there loss is has = record { first = first; moment = moment; least = is.strike; left = ((is.orphans q).0 has).0 }
+    -- and there is one where they do, and the member is an orphan of it
+    pub left_there : (least : Members) → IsLeastStrike run cut d least → set.contains least q ≡ false → IsCandidate run d (at q k) cut least × IsLeftOrphanAt run cut least d q
+    left_there least is out = (record { first = first; moment = moment; least = is; left = out }, (out, (k, first.depends, moment.has)))
 
   -- a member's candidates strike the same members
   one_strike : (n : ℕ) (f : UnsafeReceipt) → IsCandidateOf log d n f → (p number : ℕ) (cut : Cut) (members : Members) → p ≡ n → IsCandidate run d (at p number) cut members → members ≡ f.strike

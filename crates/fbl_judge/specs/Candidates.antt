@@ -3,7 +3,6 @@ use Rattle.std.specs.Prelude.{ℕ, ◌≡◌, ◌<◌, ◌⊎◌, ◌↔◌, tru
 use Rattle.std.specs.FinSet as set
 use Rattle.fbl_trace.specs.declared.trace.Determinant.{Determinant}
 use Rattle.fbl_trace.specs.MemberSets.{Members}
-use Rattle.fbl_judge.specs.declared.check.Loss.{Loss}
 use Rattle.fbl_judge.specs.declared.check.UnsafeReceipt.{UnsafeReceipt}
 use Rattle.fbl_judge.specs.Unsafe.{ComesFirst, IsCandidate, IsFewer, IsLeastStrike, IsLeftOrphanAt, IsUnsafeAt}
 use Rattle.fbl_runs.specs.Clocks.{StandsAt}
@@ -12,12 +11,7 @@ use Rattle.fbl_runs.specs.Logs.{RunParts, run_of}
 use Rattle.fbl_runs.specs.Moments.{Cut, IsFirstDependent, IsLeastMoment, last_cut}
 use Rattle.fbl_runs.specs.Runs.{IsCovered, Run}
 
--- at the cut these are the least members whose loss loses the receipt, and whom it leaves as orphans of it
-pub record IsLossAt (run : Run) (cut : Cut) (d : Determinant) (loss : Loss) : Type 0 where
-  pub strike : IsLeastStrike run cut d loss.strike
-  pub orphans : (q : ℕ) → (set.contains loss.orphans q ≡ true) ↔ IsLeftOrphanAt run cut loss.strike d q
-
--- they are what is said of the receipt
+-- at the cut they are the least members whose loss loses the receipt, and whom it leaves as orphans, as it is said
 pub record IsSaidWith (run : Run) (cut : Cut) (d : Determinant) (said : UnsafeReceipt) : Type 0 where
   pub determinant : said.determinant ≡ d
   pub strike : IsLeastStrike run cut d said.strike

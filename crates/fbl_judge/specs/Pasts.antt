@@ -4,8 +4,8 @@ use Rattle.fbl_trace.specs.declared.trace.Determinant.{Determinant}
 use Rattle.fbl_runs.specs.declared.clock.Clock.{Clock}
 use Rattle.fbl_runs.specs.declared.clocks.Advance.{Advance}
 use Rattle.fbl_runs.specs.declared.entry.Entry.{Entry}
-use Rattle.fbl_runs.specs.Clocks.{AreAdvances, IsNoClock}
-use Rattle.fbl_runs.specs.Entries.{Logs}
+use Rattle.fbl_runs.specs.Clocks.{AreAdvances, IsNoClock, cut_of}
+use Rattle.fbl_runs.specs.Entries.{Logs, log_of}
 use Rattle.fbl_runs.specs.HappenedBefore.{Position, Precedes, at}
 use Rattle.fbl_runs.specs.Logs.{IsRun, RunParts}
 use Rattle.fbl_runs.specs.Moments.{Cut, IsLeastMoment, IsReceiptAt}
@@ -19,9 +19,10 @@ pub record IsFirstAfter (logs : Logs) (i j : Position) : Type 0 where
 abbrev pub IsLeastMomentOfReceipt : Logs → Position → Cut → Type 0
 IsLeastMomentOfReceipt logs j cut = (r : Determinant) → IsReceiptAt logs r j → IsLeastMoment logs j cut
 
--- the run obeys its rules, the index is of its entries, the one clock is that of nothing, and the others are known of each entry
-pub record AreOf (run : RunParts) (indexed : List Entry) (empty : Clock) (advances : List Advance) : Type 0 where
+-- the run obeys its rules, the index is of its entries, two clocks are those of nothing and of all, and the others are known of each entry
+pub record AreOf (run : RunParts) (indexed : List Entry) (empty full : Clock) (advances : List Advance) : Type 0 where
   pub rules : IsRun run
   pub index : indexed ≡ run.entries
   pub none : IsNoClock empty
+  pub last : (q : ℕ) → cut_of full q ≡ length (log_of run.entries q)
   pub all : AreAdvances run.entries (length run.entries) advances

@@ -35,7 +35,7 @@ fn loses(pasts: &Pasts<'_>, determinant: &Determinant, moment: &Clock) -> bool
 pub fn audit_of(alloc: Global, pasts: &Pasts<'_>) -> Result<Audit, AllocError>
     ensures { IfOk result (IsAudit pasts.now) }
 {
-    let last = pasts.index().last();
+    let last = pasts.last();
     let mut lost = Vec::new(alloc);
     let mut dependents = MemberSet::empty();
     for (place, entry) in pasts.entries().iter().enumerate() {

@@ -9,11 +9,11 @@ ghost use Rattle.fbl_runs.specs.Indexes.{AreRecords};
 ghost use Rattle.fbl_runs.specs.Logs.{IsRun, run_of};
 ghost use Rattle.fbl_runs.specs.Moments.{IsReceiptAt};
 ghost use Rattle.fbl_runs.specs.Runs.{IsSafe};
-ghost use Rattle.fbl_judge.specs.Candidates.{HasNoCandidate, IsCandidateOf, IsFirstBelow, IsFirstOf, IsLeastIn, IsLossAt, IsSaidAtEnd, IsUnsafeAtEnd};
-ghost use Rattle.fbl_judge.specs.Unsafe.{IsFewer, IsLeastStrike, IsSaidOf, IsUnsafe, ListsFirst, SaysUnsafe};
+ghost use Rattle.fbl_judge.specs.Candidates.{HasNoCandidate, IsCandidateOf, IsFirstBelow, IsFirstOf, IsLeastIn, IsSaidAtEnd, IsUnsafeAtEnd};
+ghost use Rattle.fbl_judge.specs.Unsafe.{IsFewer, IsLeastStrike, IsLeftOrphanAt, IsSaidOf, IsUnsafe, ListsFirst, SaysUnsafe};
 
 use crate::pasts::Pasts;
-use fbl_runs::{Clock, Judged, Records, Run};
+use fbl_runs::{Clock, Judged, Records};
 use fbl_trace::{Determinant, Member, MemberSet};
 use std::alloc::{AllocError, Global};
 
@@ -31,20 +31,14 @@ pub struct UnsafeReceipt {
     pub orphans: MemberSet,
 }
 
-/// What loses a receipt at a cut: the least members, and whom their loss leaves as orphans of it.
-#[derive(Clone, Copy)]
-struct Loss {
-    strike: MemberSet,
-    orphans: MemberSet,
-}
-
 /// The least members whose loss at the clock's cut loses the receipt of whose determinant these are the records, if they may be lost.
-fn least_strike(run: &Run, records: &Records, moment: &Clock) -> Option<MemberSet>
-    ensures { (d : _) → AreRecords (log_of run.now.entries) d records.now → MatchOption result ((strike : _) → ¬ (IsLeastStrike (run_of run.now) (cut_of moment.now) d strike)) (IsLeastStrike (run_of run.now) (cut_of moment.now) d) }
+fn least_strike(pasts: &Pasts<'_>, records: &Records, moment: &Clock) -> Option<MemberSet>
+    ensures { (d : _) → AreRecords (log_of pasts.now.entries) d records.now → MatchOption result ((strike : _) → ¬ (IsLeastStrike (run_of pasts.now) (cut_of moment.now) d strike)) (IsLeastStrike (run_of pasts.now) (cut_of moment.now) d) }
 {
     if records.is_stored(moment) {
         return None;
     }
+    let run = pasts.run();
     let strike = run.strike().union(records.holders(moment));
     let most = u32::from(run.f()).max(run.strike().count());
     if strike.count() > most {
@@ -53,24 +47,22 @@ fn least_strike(run: &Run, records: &Records, moment: &Clock) -> Option<MemberSe
     Some(strike)
 }
 
-/// What loses the receipt with the determinant, which has this number in its receiver's log, at the clock's cut, if its loss is possible.
-fn loss_at(
+/// The members that the loss of the strike set leaves as orphans of the receipt with the determinant, which has this number in its
+/// receiver's log, at the clock's cut.
+fn orphans_at(
     pasts: &Pasts<'_>,
-    records: &Records,
     determinant: &Determinant,
     number: usize,
     moment: &Clock,
-) -> Option<Loss>
+    strike: MemberSet,
+) -> MemberSet
     requires run { IsRun pasts.now }
-    requires records { AreRecords (log_of pasts.now.entries) determinant.now records.now }
     requires receipt { IsReceiptAt (log_of pasts.now.entries) determinant.now (at determinant.now.to number) }
     requires within { (q : ℕ) → cut_of moment.now q ≤ length (log_of pasts.now.entries q) }
-    ensures { MatchOption result ((strike : _) → ¬ (IsLeastStrike (run_of pasts.now) (cut_of moment.now) determinant.now strike)) (IsLossAt (run_of pasts.now) (cut_of moment.now) determinant.now) }
+    ensures { (q : ℕ) → (set.contains result q ≡ true) ↔ IsLeftOrphanAt (run_of pasts.now) (cut_of moment.now) strike determinant.now q }
 {
-    let strike = least_strike(pasts.run(), records, moment)?;
     let dependents = pasts.reached(determinant.to, number, moment);
-    let orphans = dependents.without(strike);
-    Some(Loss { strike, orphans })
+    dependents.without(strike)
 }
 
 /// What is to be said of the receipt at the run's end.
@@ -85,16 +77,17 @@ fn unsafe_at_end(
     requires receipt { IsReceiptAt (log_of pasts.now.entries) determinant.now (at determinant.now.to number) }
     ensures { MatchOption result (¬ (IsUnsafeAtEnd (run_of pasts.now) determinant.now)) (IsSaidAtEnd (run_of pasts.now) determinant.now) }
 {
-    let end = pasts.index().last();
-    let loss = loss_at(pasts, records, determinant, number, &end)?;
-    if loss.orphans.is_empty() {
+    let end = pasts.last();
+    let strike = least_strike(pasts, records, &end)?;
+    let orphans = orphans_at(pasts, determinant, number, &end, strike);
+    if orphans.is_empty() {
         return None;
     }
     Some(UnsafeReceipt {
         determinant: *determinant,
         at: None,
-        strike: loss.strike,
-        orphans: loss.orphans,
+        strike,
+        orphans,
     })
 }
 
@@ -113,15 +106,15 @@ fn candidate(
 {
     let first = pasts.first_after(determinant.to, number, member)?;
     let moment = pasts.moment(member, first);
-    let loss = loss_at(pasts, records, determinant, number, &moment)?;
-    if !loss.orphans.has(member) {
+    let strike = least_strike(pasts, records, &moment)?;
+    if strike.has(member) {
         return None;
     }
     Some(UnsafeReceipt {
         determinant: *determinant,
         at: Some(pasts.index().place(member, first)),
-        strike: loss.strike,
-        orphans: loss.orphans,
+        strike,
+        orphans: orphans_at(pasts, determinant, number, &moment, strike),
     })
 }
 

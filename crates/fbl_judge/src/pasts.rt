@@ -24,6 +24,8 @@ pub struct Pasts<'a> {
     index: Index<'a>,
     /// The clock at which nothing has come.
     none: Clock,
+    /// The clock at which all entries have come.
+    last: Clock,
     /// For each entry, at its place, what a pass over them knows of it.
     advances: Vec<Advance>,
 }
@@ -43,7 +45,7 @@ impl<'a> Model for Pasts<'a> {
 
     ghost view = { λ p. p.run.now };
 
-    ghost invariant = { λ p. AreOf p.run.now p.index p.none p.advances.items };
+    ghost invariant = { λ p. AreOf p.run.now p.index p.none p.last p.advances.items };
 }
 
 impl<'a> Pasts<'a> {
@@ -54,15 +56,17 @@ impl<'a> Pasts<'a> {
     {
         let entries = run.entries();
         let mut pass = Clocks::new(alloc);
-        let mut advances = Vec::new(alloc);
+        let mut advances = Vec::with_capacity(alloc, entries.len())?;
         for place in 0..entries.len() {
             advances.push(pass.add(entries, place)?)?;
         }
         let index = Index::of(alloc, entries)?;
+        let last = index.last();
         Ok(Pasts {
             run,
             index,
             none: Clock::none(),
+            last,
             advances,
         })
     }
@@ -96,6 +100,13 @@ impl<'a> Pasts<'a> {
         ensures { result.now ≡ self.now.entries }
     {
         &self.index
+    }
+
+    /// The clock at which all entries have come.
+    pub fn last(&self) -> Clock
+        ensures { (q : ℕ) → cut_of result q ≡ length (log_of self.now.entries q) }
+    {
+        self.last
     }
 
     /// The clock of the member's first entries, this many.

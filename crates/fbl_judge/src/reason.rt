@@ -91,7 +91,7 @@ pub fn unsafe_reason(
     ensures { IfOk result (IsUnsafeReason pasts.now receipt.now) }
 {
     let Some(place) = receipt.at else {
-        let end = pasts.index().last();
+        let end = pasts.last();
         return reason_at(alloc, pasts, receipt, &end, receipt.orphans);
     };
     let moment = pasts.moment_at(place);
@@ -123,7 +123,7 @@ pub fn loss_reason(
 ) -> Result<Reason, AllocError>
     ensures { IfOk result (IsLossReason pasts.now determinant.now) }
 {
-    let end = pasts.index().last();
+    let end = pasts.last();
     let strike = pasts.run().strike();
     let orphans = pasts.dependents(determinant, &end).without(strike);
     let lost = UnsafeReceipt {

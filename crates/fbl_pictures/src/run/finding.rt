@@ -54,7 +54,7 @@ impl Finding<'_> {
     {
         match self.at {
             Some(place) => pasts.moment_at(place),
-            None => pasts.index().last(),
+            None => pasts.last(),
         }
     }
 

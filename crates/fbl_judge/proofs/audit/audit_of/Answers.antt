@@ -11,7 +11,7 @@ use Rattle.fbl_judge.proofs.audit.audit_of.Goals as goal
 use Rattle.fbl_judge.proofs.audit.audit_of.Goals.{After-entries-entry-items, in-Some+then-loses+in_ok-push, in-Some+else-loses, in_default}
 
 last : (c : After-entries-entry-items) → cut_of c.last-last.result ≡ end_of c.args.pasts.now
-last c = (let each = λ (q : ℕ). c.last-last.ensures q ∙ ap (λ (es : List Entry). length (log_of es q)) c.index.ensures in λ i q. each q i)
+last c = λ i q. c.last-last.ensures q i
 
 pub loop-place-init : goal.loop-place-init
 loop-place-init c = record {

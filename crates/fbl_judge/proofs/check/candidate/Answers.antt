@@ -1,4 +1,4 @@
-use Rattle.fbl_judge.proofs.Common.{◌≡◌, ◌<◌, ◌∙◌, true, false, List, Entry, length, refl, sym, subst, slice_get_within, log_of, at, IsFirstDependent, IsLeastMoment}
+use Rattle.fbl_judge.proofs.Common.{◌≡◌, ◌<◌, ◌∙◌, false, List, Entry, length, refl, sym, subst, slice_get_within, log_of, at, IsFirstDependent, IsLeastMoment}
 use Rattle.std.specs.FinSet as set
 use Rattle.fbl_runs.specs.Clocks.{StandsAt, cut_of}
 use Rattle.fbl_runs.proofs.ClockLaws.{last_there}
@@ -23,18 +23,17 @@ dependent c =
 least : (c : After-moment-moment) → IsLeastMoment (log_of c.args.pasts.now.entries) (at c.args.member c.in_ok-first.first) (cut_of c.moment-moment.result)
 least c = (let r = first_is_receipt (log_of c.args.pasts.now.entries) c.args.determinant.now (at c.args.member c.in_ok-first.first) (dependent c) in c.moment-moment.ensures.least r.0 r.1)
 
-pub returns-in_err-loss : goal.returns-in_err-loss
-returns-in_err-loss c =
-    let c2 = (goal.at.returns-in_err-loss c).After-moment-moment in
-    rw c.from_residual-in_err-loss.ensures (none_there c.args.pasts.now c.requires.run.lawful c.requires.run.strike c.args.determinant.now c.args.member c.in_ok-first.first (cut_of c.moment-moment.result)
-    (dependent c2) (least c2) c.in_err-loss.ensures)
+pub returns-in_err-strike : goal.returns-in_err-strike
+returns-in_err-strike c =
+    let c2 = (goal.at.returns-in_err-strike c).After-moment-moment in
+    rw c.from_residual-in_err-strike.ensures (none_there c.args.pasts.now c.requires.run.lawful c.requires.run.strike c.args.determinant.now c.args.member c.in_ok-first.first (cut_of c.moment-moment.result)
+    (dependent c2) (least c2) (c.in_err-strike.ensures c.args.determinant.now c.requires.records))
 
-pub returns-then-not-has : goal.returns-then-not-has
-returns-then-not-has c =
-    let c2 = (goal.at.returns-then-not-has c).After-moment-moment in
-    let out : set.contains c.in_ok-loss.loss.orphans c.args.member ≡ false = sym c.has.ensures ∙ c.if-not-has.true in
+pub returns-then-has : goal.returns-then-has
+returns-then-has c =
+    let c2 = (goal.at.returns-then-has c).After-moment-moment in
     not_left c.args.pasts.now c.requires.run.lawful c.requires.run.strike c.args.determinant.now c.args.member c.in_ok-first.first (cut_of c.moment-moment.result)
-    (dependent c2) (least c2) c.in_ok-loss.loss c.in_ok-loss.ensures out
+    (dependent c2) (least c2) c.in_ok-strike.strike (c.in_ok-strike.ensures c.args.determinant.now c.requires.records) (sym c.has.ensures ∙ c.if-has.true)
 
 pub place-requires : goal.place-requires
 place-requires c =
@@ -44,14 +43,18 @@ place-requires c =
 pub returns : goal.returns
 returns c =
     let c2 = (goal.at.returns c).After-moment-moment in
-    let has : set.contains c.in_ok-loss.loss.orphans c.args.member ≡ true = sym c.has.ensures ∙ c.if-not-has.false in
+    let run = c.args.pasts.now in
+    let d = c.args.determinant.now in
+    let strike = c.in_ok-strike.strike in
+    let least_strike = c.in_ok-strike.ensures d c.requires.records in
+    let out : set.contains strike c.args.member ≡ false = sym c.has.ensures ∙ c.if-has.false in
+    let there = left_there run c.requires.run.lawful c.requires.run.strike d c.args.member c.in_ok-first.first (cut_of c.moment-moment.result) (dependent c2) (least c2) strike least_strike out in
     record {
       place = c.place.result;
       listed = refl;
       number = c.in_ok-first.first;
       stands = subst (λ (es : List Entry). StandsAt es c.place.result (at c.args.member c.in_ok-first.first)) c.index.ensures c.place.ensures;
       cut = cut_of c.moment-moment.result;
-      candidate = left_there c.args.pasts.now c.requires.run.lawful c.requires.run.strike c.args.determinant.now c.args.member c.in_ok-first.first (cut_of c.moment-moment.result)
-          (dependent c2) (least c2) c.in_ok-loss.loss c.in_ok-loss.ensures has;
-      says = record { determinant = refl; strike = c.in_ok-loss.ensures.strike; orphans = c.in_ok-loss.ensures.orphans; some = (c.args.member, has) };
+      candidate = there.0;
+      says = record { determinant = refl; strike = least_strike; orphans = c.orphans_at.ensures; some = (c.args.member, (c.orphans_at.ensures c.args.member).1 there.1) };
     }

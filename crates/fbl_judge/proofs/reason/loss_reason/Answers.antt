@@ -1,4 +1,4 @@
-use Rattle.fbl_judge.proofs.Common.{◌≡◌, ◌∙◌, ◌↔◌, ℕ, true, false, arith, ap, sym, subst, List, Entry, length, log_of, Cut, DependsAt, Determinant, Members}
+use Rattle.fbl_judge.proofs.Common.{◌≡◌, ◌∙◌, ◌↔◌, ℕ, true, false, arith, ap, sym, subst, log_of, Cut, DependsAt, Determinant, Members}
 use Rattle.std.specs.FinSet as set
 use Rattle.std.specs.Cmp.{nat_cmp_total}
 use Rattle.fbl_runs.specs.Clocks.{cut_of}
@@ -11,13 +11,13 @@ use Rattle.fbl_judge.proofs.ReasonLaws.{ok_both, same_reason}
 use Rattle.fbl_judge.proofs.reason.loss_reason.Goals as goal
 
 pub dependents-requires : goal.dependents-requires
-dependents-requires c q = (let same = c.last-end.ensures q ∙ ap (λ (es : List Entry). length (log_of es q)) c.index.ensures in omega (arith, same))
+dependents-requires c q = (let same = c.last-end.ensures q in omega (arith, same))
 
 pub returns : goal.returns
 returns c =
     let run = c.args.pasts.now in
     let d = c.args.determinant.now in
-    let end : cut_of c.last-end.result ≡ end_of run = (let each = λ (q : ℕ). c.last-end.ensures q ∙ ap (λ (es : List Entry). length (log_of es q)) c.index.ensures in λ i q. each q i) in
+    let end : cut_of c.last-end.result ≡ end_of run = (λ i q. c.last-end.ensures q i) in
     let strike : c.strike-strike.result ≡ run.strike = c.strike-strike.ensures ∙ ap (λ (run : RunParts). run.strike) c.run.ensures.run in
     let depend = subst (λ (cut : Cut). (q : ℕ) → (set.contains c.dependents.result q ≡ true) ↔ DependsAt (log_of run.entries) cut d q) end c.dependents.ensures in
     let orphans : c.without-orphans.result ≡ set.difference c.dependents.result run.strike = c.without-orphans.ensures ∙ ap (λ (s : Members). set.difference c.dependents.result s) strike in

@@ -1,4 +1,4 @@
-use Rattle.fbl_judge.proofs.Common.{◌≡◌, ◌∙◌, ◌↔◌, ℕ, true, ap, sym, subst, refl, Some, None, Option, List, Entry, length, log_of, slice_get_within, Members, Position, cases_eq, inl, inr, false≢true}
+use Rattle.fbl_judge.proofs.Common.{◌≡◌, ◌∙◌, ◌↔◌, ℕ, true, ap, sym, subst, refl, Some, None, Option, log_of, slice_get_within, Members, Position, cases_eq, inl, inr, false≢true}
 use Rattle.std.specs.FinSet as set
 use Rattle.std.proofs.Common.{nat_cmp}
 use Rattle.fbl_trace.specs.MemberSets.{contains-insert_same, contains-insert_other}
@@ -25,7 +25,7 @@ returns-in_default c =
     let run = c.args.pasts.now in
     let said = c.args.receipt.now in
     let none : said.at ≡ None = no_place said.at c.in_default.not-Some in
-    let end : cut_of c.last-end.result ≡ end_of run = (let each = λ (q : ℕ). c.last-end.ensures q ∙ ap (λ (es : List Entry). length (log_of es q)) c.index.ensures in λ i q. each q i) in
+    let end : cut_of c.last-end.result ≡ end_of run = (λ i q. c.last-end.ensures q i) in
     let cut = end ∙ sym (said_end run said.determinant said c.requires none) in
     let shown = subst (λ (o : Option ℕ). (q : ℕ) → DependsIn run said.determinant said.orphans q ↔ IsShown run said o q) (sym none) (shown_at_end run said.determinant said c.requires) in
     ok_both _ _ (IsUnsafeReason run said) c.reason_at.result c.reason_at.ensures.receipt c.reason_at.ensures.reason (λ reason is why. record {

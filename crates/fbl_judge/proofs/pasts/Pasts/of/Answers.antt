@@ -1,4 +1,4 @@
-use Rattle.fbl_judge.proofs.Common.{arith, ◌≡◌, ◌∙◌, ◌+◌, ℕ, List, Entry, length, sym, subst}
+use Rattle.fbl_judge.proofs.Common.{ap, arith, ◌≡◌, ◌∙◌, ◌+◌, ℕ, List, Entry, length, log_of, sym, subst}
 use Rattle.fbl_runs.specs.declared.clocks.Advance.{Advance}
 use Rattle.fbl_runs.specs.Clocks.{AreAdvances, IsLawful}
 use Rattle.fbl_judge.proofs.PastLaws.{AreAdvances-none, AreAdvances-push}
@@ -7,7 +7,7 @@ use Rattle.fbl_judge.proofs.pasts.Pasts.of.Goals as goal
 pub loop-place-init : goal.loop-place-init
 loop-place-init c = record {
   seen = c.new-pass.ensures c.entries-entries.result.now;
-  advances = AreAdvances-none c.entries-entries.result.now c.new-advances.result.items c.new-advances.ensures.items;
+  advances = AreAdvances-none c.entries-entries.result.now c.in_ok-advances.advances.items c.in_ok-advances.ensures.items;
 }
 
 pub add-requires-clause-lawful : goal.add-requires-clause-lawful
@@ -28,6 +28,7 @@ invariant_of-result c =
       rules = c.entries-entries.ensures.rules;
       index = c.in_ok-index.ensures ∙ c.entries-entries.ensures.entries;
       none = c.none.ensures;
+      last = λ q. c.last-last.ensures q ∙ ap (λ (es : List Entry). length (log_of es q)) (c.in_ok-index.ensures ∙ c.entries-entries.ensures.entries);
       all = subst (λ (es : List Entry). AreAdvances es (length es) c.loop-place.advances.items) c.entries-entries.ensures.entries
           (subst (λ (p : ℕ). AreAdvances es p c.loop-place.advances.items) all c.loop-place.invariant.advances);
     }

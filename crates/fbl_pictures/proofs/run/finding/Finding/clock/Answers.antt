@@ -15,4 +15,4 @@ returns-in-Some c =
 pub returns-in-None : goal.returns-in-None
 returns-in-None c =
     subst (λ (o : Option ℕ). IsCutOf c.args.pasts.now o (cut_of c.last.result)) (sym c.in-None.is)
-    (λ q. c.last.ensures q ∙ ap (λ (es : List Entry). length (log_of es q)) c.index.ensures)
+    c.last.ensures
