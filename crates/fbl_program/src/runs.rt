@@ -157,7 +157,8 @@ fn judge<T: Eprint, W: Write>(
     sources: &Sources<'_>,
     writer: &mut W,
 ) -> Result<bool, OutputFault>
-    ensures { PutsOut (IsAnswerTo question (run_of found.now) sources.now) (W.contents writer.old) (W.contents writer.new) result }
+    ensures { PutsOut (IsAnswerTo question (run_of found.now) sources.now) (W.contents writer.old)
+        (W.contents writer.new) result }
 {
     match found {
         Checked::Dump(dump) => {
@@ -229,7 +230,8 @@ pub(crate) fn end_merged<T: Eprint, W: Write>(
     writer: &mut Named<'_, W>,
 ) -> u8
     requires { 0 < count_of together.now }
-    ensures { EndsMerged task together.now (map (λ name. name.now) names.now) (W.contents writer.old.stream) (W.contents writer.new.stream) result }
+    ensures { EndsMerged task together.now (map (λ name. name.now) names.now)
+        (W.contents writer.old.stream) (W.contents writer.new.stream) result }
 {
     let files = match InputFiles::of(alloc, names, together) {
         Ok(files) => files,
