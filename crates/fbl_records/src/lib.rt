@@ -4,7 +4,9 @@
 
 mod audit_text;
 mod check_text;
+mod event_lines;
 mod lines;
+mod log_version;
 mod reader;
 mod reason_text;
 

@@ -1,0 +1,80 @@
+-- A log as the lines that a process writes: the first is the log's object without its events, and each further one is an event, or a list
+-- of events. The lines stand for one JSON text: the object, with all events behind its fields.
+use Rattle.std.specs.Prelude.{ℕ, ◌==◌, ◌&&◌, List, [], ◌∷◌, ◌++◌, codes, Bool, not, Option, Some, None, is_some, option_and_then, option_map, if◌then◌else◌}
+use Rattle.std.specs.Char.{is_ascii_whitespace}
+use Rattle.std.specs.List.{after_first, before_last, list_all}
+use Rattle.serde_json.specs.Data.{Data}
+use Rattle.serde_json.specs.Find.{as_str, get}
+use Rattle.fbl_input.specs.declared.key.Key.TheVariants as keys
+use Rattle.fbl_input.specs.Shapes.{as_list, json_of, name_of, number_within}
+
+-- ---- lines
+
+-- the lines of bytes that go on with the line begun. What stands behind the last newline is left out: the end of a process tears no more
+abbrev pub lines_from : List ℕ → List ℕ → List (List ℕ)
+lines_from begun [] = []
+lines_from begun (b ∷ bs) = if b == 10 then begun ∷ lines_from [] bs else lines_from (begun ++ b ∷ []) bs
+
+abbrev pub lines_of : List ℕ → List (List ℕ)
+lines_of input = lines_from [] input
+
+-- nothing but spaces
+abbrev pub is_blank : List ℕ → Bool
+is_blank line = list_all is_ascii_whitespace line
+
+-- ---- events
+
+-- the text of the events of a line with this list: of one that begins with a word, an event, the line; of any other, a step, what stands
+-- between its first bracket and its last
+abbrev pub events_in : List ℕ → List Data → List ℕ
+events_in line [] = []
+events_in line (first ∷ rest) = if is_some (as_str first) then line else before_last (λ b. b == 93) (after_first (λ b. b == 91) line)
+
+-- that of a line, if it is a list, or blank
+abbrev pub events_of : List ℕ → Option (List ℕ)
+events_of line = if is_blank line then Some [] else option_map (events_in line) (option_and_then as_list (json_of line))
+
+-- events and more events, with a comma between
+abbrev pub joined : List ℕ → List ℕ → List ℕ
+joined [] more = more
+joined (b ∷ bs) [] = b ∷ bs
+joined (b ∷ bs) (m ∷ ms) = (b ∷ bs) ++ 44 ∷ m ∷ ms
+
+-- events, and those of all the lines behind them, if each line has some
+abbrev pub all_events : List ℕ → List (List ℕ) → Option (List ℕ)
+all_events events [] = Some events
+all_events events (line ∷ lines) = option_and_then (λ more. all_events (joined events more) lines) (events_of line)
+
+-- ---- the text
+
+-- the version of a log
+abbrev pub log_version : Data → Option ℕ
+log_version = number_within 2 2
+
+-- whether it is the object of a log without its events
+abbrev pub is_head : Data → Bool
+is_head d = is_some (option_and_then log_version (get (name_of keys.Version) d)) && not (is_some (get (name_of keys.Events) d))
+
+-- the text of such an object, up to its last bracket
+abbrev pub head_of : List ℕ → Option (List ℕ)
+head_of line = option_and_then (λ d. if is_head d then Some (before_last (λ b. b == 125) line) else None) (json_of line)
+
+-- the object with these events behind its fields
+abbrev pub with_events : List ℕ → List ℕ → List ℕ
+with_events head events = head ++ codes ",\"events\":[" ++ events ++ codes "]}"
+
+-- the text for which the lines stand, if they are those of a log
+abbrev pub text_of_lines : List (List ℕ) → Option (List ℕ)
+text_of_lines [] = None
+text_of_lines (first ∷ rest) = option_and_then (λ head. option_map (with_events head) (all_events [] rest)) (head_of first)
+
+abbrev pub is_json : List ℕ → Bool
+is_json text = is_some (json_of text)
+
+-- the JSON text that an input means: its own; where it is none, that for which its lines stand; and where that is none, the input
+abbrev pub json_text : List ℕ → List ℕ
+json_text input = if is_json input then input else or_input input (text_of_lines (lines_of input))
+  where
+    or_input : List ℕ → Option (List ℕ) → List ℕ
+    or_input input None = input
+    or_input input (Some text) = if is_json text then text else input
