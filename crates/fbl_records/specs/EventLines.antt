@@ -24,11 +24,15 @@ is_blank line = list_all is_ascii_whitespace line
 
 -- ---- events
 
+-- what stands between the first opening bracket and the last closing one
+abbrev pub in_brackets : List ℕ → List ℕ
+in_brackets line = before_last (λ b. b == 93) (after_first (λ b. b == 91) line)
+
 -- the text of the events of a line with this list: of one that begins with a word, an event, the line; of any other, a step, what stands
--- between its first bracket and its last
+-- between its brackets
 abbrev pub events_in : List ℕ → List Data → List ℕ
 events_in line [] = []
-events_in line (first ∷ rest) = if is_some (as_str first) then line else before_last (λ b. b == 93) (after_first (λ b. b == 91) line)
+events_in line (first ∷ rest) = if is_some (as_str first) then line else in_brackets line
 
 -- that of a line, if it is a list, or blank
 abbrev pub events_of : List ℕ → Option (List ℕ)
@@ -72,7 +76,7 @@ abbrev pub is_json : List ℕ → Bool
 is_json text = is_some (json_of text)
 
 -- the JSON text that an input means: its own; where it is none, that for which its lines stand; and where that is none, the input
-abbrev pub json_text : List ℕ → List ℕ
+unfoldable pub json_text : List ℕ → List ℕ
 json_text input = if is_json input then input else or_input input (text_of_lines (lines_of input))
   where
     or_input : List ℕ → Option (List ℕ) → List ℕ

@@ -4,7 +4,7 @@ ghost use Rattle.std.specs.Prelude.{◌≡◌, ◌==◌, IfOk, OnOk, map, option
 ghost use Rattle.std.specs.List.{after_first, before_last};
 ghost use Rattle.serde_json.specs.View.{view};
 ghost use Rattle.fbl_input.specs.Shapes.{json_of};
-ghost use Rattle.fbl_records.specs.EventLines.{all_events, events_in, events_of, head_of, is_blank, is_head, joined, json_text, lines_of, text_of_lines, with_events};
+ghost use Rattle.fbl_records.specs.EventLines.{all_events, events_in, events_of, head_of, in_brackets, is_blank, is_head, joined, json_text, lines_of, text_of_lines, with_events};
 
 use crate::log_version::log_version_in;
 use fbl_input::Key;
@@ -55,6 +55,13 @@ fn before_last(text: &[u8], byte: u8) -> &[u8]
     }
 }
 
+/// What stands between the line's first opening bracket and its last closing one.
+fn in_brackets(line: &[u8]) -> &[u8]
+    ensures { result.now ≡ in_brackets line.now }
+{
+    before_last(behind_first(line, b'['), b']')
+}
+
 /// The text of the events of a line with this list: of one that begins with a word, an event, the line; of any other, a step, what stands
 /// between its brackets.
 fn events_in<'l>(line: &'l [u8], list: &[Value]) -> &'l [u8]
@@ -62,8 +69,13 @@ fn events_in<'l>(line: &'l [u8], list: &[Value]) -> &'l [u8]
 {
     match list {
         [] => &[],
-        [first, ..] if first.as_str().is_some() => line,
-        _ => before_last(behind_first(line, b'['), b']'),
+        [first, ..] => {
+            if first.as_str().is_some() {
+                line
+            } else {
+                in_brackets(line)
+            }
+        }
     }
 }
 
@@ -150,6 +162,14 @@ fn text_of_lines(alloc: Global, lines: &[&[u8]]) -> Result<Option<Vec<u8>>, Allo
     }
 }
 
+/// The text for which the lines of the input stand, if they are those of a log.
+fn text_of_input(alloc: Global, input: &[u8]) -> Result<Option<Vec<u8>>, AllocError>
+    ensures { IfOk result (λ text. option_map (λ v. v.items) text ≡ text_of_lines (lines_of input.now)) }
+{
+    let lines = lines_of(alloc, input)?;
+    text_of_lines(alloc, lines.as_slice())
+}
+
 /// A text, and the JSON value that it spells, if it spells one.
 #[derive(Drop)]
 pub(crate) struct JsonText {
@@ -166,8 +186,7 @@ pub(crate) fn json_text(alloc: Global, input: Vec<u8>) -> Result<JsonText, Alloc
     if value.is_some() {
         return Ok(JsonText { text: input, value });
     }
-    let lines = lines_of(alloc, input.as_slice())?;
-    if let Some(text) = text_of_lines(alloc, lines.as_slice())? {
+    if let Some(text) = text_of_input(alloc, input.as_slice())? {
         let value = json_in(alloc, text.as_slice())?;
         if value.is_some() {
             return Ok(JsonText { text, value });

@@ -1,0 +1,73 @@
+-- The lines of an input, and what stands behind and before a byte.
+use Rattle.fbl_records.proofs.Common.{◌≡◌, ◌<◌, ◌≤◌, ◌+◌, ◌-◌, ◌==◌, ◌++◌, ◌∷◌, ◌∙◌, [], List, ℕ, ap, append_assoc, arith, cond, drop, get_or, length, map, map_push, not, refl, sym, subst, suc, take, take_all, take_more, true, false, option_map, Option, Some, None}
+use Rattle.std.specs.List.{after_first, before_last, position_or_len, suffix_len, slice_range}
+use Rattle.std.specs.Borrow.{Bor}
+use Rattle.std.proofs.lemmas.Bool.{false_from_ne_true}
+use Rattle.std.proofs.lemmas.List.{drop_all, get_or-drop, length-drop}
+use Rattle.std.proofs.lemmas.List.Sums.{position_or_len_is, suffix_len_is}
+use Rattle.std.proofs.Math.Seq.{drop-cons}
+use Rattle.memchr.specs.Find.{NoneAfter, NoneBefore, Nowhere, Passes, is_byte}
+use Rattle.fbl_records.specs.EventLines.{lines_from}
+
+-- ---- bytes
+
+pub behind_first_at : (byte : ℕ) (text : List ℕ) (k : ℕ) → NoneBefore (Passes (is_byte byte) text) 0 (length text) k × Passes (is_byte byte) text k
+    → take (length text - (k + 1)) (drop (k + 1) text) ≡ after_first (λ b. b == byte) text
+behind_first_at byte text k h =
+    let at : position_or_len (λ b. b == byte) text ≡ k = position_or_len_is (λ b. b == byte) text k 0 (omega (arith, h.0.high)) (λ j below. false_from_ne_true _ (h.0.before j (omega arith) below)) (λ _. h.1) in
+    let size : length (drop (k + 1) text) ≡ length text - (k + 1) = length-drop (k + 1) text in
+    take_all _ _ (omega (arith, size)) ∙ ap (λ n. drop (n + 1) text) (sym at)
+
+pub behind_none : (byte : ℕ) (text : List ℕ) → Nowhere (Passes (is_byte byte) text) 0 (length text) → ◌≡◌ {A = List ℕ} [] (after_first (λ b. b == byte) text)
+behind_none byte text h =
+    let at : position_or_len (λ b. b == byte) text ≡ length text = position_or_len_is (λ b. b == byte) text (length text) 0 (omega arith) (λ j below. false_from_ne_true _ (h j (omega arith) below)) (λ lt. absurd (omega (arith, lt))) in
+    sym (drop_all _ text (omega (arith, at)))
+
+pub before_last_at : (byte : ℕ) (text : List ℕ) (k : ℕ) → NoneAfter (Passes (is_byte byte) text) 0 (length text) k × Passes (is_byte byte) text k
+    → take k text ≡ before_last (λ b. b == byte) text
+before_last_at byte text k h =
+    let back : k + 1 - 1 ≡ k = omega arith in
+    let behind : suffix_len (λ b. not (b == byte)) text ≡ length text - (k + 1) =
+        suffix_len_is (λ b. not (b == byte)) text (k + 1) 0 (omega (arith, h.0.high)) (λ j least below. ap not (false_from_ne_true _ (h.0.after j least below))) (λ _. ap not (subst (λ n. (get_or text n 0 == byte) ≡ true) (sym back) h.1)) in
+    ap (λ n. take n text) (omega (arith, behind, h.0.high))
+
+pub before_none : (byte : ℕ) (text : List ℕ) → Nowhere (Passes (is_byte byte) text) 0 (length text) → ◌≡◌ {A = List ℕ} [] (before_last (λ b. b == byte) text)
+before_none byte text h =
+    let behind : suffix_len (λ b. not (b == byte)) text ≡ length text - 0 =
+        suffix_len_is (λ b. not (b == byte)) text 0 0 (omega arith) (λ j least below. ap not (false_from_ne_true _ (h j least below))) (λ lt. absurd (omega (arith, lt))) in
+    let none : 0 ≡ length text - suffix_len (λ b. not (b == byte)) text - 1 = omega (arith, behind) in
+    ap (λ n. take n text) none
+
+-- ---- lines
+
+-- the lines from a place on, where one was begun at an earlier place
+abbrev pub lines_at : List ℕ → ℕ → ℕ → List (List ℕ)
+lines_at input start place = lines_from (slice_range input start place) (drop place input)
+
+next_byte : (input : List ℕ) (place : ℕ) → place < length input → drop place input ≡ get_or input place 0 ∷ drop (place + 1) input
+next_byte input place within = (let next : place + 1 ≡ suc place = omega arith in rw next (drop-cons input place 0 within))
+
+-- a newline ends the line that was begun
+pub ends_line : (input : List ℕ) (start place : ℕ) → start ≤ place → place < length input → get_or input place 0 ≡ 10
+    → lines_at input start place ≡ slice_range input start place ∷ lines_at input (place + 1) (place + 1)
+ends_line input start place low within newline =
+    let none : place + 1 - (place + 1) ≡ 0 = omega arith in
+    rw (next_byte input place within, newline, none) refl
+
+-- another byte is the line's
+pub goes_on : (input : List ℕ) (start place : ℕ) → start ≤ place → place < length input → (get_or input place 0 == 10) ≡ false
+    → lines_at input start place ≡ lines_at input start (place + 1)
+goes_on input start place low within other =
+    let size : length (drop start input) ≡ length input - start = length-drop start input in
+    let next : place + 1 - start ≡ place - start + 1 = omega (arith, low) in
+    let here : start + (place - start) ≡ place = omega (arith, low) in
+    let byte : get_or (drop start input) (place - start) 0 ≡ get_or input place 0 = get_or-drop start input (place - start) 0 ∙ ap (λ n. get_or input n 0) here in
+    let begun : slice_range input start (place + 1) ≡ slice_range input start place ++ get_or input place 0 ∷ [] =
+        ap (λ n. take n (drop start input)) next ∙ take_more (drop start input) (place - start) 0 (omega (arith, size, low, within)) ∙ ap (λ b. slice_range input start place ++ b ∷ []) byte in
+    ap (lines_from (slice_range input start place)) (next_byte input place within)
+    ∙ ap (λ b. cond b (slice_range input start place ∷ lines_from [] (drop (place + 1) input)) (lines_from (slice_range input start place ++ get_or input place 0 ∷ []) (drop (place + 1) input))) other
+    ∙ ap (λ l. lines_from l (drop (place + 1) input)) (sym begun)
+
+-- one line more is found
+pub one_more : (found : List (Bor (List ℕ))) (more : Bor (List ℕ)) (rest : List (List ℕ)) → map (λ l. l.now) (found ++ more ∷ []) ++ rest ≡ map (λ l. l.now) found ++ more.now ∷ rest
+one_more found more rest = ap (λ ls. ls ++ rest) (map_push (λ (l : Bor (List ℕ)). l.now) found more) ∙ append_assoc (map (λ l. l.now) found) (more.now ∷ []) rest
