@@ -1,5 +1,6 @@
 -- The lines of an input, and what stands behind and before a byte.
-use Rattle.fbl_records.proofs.Common.{◌≡◌, ◌<◌, ◌≤◌, ◌+◌, ◌-◌, ◌==◌, ◌++◌, ◌∷◌, ◌∙◌, [], List, ℕ, ap, append_assoc, arith, cond, drop, get_or, length, map, map_push, not, refl, sym, subst, suc, take, take_all, take_more, true, false, option_map, Option, Some, None}
+use Rattle.fbl_records.proofs.Common.{◌≡◌, ◌<◌, ◌≤◌, ◌+◌, ◌-◌, ◌==◌, ◌++◌, ◌∷◌, ◌∙◌, [], List, ℕ, ap, append_assoc, arith, cond, drop, get_or, length, map, map_push, not, refl, sym, subst, suc, take, take_all, take_more, true, false, option_map, Option, Some, None, json_of}
+use Rattle.std.specs.Prelude.{is_some, unwrap_or}
 use Rattle.std.specs.List.{after_first, before_last, position_or_len, suffix_len, slice_range}
 use Rattle.std.specs.Borrow.{Bor}
 use Rattle.std.proofs.lemmas.Bool.{false_from_ne_true}
@@ -7,7 +8,7 @@ use Rattle.std.proofs.lemmas.List.{drop_all, get_or-drop, length-drop}
 use Rattle.std.proofs.lemmas.List.Sums.{position_or_len_is, suffix_len_is}
 use Rattle.std.proofs.Math.Seq.{drop-cons}
 use Rattle.memchr.specs.Find.{NoneAfter, NoneBefore, Nowhere, Passes, is_byte}
-use Rattle.fbl_records.specs.EventLines.{lines_from}
+use Rattle.fbl_records.specs.EventLines.{json_text, lines_from, lines_text}
 
 -- ---- bytes
 
@@ -28,13 +29,13 @@ pub before_last_at : (byte : ℕ) (text : List ℕ) (k : ℕ) → NoneAfter (Pas
 before_last_at byte text k h =
     let back : k + 1 - 1 ≡ k = omega arith in
     let behind : suffix_len (λ b. not (b == byte)) text ≡ length text - (k + 1) =
-        suffix_len_is (λ b. not (b == byte)) text (k + 1) 0 (omega (arith, h.0.high)) (λ j least below. ap not (false_from_ne_true _ (h.0.after j least below))) (λ _. ap not (subst (λ n. (get_or text n 0 == byte) ≡ true) (sym back) h.1)) in
+    suffix_len_is (λ b. not (b == byte)) text (k + 1) 0 (omega (arith, h.0.high)) (λ j least below. ap not (false_from_ne_true _ (h.0.after j least below))) (λ _. ap not (subst (λ n. (get_or text n 0 == byte) ≡ true) (sym back) h.1)) in
     ap (λ n. take n text) (omega (arith, behind, h.0.high))
 
 pub before_none : (byte : ℕ) (text : List ℕ) → Nowhere (Passes (is_byte byte) text) 0 (length text) → ◌≡◌ {A = List ℕ} [] (before_last (λ b. b == byte) text)
 before_none byte text h =
     let behind : suffix_len (λ b. not (b == byte)) text ≡ length text - 0 =
-        suffix_len_is (λ b. not (b == byte)) text 0 0 (omega arith) (λ j least below. ap not (false_from_ne_true _ (h j least below))) (λ lt. absurd (omega (arith, lt))) in
+    suffix_len_is (λ b. not (b == byte)) text 0 0 (omega arith) (λ j least below. ap not (false_from_ne_true _ (h j least below))) (λ lt. absurd (omega (arith, lt))) in
     let none : 0 ≡ length text - suffix_len (λ b. not (b == byte)) text - 1 = omega (arith, behind) in
     ap (λ n. take n text) none
 
@@ -63,7 +64,7 @@ goes_on input start place low within other =
     let here : start + (place - start) ≡ place = omega (arith, low) in
     let byte : get_or (drop start input) (place - start) 0 ≡ get_or input place 0 = get_or-drop start input (place - start) 0 ∙ ap (λ n. get_or input n 0) here in
     let begun : slice_range input start (place + 1) ≡ slice_range input start place ++ get_or input place 0 ∷ [] =
-        ap (λ n. take n (drop start input)) next ∙ take_more (drop start input) (place - start) 0 (omega (arith, size, low, within)) ∙ ap (λ b. slice_range input start place ++ b ∷ []) byte in
+    ap (λ n. take n (drop start input)) next ∙ take_more (drop start input) (place - start) 0 (omega (arith, size, low, within)) ∙ ap (λ b. slice_range input start place ++ b ∷ []) byte in
     ap (lines_from (slice_range input start place)) (next_byte input place within)
     ∙ ap (λ b. cond b (slice_range input start place ∷ lines_from [] (drop (place + 1) input)) (lines_from (slice_range input start place ++ get_or input place 0 ∷ []) (drop (place + 1) input))) other
     ∙ ap (λ l. lines_from l (drop (place + 1) input)) (sym begun)
@@ -71,3 +72,23 @@ goes_on input start place low within other =
 -- one line more is found
 pub one_more : (found : List (Bor (List ℕ))) (more : Bor (List ℕ)) (rest : List (List ℕ)) → map (λ l. l.now) (found ++ more ∷ []) ++ rest ≡ map (λ l. l.now) found ++ more.now ∷ rest
 one_more found more rest = ap (λ ls. ls ++ rest) (map_push (λ (l : Bor (List ℕ)). l.now) found more) ∙ append_assoc (map (λ l. l.now) found) (more.now ∷ []) rest
+
+-- ---- texts
+
+-- an input that is JSON means itself
+pub own_text : (input : List ℕ) → is_some (json_of input) ≡ true → json_text input ≡ input
+unfolding json_text
+own_text input is = ap (λ b. cond b input (unwrap_or (lines_text input) input)) is
+
+-- and another what its lines mean
+pub lines_meant : {X : Type 0} (f : X → List ℕ) (input : List ℕ) (found : Option X) → is_some (json_of input) ≡ false → option_map f found ≡ lines_text input → json_text input ≡ unwrap_or (option_map f found) input
+unfolding json_text
+lines_meant f input found none is = ap (λ b. cond b input (unwrap_or (lines_text input) input)) none ∙ ap (λ o. unwrap_or o input) (sym is)
+
+-- whether a text was read
+pub is_read : {X Y : Type 0} (f : X → Y) (found : Option X) (value : X) (read : Option Y) → found ≡ Some value → option_map f found ≡ read → is_some read ≡ true
+is_read f found value read some is = rw (← is, some) refl
+
+pub not_read : {X Y : Type 0} (f : X → Y) (found : Option X) (read : Option Y) → ((x : X) → found ≡ Some x → ⊥) → option_map f found ≡ read → is_some read ≡ false
+not_read f None read none is = ap is_some (sym is)
+not_read f (Some x) read none is = absurd (none x refl)

@@ -1,6 +1,6 @@
 -- A log as the lines that a process writes: the first is the log's object without its events, and each further one is an event, or a list
 -- of events. The lines stand for one JSON text: the object, with all events behind its fields.
-use Rattle.std.specs.Prelude.{ℕ, ◌==◌, ◌&&◌, List, [], ◌∷◌, ◌++◌, codes, Bool, not, Option, Some, None, is_some, option_and_then, option_map, if◌then◌else◌}
+use Rattle.std.specs.Prelude.{ℕ, ◌==◌, ◌&&◌, List, [], ◌∷◌, ◌++◌, codes, Bool, not, Option, Some, None, is_some, option_and_then, option_map, unwrap_or, if◌then◌else◌}
 use Rattle.std.specs.Char.{is_ascii_whitespace}
 use Rattle.std.specs.List.{after_first, before_last, list_all}
 use Rattle.serde_json.specs.Data.{Data}
@@ -75,10 +75,10 @@ text_of_lines (first ∷ rest) = option_and_then (λ head. option_map (with_even
 abbrev pub is_json : List ℕ → Bool
 is_json text = is_some (json_of text)
 
--- the JSON text that an input means: its own; where it is none, that for which its lines stand; and where that is none, the input
+-- the JSON text for which the lines of an input stand, if they are those of a log
+abbrev pub lines_text : List ℕ → Option (List ℕ)
+lines_text input = option_and_then (λ text. if is_json text then Some text else None) (text_of_lines (lines_of input))
+
+-- the text that an input means: its own, where that is JSON; where it is none, that for which its lines stand; and else its own
 unfoldable pub json_text : List ℕ → List ℕ
-json_text input = if is_json input then input else or_input input (text_of_lines (lines_of input))
-  where
-    or_input : List ℕ → Option (List ℕ) → List ℕ
-    or_input input None = input
-    or_input input (Some text) = if is_json text then text else input
+json_text input = if is_json input then input else unwrap_or (lines_text input) input

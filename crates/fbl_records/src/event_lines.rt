@@ -1,10 +1,10 @@
 //! A log as the lines that a process writes, and the JSON text for which they stand.
 
-ghost use Rattle.std.specs.Prelude.{◌≡◌, ◌==◌, IfOk, OnOk, map, option_map, [], ◌∷◌};
+ghost use Rattle.std.specs.Prelude.{◌≡◌, ◌==◌, IfOk, IfSome, OnOk, map, option_map, [], ◌∷◌};
 ghost use Rattle.std.specs.List.{after_first, before_last};
 ghost use Rattle.serde_json.specs.View.{view};
 ghost use Rattle.fbl_input.specs.Shapes.{json_of};
-ghost use Rattle.fbl_records.specs.EventLines.{all_events, events_in, events_of, head_of, in_brackets, is_blank, is_head, joined, json_text, lines_of, text_of_lines, with_events};
+ghost use Rattle.fbl_records.specs.EventLines.{all_events, events_in, events_of, head_of, in_brackets, is_blank, is_head, joined, json_text, lines_of, lines_text, text_of_lines, with_events};
 
 use crate::log_version::log_version_in;
 use fbl_input::Key;
@@ -162,14 +162,6 @@ fn text_of_lines(alloc: Global, lines: &[&[u8]]) -> Result<Option<Vec<u8>>, Allo
     }
 }
 
-/// The text for which the lines of the input stand, if they are those of a log.
-fn text_of_input(alloc: Global, input: &[u8]) -> Result<Option<Vec<u8>>, AllocError>
-    ensures { IfOk result (λ text. option_map (λ v. v.items) text ≡ text_of_lines (lines_of input.now)) }
-{
-    let lines = lines_of(alloc, input)?;
-    text_of_lines(alloc, lines.as_slice())
-}
-
 /// A text, and the JSON value that it spells, if it spells one.
 #[derive(Drop)]
 pub(crate) struct JsonText {
@@ -177,23 +169,41 @@ pub(crate) struct JsonText {
     pub(crate) value: Option<Value>,
 }
 
-/// The JSON text that the input means: its own, or that for which its lines stand. `Err` comes only where there is no memory for it.
+/// The JSON text for which the lines of the input stand, if they are those of a log.
+fn lines_text(alloc: Global, input: &[u8]) -> Result<Option<JsonText>, AllocError>
+    ensures text { IfOk result (λ found. option_map (λ t. t.text.items) found ≡ lines_text input.now) }
+    ensures value { IfOk result (λ found. IfSome found (λ t. option_map view t.value ≡ json_of t.text.items)) }
+{
+    let lines = lines_of(alloc, input)?;
+    let Some(text) = text_of_lines(alloc, lines.as_slice())? else {
+        return Ok(None);
+    };
+    match json_in(alloc, text.as_slice())? {
+        Some(value) => Ok(Some(JsonText {
+            text,
+            value: Some(value),
+        })),
+        None => Ok(None),
+    }
+}
+
+/// The text that the input means: its own, where it is JSON, or that for which its lines stand. `Err` comes only where there is no memory
+/// for it.
 pub(crate) fn json_text(alloc: Global, input: Vec<u8>) -> Result<JsonText, AllocError>
     ensures text { IfOk result (λ found. found.text.items ≡ json_text input.items) }
     ensures value { IfOk result (λ found. option_map view found.value ≡ json_of found.text.items) }
 {
-    let value = json_in(alloc, input.as_slice())?;
-    if value.is_some() {
-        return Ok(JsonText { text: input, value });
+    if let Some(value) = json_in(alloc, input.as_slice())? {
+        return Ok(JsonText {
+            text: input,
+            value: Some(value),
+        });
     }
-    if let Some(text) = text_of_input(alloc, input.as_slice())? {
-        let value = json_in(alloc, text.as_slice())?;
-        if value.is_some() {
-            return Ok(JsonText { text, value });
-        }
+    match lines_text(alloc, input.as_slice())? {
+        Some(found) => Ok(found),
+        None => Ok(JsonText {
+            text: input,
+            value: None,
+        }),
     }
-    Ok(JsonText {
-        text: input,
-        value: None,
-    })
 }

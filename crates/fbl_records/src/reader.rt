@@ -179,7 +179,10 @@ fn recorded_in(alloc: Global, input: Vec<u8>) -> Result<RecordedInput, InputFaul
         return Err(InputFault::new(InputKind::Dump, RunFault::NotJson, text));
     };
     match recorded_of(alloc, &value) {
-        Ok(recorded) => Ok(RecordedInput { recorded, bytes: text }),
+        Ok(recorded) => Ok(RecordedInput {
+            recorded,
+            bytes: text,
+        }),
         Err(fault) => Err(InputFault::new(kind_of(&value), fault, text)),
     }
 }

@@ -1,4 +1,4 @@
-use Rattle.fbl_input.proofs.Common.{ap, ◌∙◌, arith, or_fault, NotJson}
+use Rattle.fbl_input.proofs.Common.{arith}
 use Rattle.fbl_input.proofs.Lists.{short_value}
 use Rattle.fbl_input.proofs.shapes.value_in.Goals as goal
 
