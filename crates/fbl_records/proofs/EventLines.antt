@@ -1,14 +1,14 @@
 -- The lines of an input, and what stands behind and before a byte.
-use Rattle.fbl_records.proofs.Common.{◌≡◌, ◌<◌, ◌≤◌, ◌+◌, ◌-◌, ◌==◌, ◌++◌, ◌∷◌, ◌∙◌, [], List, ℕ, ap, append_assoc, arith, cond, drop, get_or, length, map, map_push, not, refl, sym, subst, suc, take, take_all, take_more, true, false, option_map, Option, Some, None, json_of}
+use Rattle.fbl_records.proofs.Common.{append-nil, inl, inr, ◌⊎◌, Bool, list_any, ◌≡◌, ◌<◌, ◌≤◌, ◌+◌, ◌-◌, ◌==◌, ◌++◌, ◌∷◌, ◌∙◌, [], List, ℕ, ap, append_assoc, arith, cond, drop, get_or, length, map, map_push, not, refl, sym, subst, suc, take, take_all, take_more, true, false, option_map, Option, Some, None, json_of}
 use Rattle.std.specs.Prelude.{is_some, unwrap_or}
-use Rattle.std.specs.List.{after_first, before_last, position_or_len, suffix_len, slice_range}
+use Rattle.std.specs.List.{after_first, before_last, flat_map, position_or_len, suffix_len, slice_range}
 use Rattle.std.specs.Borrow.{Bor}
 use Rattle.std.proofs.lemmas.Bool.{false_from_ne_true}
 use Rattle.std.proofs.lemmas.List.{drop_all, get_or-drop, length-drop}
 use Rattle.std.proofs.lemmas.List.Sums.{position_or_len_is, suffix_len_is}
 use Rattle.std.proofs.Math.Seq.{drop-cons}
 use Rattle.memchr.specs.Find.{NoneAfter, NoneBefore, Nowhere, Passes, is_byte}
-use Rattle.fbl_records.specs.EventLines.{json_text, lines_from, lines_text}
+use Rattle.fbl_records.specs.EventLines.{has_newline, is_json, json_text, lines_from, lines_of, lines_text}
 
 -- ---- bytes
 
@@ -73,12 +73,40 @@ goes_on input start place low within other =
 pub one_more : (found : List (Bor (List ℕ))) (more : Bor (List ℕ)) (rest : List (List ℕ)) → map (λ l. l.now) (found ++ more ∷ []) ++ rest ≡ map (λ l. l.now) found ++ more.now ∷ rest
 one_more found more rest = ap (λ ls. ls ++ rest) (map_push (λ (l : Bor (List ℕ)). l.now) found more) ∙ append_assoc (map (λ l. l.now) found) (more.now ∷ []) rest
 
+-- a text without a newline goes on the line that was begun
+no_newline : (begun text rest : List ℕ) → has_newline text ≡ false → lines_from begun (text ++ rest) ≡ lines_from (begun ++ text) rest
+no_newline begun [] rest none = ap (λ l. lines_from l rest) (sym (append-nil begun))
+no_newline begun (b ∷ bs) rest none =
+    let first : (b == 10) ≡ false = grind (arith, none) in
+    let others : has_newline bs ≡ false = grind (arith, none) in
+    ap (λ c. cond c (begun ∷ lines_from [] (bs ++ rest)) (lines_from (begun ++ b ∷ []) (bs ++ rest))) first ∙ no_newline (begun ++ b ∷ []) bs rest others
+    ∙ ap (λ l. lines_from l rest) (append_assoc begun (b ∷ []) bs)
+
+pub lines_found : (lines : List (List ℕ)) (torn : List ℕ) → list_any has_newline lines ≡ false → has_newline torn ≡ false → lines_of (flat_map (λ line. line ++ 10 ∷ []) lines ++ torn) ≡ lines
+lines_found [] torn none whole = ap (lines_from []) (sym (append-nil torn)) ∙ no_newline [] torn [] whole
+lines_found (line ∷ lines) torn none whole =
+    let first : has_newline line ≡ false = grind (arith, none) in
+    let others : list_any has_newline lines ≡ false = grind (arith, none) in
+    let rest : List ℕ = flat_map (λ line. line ++ 10 ∷ []) lines ++ torn in
+    ap (lines_from []) (append_assoc (line ++ 10 ∷ []) (flat_map (λ line. line ++ 10 ∷ []) lines) torn ∙ append_assoc line (10 ∷ []) rest)
+    ∙ no_newline [] line (10 ∷ rest) first ∙ ap (λ ls. line ∷ ls) (lines_found lines torn others whole)
+
 -- ---- texts
 
 -- an input that is JSON means itself
 pub own_text : (input : List ℕ) → is_some (json_of input) ≡ true → json_text input ≡ input
 unfolding json_text
 own_text input is = ap (λ b. cond b input (unwrap_or (lines_text input) input)) is
+
+-- so does one that has not the lines of a log
+pub meant_as_it_is : (input : List ℕ) → (is_json input ≡ true) ⊎ (lines_text input ≡ None) → json_text input ≡ input
+unfolding json_text
+meant_as_it_is input (inl is) = own_text input is
+meant_as_it_is input (inr none) = ap (λ o. cond (is_json input) input (unwrap_or o input)) none ∙ same (is_json input)
+  where
+    same : (b : Bool) → cond b input input ≡ input
+    same true = refl
+    same false = refl
 
 -- and another what its lines mean
 pub lines_meant : {X : Type 0} (f : X → List ℕ) (input : List ℕ) (found : Option X) → is_some (json_of input) ≡ false → option_map f found ≡ lines_text input → json_text input ≡ unwrap_or (option_map f found) input

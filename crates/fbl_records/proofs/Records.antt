@@ -2,7 +2,7 @@
 use Rattle.std.proofs.Common.{◌≡◌, ◌<◌, ◌≤◌, ℕ, ◌∙◌, ◌⊎◌, ap, inl, inr, refl, sym, subst, List, Ok, Err, Result, Option, Some, None, IfSome, Bool, true, false}
 use Rattle.std.specs.Prelude.{is_some, option_and_then, if◌then◌else◌}
 use Rattle.serde_json.specs.Find.{get}
-use Rattle.std.specs.Prelude.{cond, length}
+use Rattle.std.specs.Prelude.{cond, length, nat_lt}
 use Rattle.std.proofs.lemmas.Bool.{le-ltb, lt-ltb}
 use Rattle.fbl_input.specs.Shapes.{Fails, json_of, longest, or_fault}
 use Rattle.fbl_input.specs.Faults.{HasInput, IsFirstFault, IsUnread}
@@ -22,8 +22,8 @@ use Rattle.fbl_runs.specs.Logs.{IsLogBreach, RefusesLog, RunParts}
 use Rattle.fbl_records.proofs.Common.{Data, InputFault, InputKind, Parts, RunFault, name_of, parts_of_data, parts_of_input, ◌>>=◌}
 use Rattle.fbl_records.specs.Dumps.{IsNoDump, BreaksParts, RefusesParts}
 use Rattle.fbl_records.specs.Logs.{HasKind, IsNotChecked, IsNotRecorded, IsRefusal, BreaksRecorded, RefusesNone, RefusesRecorded, kind_of, log_of_data, recorded_as, recorded_kind, recorded_of_data, recorded_of_input, value_meant}
-use Rattle.fbl_records.specs.EventLines.{json_text, log_version}
-use Rattle.fbl_records.proofs.EventLines.{own_text}
+use Rattle.fbl_records.specs.EventLines.{is_json, json_text, lines_text, log_version}
+use Rattle.fbl_records.proofs.EventLines.{meant_as_it_is, own_text}
 use Rattle.fbl_records.specs.declared.reader.Checked.{Checked}
 use Rattle.fbl_records.specs.declared.reader.Checked.TheVariants as parts
 
@@ -130,6 +130,9 @@ long_input input is = ap (λ b. cond b (Err faults.TooLong) (or_fault faults.Not
 
 pub short_input : (input : List ℕ) → length input ≤ longest → value_meant input ≡ or_fault faults.NotJson (json_of (json_text input))
 short_input input is = ap (λ b. cond b (Err faults.TooLong) (or_fault faults.NotJson (json_of (json_text input)))) (le-ltb longest (length input) is)
+
+pub as_it_is : (input : List ℕ) → (is_json input ≡ true) ⊎ (lines_text input ≡ None) → recorded_of_input input ≡ (value_of_input input >>= recorded_of_data)
+as_it_is input is = ap (λ t. cond (nat_lt longest (length input)) (Err faults.TooLong) (or_fault faults.NotJson (json_of t)) >>= recorded_of_data) (meant_as_it_is input is)
 
 -- what a JSON text records is what its value does
 pub text_records : (text : List ℕ) (d : Data) → length text ≤ longest → json_of text ≡ Some d → recorded_of_input text ≡ recorded_of_data d

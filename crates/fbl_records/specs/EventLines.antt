@@ -1,8 +1,8 @@
--- A log as the lines that a process writes: the first is the log's object without its events, and each further one is an event, or a list
--- of events. The lines stand for one JSON text: the object, with all events behind its fields.
-use Rattle.std.specs.Prelude.{ℕ, ◌==◌, ◌&&◌, List, [], ◌∷◌, ◌++◌, codes, Bool, not, Option, Some, None, is_some, option_and_then, option_map, unwrap_or, if◌then◌else◌}
+-- A log as the lines that a process writes: the first is the log's object without its events, and each further one is an event, or a
+-- step, a list of events. The lines stand for one JSON text: the object, with all events behind its fields.
+use Rattle.std.specs.Prelude.{◌≡◌, ℕ, ◌==◌, ◌&&◌, List, [], ◌∷◌, ◌++◌, codes, Bool, false, not, Option, Some, None, is_some, option_and_then, option_map, unwrap_or, if◌then◌else◌}
 use Rattle.std.specs.Char.{is_ascii_whitespace}
-use Rattle.std.specs.List.{after_first, before_last, list_all}
+use Rattle.std.specs.List.{after_first, before_last, flat_map, list_all, list_any}
 use Rattle.serde_json.specs.Data.{Data}
 use Rattle.serde_json.specs.Find.{as_str, get}
 use Rattle.fbl_input.specs.declared.key.Key.TheVariants as keys
@@ -10,13 +10,21 @@ use Rattle.fbl_input.specs.Shapes.{as_list, json_of, name_of, number_within}
 
 -- ---- lines
 
--- the lines of bytes that go on with the line begun. What stands behind the last newline is left out: the end of a process tears no more
+-- the lines of these bytes, where the first has begun already. What stands behind the last newline is left out: a kill tears no more
 abbrev pub lines_from : List ℕ → List ℕ → List (List ℕ)
 lines_from begun [] = []
 lines_from begun (b ∷ bs) = if b == 10 then begun ∷ lines_from [] bs else lines_from (begun ++ b ∷ []) bs
 
 abbrev pub lines_of : List ℕ → List (List ℕ)
 lines_of input = lines_from [] input
+
+abbrev pub has_newline : List ℕ → Bool
+has_newline text = list_any (λ b. b == 10) text
+
+-- lines, each with a newline behind it, and then a text without one, have just these lines
+abbrev pub LinesLaw : Type 0
+LinesLaw =
+    (lines : List (List ℕ)) (torn : List ℕ) → list_any has_newline lines ≡ false → has_newline torn ≡ false → lines_of (flat_map (λ line. line ++ 10 ∷ []) lines ++ torn) ≡ lines
 
 -- nothing but spaces
 abbrev pub is_blank : List ℕ → Bool
@@ -28,23 +36,23 @@ is_blank line = list_all is_ascii_whitespace line
 abbrev pub in_brackets : List ℕ → List ℕ
 in_brackets line = before_last (λ b. b == 93) (after_first (λ b. b == 91) line)
 
--- the text of the events of a line with this list: of one that begins with a word, an event, the line; of any other, a step, what stands
--- between its brackets
+-- the events on a line that spells this list: one that begins with a word is an event, and any other a step, whose events stand between
+-- its brackets
 abbrev pub events_in : List ℕ → List Data → List ℕ
 events_in line [] = []
 events_in line (first ∷ rest) = if is_some (as_str first) then line else in_brackets line
 
--- that of a line, if it is a list, or blank
+-- the events on a line, if it spells a list; a blank one has none
 abbrev pub events_of : List ℕ → Option (List ℕ)
 events_of line = if is_blank line then Some [] else option_map (events_in line) (option_and_then as_list (json_of line))
 
--- events and more events, with a comma between
+-- events and more of them, with a comma between
 abbrev pub joined : List ℕ → List ℕ → List ℕ
 joined [] more = more
 joined (b ∷ bs) [] = b ∷ bs
 joined (b ∷ bs) (m ∷ ms) = (b ∷ bs) ++ 44 ∷ m ∷ ms
 
--- events, and those of all the lines behind them, if each line has some
+-- events, with those on further lines behind them, if each of the lines spells a list or is blank
 abbrev pub all_events : List ℕ → List (List ℕ) → Option (List ℕ)
 all_events events [] = Some events
 all_events events (line ∷ lines) = option_and_then (λ more. all_events (joined events more) lines) (events_of line)
@@ -59,7 +67,7 @@ log_version = number_within 2 2
 abbrev pub is_head : Data → Bool
 is_head d = is_some (option_and_then log_version (get (name_of keys.Version) d)) && not (is_some (get (name_of keys.Events) d))
 
--- the text of such an object, up to its last bracket
+-- a line that spells such an object, up to its last bracket
 abbrev pub head_of : List ℕ → Option (List ℕ)
 head_of line = option_and_then (λ d. if is_head d then Some (before_last (λ b. b == 125) line) else None) (json_of line)
 

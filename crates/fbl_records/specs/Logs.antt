@@ -1,5 +1,5 @@
 -- What an input records of a run, a dump or a log, or its first fault.
-use Rattle.std.specs.Prelude.{◌≡◌, ℕ, ◌⊎◌, List, Option, Some, None, is_some, option_and_then, Result, Ok, Err, length, nat_lt, if◌then◌else◌}
+use Rattle.std.specs.Prelude.{◌≡◌, ℕ, ◌⊎◌, List, true, Option, Some, None, is_some, option_and_then, Result, Ok, Err, length, nat_lt, if◌then◌else◌}
 use Rattle.serde_json.specs.Data.{Data}
 use Rattle.serde_json.specs.Find.{as_object, get}
 use Rattle.fbl_dumps.specs.declared.refusal.DumpRefusal.TheVariants as dump
@@ -13,7 +13,7 @@ use Rattle.fbl_input.specs.declared.kind.InputKind.TheVariants as kinds
 use Rattle.fbl_input.specs.Faults.{IsFaultOf}
 use Rattle.fbl_runs.specs.declared.fault.LogBreach.{LogBreach}
 use Rattle.fbl_input.specs.Items.{entry_shape, unknown_key}
-use Rattle.fbl_input.specs.Shapes.{◌>>=◌, or_fault, byte_shape, field, json_of, list_of, longest, name_of, set_shape}
+use Rattle.fbl_input.specs.Shapes.{◌>>=◌, or_fault, byte_shape, field, json_of, list_of, longest, name_of, set_shape, value_of_input}
 use Rattle.fbl_runs.specs.Logs.{IsLog, IsLogBreach, RunParts, RefusesLog, parts_of_log}
 use Rattle.fbl_runs.specs.declared.judged.Judged.TheVariants.{AtEachMoment}
 use Rattle.fbl_records.specs.declared.reader.Checked.{Checked}
@@ -21,7 +21,7 @@ use Rattle.fbl_records.specs.declared.reader.Checked.TheVariants as parts
 use Rattle.fbl_records.specs.declared.reader.Recorded.{Recorded}
 use Rattle.fbl_records.specs.declared.reader.Recorded.TheVariants as raws
 use Rattle.fbl_records.specs.declared.reader.RecordedInput.{RecordedInput}
-use Rattle.fbl_records.specs.EventLines.{json_text, log_version}
+use Rattle.fbl_records.specs.EventLines.{is_json, json_text, lines_text, log_version}
 use Rattle.fbl_records.specs.Dumps.{BreaksParts, RefusesParts, parts_of_data}
 
 -- ---- what an input gives
@@ -56,6 +56,10 @@ recorded_of_data d = recorded_as (recorded_kind d) d
 -- the parts of what an input records of a run, or its first fault
 abbrev pub recorded_of_input : List ℕ → Result Checked RunFault
 recorded_of_input input = value_meant input >>= recorded_of_data
+
+-- an input that is a JSON text, or that has not the lines of a log, is read as it is
+abbrev pub OtherInputsLaw : Type 0
+OtherInputsLaw = (input : List ℕ) → (is_json input ≡ true) ⊎ (lines_text input ≡ None) → recorded_of_input input ≡ (value_of_input input >>= recorded_of_data)
 
 -- ---- what a reader says of it
 

@@ -62,8 +62,8 @@ fn in_brackets(line: &[u8]) -> &[u8]
     before_last(behind_first(line, b'['), b']')
 }
 
-/// The text of the events of a line with this list: of one that begins with a word, an event, the line; of any other, a step, what stands
-/// between its brackets.
+/// The events on a line that spells this list: one that begins with a word is an event, and any other a step, whose events stand between
+/// its brackets.
 fn events_in<'l>(line: &'l [u8], list: &[Value]) -> &'l [u8]
     ensures { result.now ≡ events_in line.now (map view list.now) }
 {
@@ -79,7 +79,7 @@ fn events_in<'l>(line: &'l [u8], list: &[Value]) -> &'l [u8]
     }
 }
 
-/// The text of a line's events, if it is a list, or blank. `Err` comes only where there is no memory to read it.
+/// The events on a line, if it spells a list; a blank one has none. `Err` comes only where there is no memory to read it.
 fn events_of(alloc: Global, line: &[u8]) -> Result<Option<&[u8]>, AllocError>
     ensures { IfOk result (λ text. option_map (λ events. events.now) text ≡ events_of line.now) }
 {
@@ -92,7 +92,7 @@ fn events_of(alloc: Global, line: &[u8]) -> Result<Option<&[u8]>, AllocError>
     }
 }
 
-/// Puts more events behind those of the text, with a comma between.
+/// Puts more events behind these, with a comma between.
 fn join(text: &mut Vec<u8>, more: &[u8]) -> Result<(), AllocError>
     ensures { OnOk result (text.new.items ≡ joined text.old.items more.now) }
 {
@@ -102,7 +102,7 @@ fn join(text: &mut Vec<u8>, more: &[u8]) -> Result<(), AllocError>
     Ok(text.extend_from_slice(more)?)
 }
 
-/// The text of the events of the lines, if each has some.
+/// The events on the lines, if each spells a list or is blank.
 fn all_events(alloc: Global, lines: &[&[u8]]) -> Result<Option<Vec<u8>>, AllocError>
     ensures { IfOk result (λ text. option_map (λ v. v.items) text ≡ all_events [] (map (λ line. line.now) lines.now)) }
 {
@@ -123,7 +123,7 @@ fn is_head(value: &Value) -> bool
     log_version_in(value).is_some() && value.get(Key::Events.name()).is_none()
 }
 
-/// The text of such an object up to its last bracket, if the line is one.
+/// A line that spells such an object, up to its last bracket.
 fn head_of(alloc: Global, line: &[u8]) -> Result<Option<&[u8]>, AllocError>
     ensures { IfOk result (λ head. option_map (λ text. text.now) head ≡ head_of line.now) }
 {

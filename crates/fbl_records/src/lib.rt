@@ -5,6 +5,7 @@
 mod audit_text;
 mod check_text;
 mod event_lines;
+pub mod laws;
 mod lines;
 mod log_version;
 mod reader;
