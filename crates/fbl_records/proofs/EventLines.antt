@@ -1,6 +1,6 @@
 -- The lines of an input, and what stands behind and before a byte.
-use Rattle.fbl_records.proofs.Common.{append-nil, inl, inr, ◌⊎◌, Bool, list_any, ◌≡◌, ◌<◌, ◌≤◌, ◌+◌, ◌-◌, ◌==◌, ◌++◌, ◌∷◌, ◌∙◌, [], List, ℕ, ap, append_assoc, arith, cond, drop, get_or, length, map, map_push, not, refl, sym, subst, suc, take, take_all, take_more, true, false, option_map, Option, Some, None, json_of}
-use Rattle.std.specs.Prelude.{is_some, unwrap_or}
+use Rattle.fbl_records.proofs.Common.{append-nil, inl, inr, Bool, list_any, ◌≡◌, ◌<◌, ◌≤◌, ◌+◌, ◌-◌, ◌==◌, ◌++◌, ◌∷◌, ◌∙◌, [], List, ℕ, ap, append_assoc, arith, cond, drop, get_or, length, map, map_push, not, refl, sym, subst, suc, take, take_all, take_more, true, false, option_map, Option, Some, None, json_of}
+use Rattle.std.specs.Prelude.{◌⊎◌, is_some, unwrap_or}
 use Rattle.std.specs.List.{after_first, before_last, flat_map, position_or_len, suffix_len, slice_range}
 use Rattle.std.specs.Borrow.{Bor}
 use Rattle.std.proofs.lemmas.Bool.{false_from_ne_true}

@@ -4,7 +4,7 @@ use Rattle.std.specs.Prelude.{is_some, option_and_then, if◌then◌else◌}
 use Rattle.serde_json.specs.Find.{get}
 use Rattle.std.specs.Prelude.{cond, length, nat_lt}
 use Rattle.std.proofs.lemmas.Bool.{le-ltb, lt-ltb}
-use Rattle.fbl_input.specs.Shapes.{Fails, json_of, longest, or_fault}
+use Rattle.fbl_input.specs.Shapes.{Fails, json_of, longest, or_fault, value_of_input}
 use Rattle.fbl_input.specs.Faults.{HasInput, IsFirstFault, IsUnread}
 use Rattle.fbl_runs.specs.declared.fault.LogBreach.{LogBreach}
 use Rattle.fbl_input.specs.declared.fault.RunFault.TheVariants as faults
