@@ -1,6 +1,6 @@
 -- The lines of an input, and what stands behind and before a byte.
-use Rattle.fbl_records.proofs.Common.{append-nil, inl, inr, Bool, list_any, ◌≡◌, ◌<◌, ◌≤◌, ◌+◌, ◌-◌, ◌==◌, ◌++◌, ◌∷◌, ◌∙◌, [], List, ℕ, ap, append_assoc, arith, cond, drop, get_or, length, map, map_push, not, refl, sym, subst, suc, take, take_all, take_more, true, false, option_map, Option, Some, None, json_of}
-use Rattle.std.specs.Prelude.{◌⊎◌, is_some, unwrap_or}
+use Rattle.fbl_records.proofs.Common.{append-nil, inl, inr, Bool, list_any, ◌≡◌, ◌<◌, ◌≤◌, ◌+◌, ◌-◌, ◌==◌, ◌++◌, ◌∷◌, ◌∙◌, [], List, ℕ, ap, append_assoc, arith, cond, drop, get_or, length, map, map_push, not, refl, sym, subst, suc, take, take_all, take_more, true, false, option_map, Option, None, json_of}
+use Rattle.std.specs.Prelude.{◌⊎◌, unwrap_or}
 use Rattle.std.specs.List.{after_first, before_last, flat_map, position_or_len, suffix_len, slice_range}
 use Rattle.std.specs.Borrow.{Bor}
 use Rattle.std.proofs.lemmas.Bool.{false_from_ne_true}
@@ -8,7 +8,7 @@ use Rattle.std.proofs.lemmas.List.{drop_all, get_or-drop, length-drop}
 use Rattle.std.proofs.lemmas.List.Sums.{position_or_len_is, suffix_len_is}
 use Rattle.std.proofs.Math.Seq.{drop-cons}
 use Rattle.memchr.specs.Find.{NoneAfter, NoneBefore, Nowhere, Passes, is_byte}
-use Rattle.fbl_records.specs.EventLines.{has_newline, is_json, json_text, lines_from, lines_of, lines_text}
+use Rattle.fbl_records.specs.EventLines.{has_newline, is_whole, json_text, lines_from, lines_of, lines_text}
 
 -- ---- bytes
 
@@ -93,30 +93,22 @@ lines_found (line ∷ lines) torn none whole =
 
 -- ---- texts
 
--- an input that is JSON means itself
-pub own_text : (input : List ℕ) → is_some (json_of input) ≡ true → json_text input ≡ input
+-- an input that is JSON, and more than the first line of a log, means itself
+pub own_text : (input : List ℕ) → is_whole (json_of input) ≡ true → json_text input ≡ input
 unfolding json_text
 own_text input is = ap (λ b. cond b input (unwrap_or (lines_text input) input)) is
 
 -- so does one that has not the lines of a log
-pub meant_as_it_is : (input : List ℕ) → (is_json input ≡ true) ⊎ (lines_text input ≡ None) → json_text input ≡ input
+pub meant_as_it_is : (input : List ℕ) → (is_whole (json_of input) ≡ true) ⊎ (lines_text input ≡ None) → json_text input ≡ input
 unfolding json_text
 meant_as_it_is input (inl is) = own_text input is
-meant_as_it_is input (inr none) = ap (λ o. cond (is_json input) input (unwrap_or o input)) none ∙ same (is_json input)
+meant_as_it_is input (inr none) = ap (λ o. cond (is_whole (json_of input)) input (unwrap_or o input)) none ∙ same (is_whole (json_of input))
   where
     same : (b : Bool) → cond b input input ≡ input
     same true = refl
     same false = refl
 
 -- and another what its lines mean
-pub lines_meant : {X : Type 0} (f : X → List ℕ) (input : List ℕ) (found : Option X) → is_some (json_of input) ≡ false → option_map f found ≡ lines_text input → json_text input ≡ unwrap_or (option_map f found) input
+pub lines_meant : {X : Type 0} (f : X → List ℕ) (input : List ℕ) (found : Option X) → is_whole (json_of input) ≡ false → option_map f found ≡ lines_text input → json_text input ≡ unwrap_or (option_map f found) input
 unfolding json_text
 lines_meant f input found none is = ap (λ b. cond b input (unwrap_or (lines_text input) input)) none ∙ ap (λ o. unwrap_or o input) (sym is)
-
--- whether a text was read
-pub is_read : {X Y : Type 0} (f : X → Y) (found : Option X) (value : X) (read : Option Y) → found ≡ Some value → option_map f found ≡ read → is_some read ≡ true
-is_read f found value read some is = rw (← is, some) refl
-
-pub not_read : {X Y : Type 0} (f : X → Y) (found : Option X) (read : Option Y) → ((x : X) → found ≡ Some x → ⊥) → option_map f found ≡ read → is_some read ≡ false
-not_read f None read none is = ap is_some (sym is)
-not_read f (Some x) read none is = absurd (none x refl)

@@ -22,7 +22,7 @@ use Rattle.fbl_runs.specs.Logs.{IsLogBreach, RefusesLog, RunParts}
 use Rattle.fbl_records.proofs.Common.{Data, InputFault, InputKind, Parts, RunFault, name_of, parts_of_data, parts_of_input, ◌>>=◌}
 use Rattle.fbl_records.specs.Dumps.{IsNoDump, BreaksParts, RefusesParts}
 use Rattle.fbl_records.specs.Logs.{HasKind, IsNotChecked, IsNotRecorded, IsRefusal, BreaksRecorded, RefusesNone, RefusesRecorded, kind_of, log_of_data, recorded_as, recorded_kind, recorded_of_data, recorded_of_input, value_meant}
-use Rattle.fbl_records.specs.EventLines.{is_json, json_text, lines_text, log_version}
+use Rattle.fbl_records.specs.EventLines.{is_whole, json_text, lines_text, log_version}
 use Rattle.fbl_records.proofs.EventLines.{meant_as_it_is, own_text}
 use Rattle.fbl_records.specs.declared.reader.Checked.{Checked}
 use Rattle.fbl_records.specs.declared.reader.Checked.TheVariants as parts
@@ -131,13 +131,13 @@ long_input input is = ap (λ b. cond b (Err faults.TooLong) (or_fault faults.Not
 pub short_input : (input : List ℕ) → length input ≤ longest → value_meant input ≡ or_fault faults.NotJson (json_of (json_text input))
 short_input input is = ap (λ b. cond b (Err faults.TooLong) (or_fault faults.NotJson (json_of (json_text input)))) (le-ltb longest (length input) is)
 
-pub as_it_is : (input : List ℕ) → (is_json input ≡ true) ⊎ (lines_text input ≡ None) → recorded_of_input input ≡ (value_of_input input >>= recorded_of_data)
+pub as_it_is : (input : List ℕ) → (is_whole (json_of input) ≡ true) ⊎ (lines_text input ≡ None) → recorded_of_input input ≡ (value_of_input input >>= recorded_of_data)
 as_it_is input is = ap (λ t. cond (nat_lt longest (length input)) (Err faults.TooLong) (or_fault faults.NotJson (json_of t)) >>= recorded_of_data) (meant_as_it_is input is)
 
--- what a JSON text records is what its value does
-pub text_records : (text : List ℕ) (d : Data) → length text ≤ longest → json_of text ≡ Some d → recorded_of_input text ≡ recorded_of_data d
-text_records text d short is =
-    ap (λ v. v >>= recorded_of_data) (short_input text short ∙ ap (λ t. or_fault faults.NotJson (json_of t)) (own_text text (ap is_some is)) ∙ ap (or_fault faults.NotJson) is)
+-- what a JSON text records, if it is more than the first line of a log, is what its value does
+pub text_records : (text : List ℕ) (d : Data) → length text ≤ longest → is_whole (Some d) ≡ true → json_of text ≡ Some d → recorded_of_input text ≡ recorded_of_data d
+text_records text d short whole is =
+    ap (λ v. v >>= recorded_of_data) (short_input text short ∙ ap (λ t. or_fault faults.NotJson (json_of t)) (own_text text (ap is_whole is ∙ whole)) ∙ ap (or_fault faults.NotJson) is)
 
 unread_input : (input : List ℕ) (fault : InputFault) (e : RunFault) → fault.fault ≡ e → IsUnread (Some input) e → IsNotRecorded input fault
 unread_input input fault faults.Read same is = (rw same tt, record { first = rw same tt; breach = λ a e. rw same (any_memory a fault.breach).0; bytes = rw same tt })

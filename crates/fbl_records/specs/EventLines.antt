@@ -87,6 +87,12 @@ is_json text = is_some (json_of text)
 abbrev pub lines_text : List ℕ → Option (List ℕ)
 lines_text input = option_and_then (λ text. if is_json text then Some text else None) (text_of_lines (lines_of input))
 
--- the text that an input means: its own, where that is JSON; where it is none, that for which its lines stand; and else its own
+-- whether a text is more than the first line of a log: it spells JSON, and not a log's object without its events
+abbrev pub is_whole : Option Data → Bool
+is_whole None = false
+is_whole (Some d) = not (is_head d)
+
+-- the text that an input means: its own, where that is JSON and more than the first line of a log; else that for which its lines stand, if
+-- they are those of a log; and else its own
 unfoldable pub json_text : List ℕ → List ℕ
-json_text input = if is_json input then input else unwrap_or (lines_text input) input
+json_text input = if is_whole (json_of input) then input else unwrap_or (lines_text input) input

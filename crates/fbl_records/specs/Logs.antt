@@ -21,7 +21,7 @@ use Rattle.fbl_records.specs.declared.reader.Checked.TheVariants as parts
 use Rattle.fbl_records.specs.declared.reader.Recorded.{Recorded}
 use Rattle.fbl_records.specs.declared.reader.Recorded.TheVariants as raws
 use Rattle.fbl_records.specs.declared.reader.RecordedInput.{RecordedInput}
-use Rattle.fbl_records.specs.EventLines.{is_json, json_text, lines_text, log_version}
+use Rattle.fbl_records.specs.EventLines.{is_whole, json_text, lines_text, log_version}
 use Rattle.fbl_records.specs.Dumps.{BreaksParts, RefusesParts, parts_of_data}
 
 -- ---- what an input gives
@@ -57,9 +57,9 @@ recorded_of_data d = recorded_as (recorded_kind d) d
 abbrev pub recorded_of_input : List ℕ → Result Checked RunFault
 recorded_of_input input = value_meant input >>= recorded_of_data
 
--- an input that is a JSON text, or that has not the lines of a log, is read as it is
+-- an input that is a JSON text, and more than the first line of a log, or that has not the lines of a log, is read as it is
 abbrev pub OtherInputsLaw : Type 0
-OtherInputsLaw = (input : List ℕ) → (is_json input ≡ true) ⊎ (lines_text input ≡ None) → recorded_of_input input ≡ (value_of_input input >>= recorded_of_data)
+OtherInputsLaw = (input : List ℕ) → (is_whole (json_of input) ≡ true) ⊎ (lines_text input ≡ None) → recorded_of_input input ≡ (value_of_input input >>= recorded_of_data)
 
 -- ---- what a reader says of it
 

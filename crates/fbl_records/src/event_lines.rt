@@ -4,7 +4,7 @@ ghost use Rattle.std.specs.Prelude.{◌≡◌, ◌==◌, IfOk, IfSome, OnOk, map
 ghost use Rattle.std.specs.List.{after_first, before_last};
 ghost use Rattle.serde_json.specs.View.{view};
 ghost use Rattle.fbl_input.specs.Shapes.{json_of};
-ghost use Rattle.fbl_records.specs.EventLines.{all_events, events_in, events_of, head_of, in_brackets, is_blank, is_head, joined, json_text, lines_of, lines_text, text_of_lines, with_events};
+ghost use Rattle.fbl_records.specs.EventLines.{all_events, events_in, events_of, head_of, in_brackets, is_blank, is_head, is_whole, joined, json_text, lines_of, lines_text, text_of_lines, with_events};
 
 use crate::log_version::log_version_in;
 use fbl_input::Key;
@@ -187,23 +187,28 @@ fn lines_text(alloc: Global, input: &[u8]) -> Result<Option<JsonText>, AllocErro
     }
 }
 
-/// The text that the input means: its own, where it is JSON, or that for which its lines stand. `Err` comes only where there is no memory
-/// for it.
+/// Whether a text with this value is more than the first line of a log.
+fn is_whole(value: &Option<Value>) -> bool
+    ensures { result ≡ is_whole (option_map view value.now) }
+{
+    match value {
+        Some(value) => !is_head(value),
+        None => false,
+    }
+}
+
+/// The text that the input means: its own, where it is JSON and more than the first line of a log; else that for which its lines stand, if
+/// they are those of a log. `Err` comes only where there is no memory for it.
 pub(crate) fn json_text(alloc: Global, input: Vec<u8>) -> Result<JsonText, AllocError>
     ensures text { IfOk result (λ found. found.text.items ≡ json_text input.items) }
     ensures value { IfOk result (λ found. option_map view found.value ≡ json_of found.text.items) }
 {
-    if let Some(value) = json_in(alloc, input.as_slice())? {
-        return Ok(JsonText {
-            text: input,
-            value: Some(value),
-        });
+    let value = json_in(alloc, input.as_slice())?;
+    if is_whole(&value) {
+        return Ok(JsonText { text: input, value });
     }
     match lines_text(alloc, input.as_slice())? {
         Some(found) => Ok(found),
-        None => Ok(JsonText {
-            text: input,
-            value: None,
-        }),
+        None => Ok(JsonText { text: input, value }),
     }
 }
