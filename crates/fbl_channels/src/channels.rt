@@ -85,7 +85,10 @@ impl<N: Copy, A: Allocator> Channels<N, A> {
     pub fn send(&mut self, wire: Wire<N, A>) -> Result<(), AllocError>
         requires from { wire.from < length (rows self.old) }
         requires to { wire.to < length (slice_index_or (rows self.old) wire.from []) }
-        ensures { OnOk result (rows self.new ≡ with_at (rows self.old) wire.from wire.to (channel_in (rows self.old) wire.from wire.to ++ wire ∷ [])) }
+        ensures { OnOk result
+            (rows self.new
+            ≡ with_at (rows self.old) wire.from wire.to
+            (channel_in (rows self.old) wire.from wire.to ++ wire ∷ [])) }
     {
         self.rows[usize::from(wire.from().number())][usize::from(wire.to().number())].push_back(
             wire,

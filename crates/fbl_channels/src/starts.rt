@@ -21,7 +21,9 @@ pub fn send_starts<N: Content, A: Allocator + Copy>(
 ) -> Result<(Vec<Event<N>, A>, Channels<N, A>), AllocError>
     ensures trace { IfOk result (λ sent. sent.0.items ≡ start_events [] config.now.starts) }
     ensures shape { IfOk result (λ sent. HasChannels config.now.members (rows sent.1)) }
-    ensures channels { IfOk result (λ sent. (q p : ℕ) → channel_in (rows sent.1) q p ≡ between q p (filter_map message_of_send sent.0.items)) }
+    ensures channels { IfOk result
+        (λ sent. (q p : ℕ)
+        → channel_in (rows sent.1) q p ≡ between q p (filter_map message_of_send sent.0.items)) }
 {
     let mut channels = empty_channels(alloc, config.members())?;
     let mut trace = Vec::with_capacity(alloc, config.starts().len())?;

@@ -103,7 +103,9 @@ fn first_bad_event<A: Allocator + Copy>(
     events: &[Mark],
 ) -> Result<Option<EventFault>, AllocError>
     requires { n ≤ 16 }
-    ensures place { IfOk result (λ r. MatchOption r (WellFormed n events.now) (λ fault. IsFirstBreach (ObeysAt n events.now) fault.place)) }
+    ensures place { IfOk result
+        (λ r. MatchOption r (WellFormed n events.now)
+        (λ fault. IsFirstBreach (ObeysAt n events.now) fault.place)) }
     ensures fault { IfOk result (λ r. IfSome r (IsEventFault n events.now)) }
 {
     let mut counts = Counts::new(alloc)?;
@@ -139,7 +141,9 @@ fn broken_rule<A: Allocator>(
     pair: &(Member, Determinant),
 ) -> Option<PairRule>
     requires { (d : _) → hash_set.contains same_determinant receipts.now d ≡ is_received raw.now.events.items d }
-    ensures { MatchOption result (FitsPair raw.now.members raw.now.events.items place pair.now.0 pair.now.1) (BreaksPair raw.now.members raw.now.events.items place pair.now.0 pair.now.1) }
+    ensures { MatchOption result
+        (FitsPair raw.now.members raw.now.events.items place pair.now.0 pair.now.1)
+        (BreaksPair raw.now.members raw.now.events.items place pair.now.0 pair.now.1) }
 {
     let members = raw.members;
     let (member, determinant) = *pair;
@@ -160,7 +164,9 @@ fn first_bad_pair<A: Allocator + Copy>(
     alloc: A,
     raw: &RawDump<A>,
 ) -> Result<Option<PairFault>, AllocError>
-    ensures place { IfOk result (λ r. MatchOption r ((i : ℕ) → HeldAt (parts_of raw.now) i) (λ fault. IsFirstBreach (HeldAt (parts_of raw.now)) fault.place)) }
+    ensures place { IfOk result
+        (λ r. MatchOption r ((i : ℕ) → HeldAt (parts_of raw.now) i)
+        (λ fault. IsFirstBreach (HeldAt (parts_of raw.now)) fault.place)) }
     ensures fault { IfOk result (λ r. IfSome r (IsPairFault (parts_of raw.now))) }
 {
     let receipts = receipts(alloc, raw.events.as_slice())?;

@@ -30,8 +30,11 @@ fn bringing(from: Member, to: Member, value: u32) -> Start
 /// flight and nobody is down, each member has it.
 fn elected(group: &Group<Candidate>)
     ensures brought { HoldsOf group.now (HasTaken group.now.config) (IsPassedOn group.now.config) }
-    ensures most { HoldsOf group.now (λ m state. state.greatest ≤ greatest group.now.config.starts) (λ from to note. note.value ≤ greatest group.now.config.starts) }
-    ensures agreed { ReachesAll group.now.config → IsTrue (is_quiet group.now) → (m : ℕ) → m < group.now.config.members → (record_of group.now m).state.greatest ≡ greatest group.now.config.starts }
+    ensures most { HoldsOf group.now (λ m state. state.greatest ≤ greatest group.now.config.starts)
+        (λ from to note. note.value ≤ greatest group.now.config.starts) }
+    ensures agreed { ReachesAll group.now.config → IsTrue (is_quiet group.now) → (m : ℕ)
+        → m < group.now.config.members
+        → (record_of group.now m).state.greatest ≡ greatest group.now.config.starts }
 {
     group.kept();
     group.none_lost();

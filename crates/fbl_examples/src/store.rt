@@ -28,8 +28,12 @@ fn asking(from: Member, to: Member, note: Command) -> Start<Command>
 /// The value of a key: its owner has it, and another member has none. Where the owner is up, it is what the commands that the owner
 /// received make of nothing, each once and in the order of the trace. It is no more than the starts bring.
 fn look_up(group: &Group<Shard>, key: u8) -> u64
-    ensures value { (m : ℕ) → m < group.now.config.members → slice_index (record_of group.now m).state key ≡ (if m == key_owner group.now.config.members key then result else 0) }
-    ensures commands { let owner = key_owner group.now.config.members key in IsUp (knowledge group.now) owner → result ≡ made_of key (received_notes group.now.trace owner) }
+    ensures value { (m : ℕ) → m < group.now.config.members
+        → slice_index (record_of group.now m).state key
+        ≡ (if m == key_owner group.now.config.members key then result else 0) }
+    ensures commands { let owner = key_owner group.now.config.members key in IsUp
+        (knowledge group.now) owner
+        → result ≡ made_of key (received_notes group.now.trace owner) }
     ensures most { result ≤ amount_brought group.now.config }
 {
     group.kept();

@@ -37,7 +37,28 @@ impl<B: Behaviour, A: Allocator> Model for Group<B, A> {
 
     ghost coded = { Prim.hlevel (codes, B.State.code, B.Note.code, entry.the_row.coded, set.code {R = nat_cmp} coded_ℕ) };
 
-    ghost view = { λ g. record { outside = B.next.initial 0 0; config = g.config; members = g.members.items; checkpoints = g.checkpoints.items; channels = rows g.channels; trace = g.trace.items; down = g.down; receipts_ever = g.receipts_ever; undone_ever = g.undone_ever } };
+    ghost view = { λ g. record {
+      outside = B.next.initial 0 0;
+      config = g.config;
+      members = g.members.items;
+      checkpoints = g.checkpoints.items;
+      channels = rows g.channels;
+      trace = g.trace.items;
+      down = g.down;
+      receipts_ever = g.receipts_ever;
+      undone_ever = g.undone_ever;
+    } };
 
-    ghost invariant = { λ g. IsSound B.next (record { outside = B.next.initial 0 0; config = g.config; members = g.members.items; checkpoints = g.checkpoints.items; channels = rows g.channels; trace = g.trace.items; down = g.down; receipts_ever = g.receipts_ever; undone_ever = g.undone_ever }) };
+    ghost invariant = { λ g. IsSound B.next
+        (record {
+          outside = B.next.initial 0 0;
+          config = g.config;
+          members = g.members.items;
+          checkpoints = g.checkpoints.items;
+          channels = rows g.channels;
+          trace = g.trace.items;
+          down = g.down;
+          receipts_ever = g.receipts_ever;
+          undone_ever = g.undone_ever;
+        }) };
 }

@@ -20,7 +20,9 @@ fn replay<B: Behaviour<State = u64, Note = Note>>(
 ) -> Result<u64, AllocError>
     requires here { slice_get group.now.trace place ≡ Some (event_of.Receipt receipt.to receipt.rsn receipt.from receipt.ssn) }
     requires before { HaveReplayed B.next group.now place members.old }
-    ensures state { IfOk result (λ state. state ≡ state_after_receipt B.next group.now.config.members group.now.trace receipt.to receipt.rsn) }
+    ensures state { IfOk result
+        (λ state. state
+        ≡ state_after_receipt B.next group.now.config.members group.now.trace receipt.to receipt.rsn) }
     ensures after { OnOk result (HaveReplayed B.next group.now (place + 1) members.new) }
 {
     // the group is sound

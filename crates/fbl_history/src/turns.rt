@@ -83,7 +83,9 @@ fn add_crash<B: Behaviour<State = u64, Note = Note>>(
 
 /// Undoes the events that a recovery undid: those beyond the receipts and the sends that each member has after it.
 fn undo_beyond(columns: &mut [Column], recovery: &RecoveryRecord)
-    ensures { columns.new ≡ map (undone_beyond (slice_index recovery.now.received.items) (slice_index recovery.now.sent.items)) columns.old }
+    ensures { columns.new
+        ≡ map
+        (undone_beyond (slice_index recovery.now.received.items) (slice_index recovery.now.sent.items)) columns.old }
 {
     let received = recovery.received.as_slice();
     let sent = recovery.sent.as_slice();

@@ -33,7 +33,10 @@ pub struct UnsafeReceipt {
 
 /// The least members whose loss at the clock's cut loses the receipt of whose determinant these are the records, if they may be lost.
 fn least_strike(pasts: &Pasts<'_>, records: &Records, moment: &Clock) -> Option<MemberSet>
-    ensures { (d : _) → AreRecords (log_of pasts.now.entries) d records.now → MatchOption result ((strike : _) → ¬ (IsLeastStrike (run_of pasts.now) (cut_of moment.now) d strike)) (IsLeastStrike (run_of pasts.now) (cut_of moment.now) d) }
+    ensures { (d : _) → AreRecords (log_of pasts.now.entries) d records.now
+        → MatchOption result
+        ((strike : _) → ¬ (IsLeastStrike (run_of pasts.now) (cut_of moment.now) d strike))
+        (IsLeastStrike (run_of pasts.now) (cut_of moment.now) d) }
 {
     if records.is_stored(moment) {
         return None;
@@ -59,7 +62,9 @@ fn orphans_at(
     requires run { IsRun pasts.now }
     requires receipt { IsReceiptAt (log_of pasts.now.entries) determinant.now (at determinant.now.to number) }
     requires within { (q : ℕ) → cut_of moment.now q ≤ length (log_of pasts.now.entries q) }
-    ensures { (q : ℕ) → (set.contains result q ≡ true) ↔ IsLeftOrphanAt (run_of pasts.now) (cut_of moment.now) strike determinant.now q }
+    ensures { (q : ℕ)
+        → (set.contains result q ≡ true)
+        ↔ IsLeftOrphanAt (run_of pasts.now) (cut_of moment.now) strike determinant.now q }
 {
     let dependents = pasts.reached(determinant.to, number, moment);
     dependents.without(strike)
@@ -75,7 +80,8 @@ fn unsafe_at_end(
     requires run { IsRun pasts.now }
     requires records { AreRecords (log_of pasts.now.entries) determinant.now records.now }
     requires receipt { IsReceiptAt (log_of pasts.now.entries) determinant.now (at determinant.now.to number) }
-    ensures { MatchOption result (¬ (IsUnsafeAtEnd (run_of pasts.now) determinant.now)) (IsSaidAtEnd (run_of pasts.now) determinant.now) }
+    ensures { MatchOption result (¬ (IsUnsafeAtEnd (run_of pasts.now) determinant.now))
+        (IsSaidAtEnd (run_of pasts.now) determinant.now) }
 {
     let end = pasts.last();
     let strike = least_strike(pasts, records, &end)?;
@@ -102,7 +108,8 @@ fn candidate(
     requires run { IsRun pasts.now }
     requires records { AreRecords (log_of pasts.now.entries) determinant.now records.now }
     requires receipt { IsReceiptAt (log_of pasts.now.entries) determinant.now (at determinant.now.to number) }
-    ensures { MatchOption result (HasNoCandidate (run_of pasts.now) determinant.now member) (IsCandidateOf pasts.now determinant.now member) }
+    ensures { MatchOption result (HasNoCandidate (run_of pasts.now) determinant.now member)
+        (IsCandidateOf pasts.now determinant.now member) }
 {
     let first = pasts.first_after(determinant.to, number, member)?;
     let moment = pasts.moment(member, first);

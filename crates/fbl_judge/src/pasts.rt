@@ -132,7 +132,8 @@ impl<'a> Pasts<'a> {
     fn count_before(&self, source: Member, number: usize, member: Member) -> usize
         ensures within { result ≤ length (log_of self.now.entries member) }
         ensures none { ¬ (PrecedesSome (log_of self.now.entries) (at source number) member result) }
-        ensures next { result < length (log_of self.now.entries member) → PrecedesSome (log_of self.now.entries) (at source number) member (result + 1) }
+        ensures next { result < length (log_of self.now.entries member)
+            → PrecedesSome (log_of self.now.entries) (at source number) member (result + 1) }
     {
         let mut first = 0;
         let mut end = self.index.count(member);
@@ -149,7 +150,9 @@ impl<'a> Pasts<'a> {
 
     /// The number of the member's first entry that the source's entry with the number precedes.
     pub(crate) fn first_after(&self, source: Member, number: usize, member: Member) -> Option<usize>
-        ensures { MatchOption result ((k : ℕ) → ¬ (Precedes (log_of self.now.entries) (at source number) (at member k))) (λ k. IsFirstAfter (log_of self.now.entries) (at source number) (at member k)) }
+        ensures { MatchOption result
+            ((k : ℕ) → ¬ (Precedes (log_of self.now.entries) (at source number) (at member k)))
+            (λ k. IsFirstAfter (log_of self.now.entries) (at source number) (at member k)) }
     {
         let count = self.count_before(source, number, member);
         if count < self.index.count(member) {
@@ -173,7 +176,8 @@ impl<'a> Pasts<'a> {
     /// The least moment at which the entry at the place, a receipt, has come.
     pub fn moment_at(&self, place: usize) -> Clock
         requires { (i : Position) × StandsAt self.now.entries place i }
-        ensures { (i : Position) → StandsAt self.now.entries place i → IsLeastMomentOfReceipt (log_of self.now.entries) i (cut_of result) }
+        ensures { (i : Position) → StandsAt self.now.entries place i
+            → IsLeastMomentOfReceipt (log_of self.now.entries) i (cut_of result) }
     {
         let advance = self.advance(place);
         self.moment(advance.member, advance.number)
@@ -182,7 +186,9 @@ impl<'a> Pasts<'a> {
     /// The members that have an entry at the clock's cut that the source's entry with the number precedes.
     pub fn reached(&self, source: Member, number: usize, moment: &Clock) -> MemberSet
         requires { (q : ℕ) → cut_of moment.now q ≤ length (log_of self.now.entries q) }
-        ensures { (q : ℕ) → (set.contains result q ≡ true) ↔ PrecedesSome (log_of self.now.entries) (at source number) q (cut_of moment.now q) }
+        ensures { (q : ℕ)
+            → (set.contains result q ≡ true)
+            ↔ PrecedesSome (log_of self.now.entries) (at source number) q (cut_of moment.now q) }
     {
         let mut reached = MemberSet::empty();
         for number_of_member in 0..16u8 {
@@ -196,7 +202,10 @@ impl<'a> Pasts<'a> {
 
     /// The place of the receipt with the determinant.
     pub fn receipt_place(&self, determinant: &Determinant) -> Option<usize>
-        ensures { MatchOption result ((place : ℕ) → ¬ (slice_get self.now.entries place ≡ Some (Event (receipt_of determinant.now)))) (λ place. slice_get self.now.entries place ≡ Some (Event (receipt_of determinant.now))) }
+        ensures { MatchOption result
+            ((place : ℕ)
+            → ¬ (slice_get self.now.entries place ≡ Some (Event (receipt_of determinant.now))))
+            (λ place. slice_get self.now.entries place ≡ Some (Event (receipt_of determinant.now))) }
     {
         let number = self.index.receipt_number(determinant)?;
         Some(self.index.place(determinant.to, number))
@@ -204,7 +213,8 @@ impl<'a> Pasts<'a> {
 
     /// The number of the member's first entry that depends on the receipt with the determinant.
     pub fn first_dependent(&self, determinant: &Determinant, member: Member) -> Option<usize>
-        ensures { MatchOption result (¬ (DependsSome self.now determinant.now member)) (λ k. IsFirstDependent (log_of self.now.entries) determinant.now (at member k)) }
+        ensures { MatchOption result (¬ (DependsSome self.now determinant.now member))
+            (λ k. IsFirstDependent (log_of self.now.entries) determinant.now (at member k)) }
     {
         let number = self.index.receipt_number(determinant)?;
         self.first_after(determinant.to, number, member)
@@ -212,7 +222,8 @@ impl<'a> Pasts<'a> {
 
     /// The place of the member's first entry that depends on the receipt with the determinant.
     pub fn dependent_place(&self, determinant: &Determinant, member: Member) -> Option<usize>
-        ensures { MatchOption result (¬ (DependsSome self.now determinant.now member)) (IsDependentPlace self.now determinant.now member) }
+        ensures { MatchOption result (¬ (DependsSome self.now determinant.now member))
+            (IsDependentPlace self.now determinant.now member) }
     {
         let number = self.first_dependent(determinant, member)?;
         Some(self.index.place(member, number))
@@ -225,7 +236,8 @@ impl<'a> Pasts<'a> {
         determinant: &Determinant,
         member: Member,
     ) -> Option<(usize, usize)>
-        ensures { MatchOption result (¬ (DependsSome self.now determinant.now member)) (λ ends. ArePathEnds self.now determinant.now member ends.0 ends.1) }
+        ensures { MatchOption result (¬ (DependsSome self.now determinant.now member))
+            (λ ends. ArePathEnds self.now determinant.now member ends.0 ends.1) }
     {
         let _run = self.run;
         let start = self.receipt_place(determinant)?;
@@ -236,7 +248,9 @@ impl<'a> Pasts<'a> {
     /// The members that depend on the receipt with the determinant at the clock's cut.
     pub fn dependents(&self, determinant: &Determinant, moment: &Clock) -> MemberSet
         requires { (q : ℕ) → cut_of moment.now q ≤ length (log_of self.now.entries q) }
-        ensures { (q : ℕ) → (set.contains result q ≡ true) ↔ DependsAt (log_of self.now.entries) (cut_of moment.now) determinant.now q }
+        ensures { (q : ℕ)
+            → (set.contains result q ≡ true)
+            ↔ DependsAt (log_of self.now.entries) (cut_of moment.now) determinant.now q }
     {
         match self.index.receipt_number(determinant) {
             Some(number) => self.reached(determinant.to, number, moment),

@@ -25,7 +25,14 @@ pub struct OrphanPath {
 
 /// The place of the send whose message the receipt takes, if it is one of the sender's entries from the one with the number on.
 fn send_place(pasts: &Pasts<'_>, receipt: &Determinant, number: usize) -> Option<usize>
-    ensures { MatchOption result ((k : ℕ) → number ≤ k → ¬ (IsAt (log_of pasts.now.entries) (at receipt.now.from k) (Event (Send receipt.now.from receipt.now.ssn receipt.now.to)))) (λ place. (k : ℕ) × StandsAt pasts.now.entries place (at receipt.now.from k) × (slice_get pasts.now.entries place ≡ Some (Event (Send receipt.now.from receipt.now.ssn receipt.now.to))) × (number ≤ k)) }
+    ensures { MatchOption result
+        ((k : ℕ) → number ≤ k
+        → ¬ (IsAt (log_of pasts.now.entries) (at receipt.now.from k)
+        (Event (Send receipt.now.from receipt.now.ssn receipt.now.to))))
+        (λ place. (k : ℕ) × StandsAt pasts.now.entries place (at receipt.now.from k)
+        × (slice_get pasts.now.entries place
+        ≡ Some (Event (Send receipt.now.from receipt.now.ssn receipt.now.to)))
+        × (number ≤ k)) }
 {
     let Determinant { from, ssn, to, .. } = *receipt;
     let send = Entry::Event(Mark::Send { from, ssn, to });

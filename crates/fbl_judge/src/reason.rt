@@ -66,7 +66,9 @@ fn reason_at(
     moment: &Clock,
     shown: MemberSet,
 ) -> Result<Reason, AllocError>
-    ensures receipt { IfOk result (λ reason. (reason.determinant ≡ receipt.now.determinant) × (reason.at ≡ receipt.now.at) × (reason.strike ≡ receipt.now.strike)) }
+    ensures receipt { IfOk result
+        (λ reason. (reason.determinant ≡ receipt.now.determinant) × (reason.at ≡ receipt.now.at)
+        × (reason.strike ≡ receipt.now.strike)) }
     ensures reason { IfOk result (IsReasonAt pasts.now (cut_of moment.now) (DependsIn pasts.now receipt.now.determinant shown)) }
 {
     let determinant = receipt.determinant;

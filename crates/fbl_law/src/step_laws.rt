@@ -59,7 +59,9 @@ pub trait MakingNone: Weighing {
     ghost use Rattle.fbl_trace.specs.Configs.{Settings, IsConfig};
     ghost use Rattle.fbl_law.specs.StepLaws.{StepMakesNone};
 
-    ghost makes_none: { (c : Settings Self.Note) → IsConfig Self.next.allowed c → StepMakesNone Self.next c.members (Self.states c) (Self.notes c) (Self.mass c) (Self.weight c) };
+    ghost makes_none: { (c : Settings Self.Note) → IsConfig Self.next.allowed c
+        → StepMakesNone Self.next c.members (Self.states c) (Self.notes c) (Self.mass c)
+        (Self.weight c) };
 }
 
 /// No step loses weight.
@@ -67,7 +69,9 @@ pub trait LosingNone: Weighing {
     ghost use Rattle.fbl_trace.specs.Configs.{Settings, IsConfig};
     ghost use Rattle.fbl_law.specs.StepLaws.{StepLosesNone};
 
-    ghost loses_none: { (c : Settings Self.Note) → IsConfig Self.next.allowed c → StepLosesNone Self.next c.members (Self.states c) (Self.notes c) (Self.mass c) (Self.weight c) };
+    ghost loses_none: { (c : Settings Self.Note) → IsConfig Self.next.allowed c
+        → StepLosesNone Self.next c.members (Self.states c) (Self.notes c) (Self.mass c)
+        (Self.weight c) };
 }
 
 /// Where each step keeps the weight, every sound group weighs what it began with, its first states and its starts.

@@ -38,7 +38,13 @@ impl<S, N, A: Allocator> Model for MemberRec<S, N, A> {
     ghost use Rattle.std.specs.Prelude.{◌≡◌, ◌≤◌, length};
     ghost use Rattle.fbl_trace.specs.Fold.{numbered};
 
-    ghost view = { λ m. record { state = m.state; received = m.received; last = m.last; log = numbered 0 m.log.items; table = m.table } };
+    ghost view = { λ m. record {
+      state = m.state;
+      received = m.received;
+      last = m.last;
+      log = numbered 0 m.log.items;
+      table = m.table;
+    } };
 
     ghost invariant = { λ m. (length m.last ≡ 16) × (m.received ≤ 8192) × (length m.log.items ≤ 8192) };
 }
@@ -139,7 +145,10 @@ impl<S: Copy, N: Content, A: Allocator + Copy> MemberRec<S, N, A> {
         requires receipts { self.old.received < 8192 }
         requires sends { length self.old.log + length outcome.now.sends.items ≤ 8192 }
         ensures received { OnOk result (self.new ≡ received_by me self.old wire.now outcome.now) }
-        ensures sent { IfOk result (λ wires. wires.items ≡ messages_from me (length self.old.log) (piggybacked f self.new.table) outcome.now.sends.items) }
+        ensures sent { IfOk result
+            (λ wires. wires.items
+            ≡ messages_from me (length self.old.log)
+            (piggybacked f self.new.table) outcome.now.sends.items) }
         ensures unchanged { OnErr result (self.new ≡ self.old) }
     {
         let before = self.sent();

@@ -14,7 +14,10 @@ pub fn fresh_members<B: Behaviour, A: Allocator + Copy>(
     config: &Config<B::Note, A>,
 ) -> Result<Vec<MemberRec<B::State, B::Note, A>, A>, AllocError>
     ensures size { IfOk result (λ members. length members.items ≡ config.now.members) }
-    ensures fresh { IfOk result (λ members. (m : ℕ) → m < config.now.members → slice_index_or members.items m (blank (B.next.initial 0 config.now.members)) ≡ fresh (B.next.initial m config.now.members) m config.now.starts) }
+    ensures fresh { IfOk result
+        (λ members. (m : ℕ) → m < config.now.members
+        → slice_index_or members.items m (blank (B.next.initial 0 config.now.members))
+        ≡ fresh (B.next.initial m config.now.members) m config.now.starts) }
 {
     let n = config.members();
     let mut members = Vec::new(alloc);

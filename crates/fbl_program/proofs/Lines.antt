@@ -1,11 +1,11 @@
 -- What the parser of command lines makes of the program's command lines.
 use Rattle.fbl_program.proofs.Common.{◌≡◌, ℕ, zero, suc, ◌+◌, ◌<◌, ◌&&◌, Bool, true, false, List, [], ◌∷◌, ◌++◌, Option, Some, None, option_map, Result, Ok, Err, IfErr, refl, sym, ap, ◌∙◌, arith, codes}
 use Rattle.fbl_program.proofs.Common.{decimal, drop, inl, subst, unwrap_or, decimal_digit, parse-decimal, Box, box_value, IsErrAnd, ParsesUnsigned, built, entered, is_simple, Bor, Misuse, NoCommand, Words, AreNames}
-use Rattle.fbl_program.proofs.Common.{AreWorkers, IsFlag, IsJobAt, IsJobOf, IsTaskAt, Job, Judge, Merge, Run, task_for, explain_for, IsMisuseOf, IsRefusedFor, Names, all_of, is_merge, first_of, subcommand_of}
+use Rattle.fbl_program.proofs.Common.{AreWorkers, IsFlag, IsJobAt, IsJobOf, IsTaskAt, Job, task_for, explain_for, IsMisuseOf, IsRefusedFor, Names, all_of, is_merge, first_of, subcommand_of}
 use Rattle.fbl_program.proofs.Common.{names_of, built_takes, takes, nothing_held, stop_after, App, HasKind, HasMatchesOf, ReadsOne, Row, Text, fault_of, is_simple_and_free, kind_of, one_of, subcommand_name_of, subcommand_rows}
 use Rattle.fbl_program.proofs.Common.{subcommand_rows_of, Error, OutOfMemory, ArgMatches, out-ArgMatches, out-SubCommand, SubCommand, WorkersAllowed, IsCommandLine, is_audit, is_check, is_draw}
 use Rattle.fbl_program.proofs.Common.{is_play, is_show, is_show_workers, is_workers, flag_text, program, with_explain}
-use Rattle.fbl_program.proofs.Common.{with_strict, Audit, Check, Draw, Script, Play, Show, Task}
+use Rattle.fbl_program.proofs.Common.{with_strict, Script, Play, Show, Task}
 use Rattle.clap.proofs.OnLiterals.{clap_on_literals}
 
 -- the subcommand that the words behind the program's name give, with what was found of it

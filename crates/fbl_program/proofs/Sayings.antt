@@ -4,7 +4,7 @@ use Rattle.fbl_judge.specs.Unsafe.{IsSaidOf, SaysUnsafe}
 use Rattle.fbl_judge.specs.declared.check.UnsafeReceipt.{UnsafeReceipt}
 use Rattle.fbl_runs.specs.Logs.{RunParts}
 use Rattle.fbl_trace.specs.declared.trace.Determinant.{Determinant}
-use Rattle.fbl_program.proofs.Common.{◌≡◌, List, [], ◌∷◌, arith, inl, inr, subst, sym}
+use Rattle.fbl_program.proofs.Common.{List, [], ◌∷◌, arith, inl, inr, subst, sym}
 use Rattle.std.proofs.lemmas.List.Elements.{All-cons}
 
 -- of each it is said by its own determinant

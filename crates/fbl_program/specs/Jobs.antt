@@ -1,5 +1,5 @@
 -- What comes of a job, by what the named files have.
-use Rattle.std.specs.Prelude.{◌≡◌, ℕ, ◌⊎◌, Bool, true, false, List, [], ◌∷◌, ◌++◌, Ok, Option, IfSome, codes, count_by, length, map, nat_lt, option_map, unwrap_or}
+use Rattle.std.specs.Prelude.{◌≡◌, ℕ, ◌⊎◌, Bool, true, false, List, [], ◌∷◌, ◌++◌, Ok, Option, IfSome, codes, count_by, map, nat_lt, option_map, unwrap_or}
 use Rattle.std.specs.List.{AllZip}
 use Rattle.std.specs.Str.{bytes_eq}
 use Rattle.clap.specs.Words.{Text}

@@ -1,5 +1,5 @@
 -- What a task leaves in its writer, and the exit status.
-use Rattle.std.specs.Prelude.{◌≡◌, ℕ, ◌&&◌, ◌⊎◌, not, Bool, true, false, List, [], ◌∷◌, Option, Some, None, Result, Ok, Err, length, map, nat_eq}
+use Rattle.std.specs.Prelude.{◌≡◌, ℕ, ◌&&◌, ◌⊎◌, not, Bool, true, List, [], ◌∷◌, Option, Some, None, Result, Ok, Err, length, map, nat_eq}
 use Rattle.std.specs.Io.KnownBytes.{Keeps}
 use Rattle.std.specs.List.{list_any}
 use Rattle.fbl_history.specs.declared.column.Column.{Column}

@@ -30,7 +30,9 @@ fn end_script<T: Eprint + Threads + Wait + Sync, R: Read, W: Write>(
     reader: &mut Named<'_, R>,
     writer: &mut Named<'_, W>,
 ) -> u8
-    ensures { IfSome (R.remaining reader.old.stream) (λ input. EndsTask (Script task) input (W.contents writer.old.stream) (W.contents writer.new.stream) result) }
+    ensures { IfSome (R.remaining reader.old.stream)
+        (λ input. EndsTask (Script task) input (W.contents writer.old.stream)
+        (W.contents writer.new.stream) result) }
 {
     match read_script(alloc, reader) {
         Ok(script) => {
@@ -50,7 +52,9 @@ fn end_input<T: Eprint, R: Read, W: Write>(
     reader: &mut Named<'_, R>,
     writer: &mut Named<'_, W>,
 ) -> u8
-    ensures { IfSome (R.remaining reader.old.stream) (λ input. EndsTask (Run task) input (W.contents writer.old.stream) (W.contents writer.new.stream) result) }
+    ensures { IfSome (R.remaining reader.old.stream)
+        (λ input. EndsTask (Run task) input (W.contents writer.old.stream)
+        (W.contents writer.new.stream) result) }
 {
     match task {
         RunTask::Judge(_) => match read_checked(alloc, reader) {
@@ -73,7 +77,9 @@ fn do_task<T: Eprint + Threads + Wait + Sync, R: Read, W: Write>(
     reader: &mut Named<'_, R>,
     writer: &mut Named<'_, W>,
 ) -> u8
-    ensures { IfSome (R.remaining reader.old.stream) (λ input. EndsTask task input (W.contents writer.old.stream) (W.contents writer.new.stream) result) }
+    ensures { IfSome (R.remaining reader.old.stream)
+        (λ input. EndsTask task input (W.contents writer.old.stream)
+        (W.contents writer.new.stream) result) }
 {
     match task {
         Task::Script(task) => end_script(rt, alloc, task, explain, reader, writer),
@@ -170,7 +176,9 @@ fn do_several<T: Eprint, S: Streams>(
     output: &str,
 ) -> u8
     requires { 0 < length names.now }
-    ensures { EndsSeveral (S.input streams.now) (S.output streams.now) (S.settled streams.now) (is_input_again (map (λ name. name.now) names.now)) task (map (λ name. name.now) names.now) output.now result }
+    ensures { EndsSeveral (S.input streams.now) (S.output streams.now) (S.settled streams.now)
+        (is_input_again (map (λ name. name.now) names.now)) task
+        (map (λ name. name.now) names.now) output.now result }
 {
     if names_input_again(names) {
         let _ = eprintln!(rt; "error: standard input can be read once, and - is named again");

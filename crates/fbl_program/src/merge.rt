@@ -111,7 +111,8 @@ impl Together {
     /// These and the next one, where it is of their version.
     fn with(self, alloc: Global, next: Recorded) -> Result<Together, MergeFault>
         ensures together { (found : List Recorded) → AreTogether found self → IfOk result (AreTogether (found ++ next ∷ [])) }
-        ensures refused { (found rest : List Recorded) → AreTogether found self → IfErr result (RefusesVersions (found ++ next ∷ rest)) }
+        ensures refused { (found rest : List Recorded) → AreTogether found self
+            → IfErr result (RefusesVersions (found ++ next ∷ rest)) }
     {
         match (self, next) {
             (Together::Dumps(dumps), Recorded::Dump(raw)) => {

@@ -60,7 +60,9 @@ pub fn run<T: Print + Eprint + Threads + Wait + Sync, S: Streams>(
     is_terminal: bool,
     words: Result<Vec<String>, u8>,
 ) -> u8
-    ensures done { IfOk words (λ words. EndsWords (S.input streams.now) (S.output streams.now) (S.settled streams.now) (map string_bytes words.items) result) }
+    ensures done { IfOk words
+        (λ words. EndsWords (S.input streams.now) (S.output streams.now) (S.settled streams.now)
+        (map string_bytes words.items) result) }
     ensures unread { IfErr words (λ status. result ≡ status) }
 {
     let words = match words {

@@ -100,8 +100,39 @@ fn explain_check<R: Eprint>(
     }
 }
 
-/// Answers the question of the run, and whether all is well. Where that is asked for, why is told on standard error.
+/// Answers the question of the run with these pasts, and whether all is well. Where that is asked for, why is told on standard error.
 fn answer<T: Eprint, W: Write>(
+    rt: &T,
+    alloc: Global,
+    question: Question,
+    explain: bool,
+    pasts: &Pasts<'_>,
+    sources: &Sources<'_>,
+    writer: &mut W,
+) -> Result<bool, OutputFault>
+    ensures { PutsOut (IsAnswerTo question pasts.now sources.now) (W.contents writer.old) (W.contents writer.new) result }
+{
+    match question {
+        Question::Audit => {
+            let audit = audit_of(alloc, pasts)?;
+            write_audit(alloc, &audit, writer)?;
+            explain_losses(rt, alloc, explain, pasts, sources, audit.lost.as_slice());
+            Ok(true)
+        }
+        Question::Check => {
+            let receipts = write_check(alloc, pasts, sources, writer)?;
+            explain_check(rt, alloc, explain, pasts, sources, receipts.as_slice());
+            Ok(receipts.is_empty())
+        }
+        Question::Draw => {
+            write_run_picture(alloc, pasts, sources, writer)?;
+            Ok(true)
+        }
+    }
+}
+
+/// Answers the question of the run.
+fn judge_run<T: Eprint, W: Write>(
     rt: &T,
     alloc: Global,
     question: Question,
@@ -113,23 +144,7 @@ fn answer<T: Eprint, W: Write>(
     ensures { PutsOut (IsAnswerTo question run.now sources.now) (W.contents writer.old) (W.contents writer.new) result }
 {
     let pasts = Pasts::of(alloc, run)?;
-    match question {
-        Question::Audit => {
-            let audit = audit_of(alloc, &pasts)?;
-            write_audit(alloc, &audit, writer)?;
-            explain_losses(rt, alloc, explain, &pasts, sources, audit.lost.as_slice());
-            Ok(true)
-        }
-        Question::Check => {
-            let receipts = write_check(alloc, &pasts, sources, writer)?;
-            explain_check(rt, alloc, explain, &pasts, sources, receipts.as_slice());
-            Ok(receipts.is_empty())
-        }
-        Question::Draw => {
-            write_run_picture(alloc, &pasts, sources, writer)?;
-            Ok(true)
-        }
-    }
+    answer(rt, alloc, question, explain, &pasts, sources, writer)
 }
 
 /// Answers the question of the run that the dump or the log records.
@@ -142,14 +157,15 @@ fn judge<T: Eprint, W: Write>(
     sources: &Sources<'_>,
     writer: &mut W,
 ) -> Result<bool, OutputFault>
-    ensures { PutsOut (IsAnswerTo question (run_of found.now) sources.now) (W.contents writer.old) (W.contents writer.new) result }
+    ensures { PutsOut (IsAnswerTo question (run_of found.now) sources.now) (W.contents writer.old)
+        (W.contents writer.new) result }
 {
     match found {
         Checked::Dump(dump) => {
             let run = Run::of_dump(alloc, dump)?;
-            answer(rt, alloc, question, explain, &run, sources, writer)
+            judge_run(rt, alloc, question, explain, &run, sources, writer)
         }
-        Checked::Log(run) => answer(rt, alloc, question, explain, run, sources, writer),
+        Checked::Log(run) => judge_run(rt, alloc, question, explain, run, sources, writer),
     }
 }
 
@@ -214,7 +230,8 @@ pub(crate) fn end_merged<T: Eprint, W: Write>(
     writer: &mut Named<'_, W>,
 ) -> u8
     requires { 0 < count_of together.now }
-    ensures { EndsMerged task together.now (map (λ name. name.now) names.now) (W.contents writer.old.stream) (W.contents writer.new.stream) result }
+    ensures { EndsMerged task together.now (map (λ name. name.now) names.now)
+        (W.contents writer.old.stream) (W.contents writer.new.stream) result }
 {
     let files = match InputFiles::of(alloc, names, together) {
         Ok(files) => files,

@@ -67,7 +67,9 @@ impl Clock {
 
     /// The members that have an entry by this clock, and have all those by the other.
     pub(crate) fn reached_by(&self, other: &Clock) -> MemberSet
-        ensures { (q : ℕ) → (set.contains result q ≡ true) ↔ ((0 < cut_of self.now q) × (cut_of self.now q ≤ cut_of other.now q)) }
+        ensures { (q : ℕ)
+            → (set.contains result q ≡ true)
+            ↔ ((0 < cut_of self.now q) × (cut_of self.now q ≤ cut_of other.now q)) }
     {
         let mut reached = MemberSet::empty();
         for number in 0..16u8 {

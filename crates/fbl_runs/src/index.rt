@@ -157,7 +157,8 @@ impl Records {
 
     /// The members that hold the determinant at the clock's cut.
     pub fn holders(&self, clock: &Clock) -> MemberSet
-        ensures { (logs : Logs) (d : _) → AreRecords logs d self.now → (q : ℕ) → (set.contains result q ≡ true) ↔ HoldsAt logs (cut_of clock.now) d q }
+        ensures { (logs : Logs) (d : _) → AreRecords logs d self.now → (q : ℕ)
+            → (set.contains result q ≡ true) ↔ HoldsAt logs (cut_of clock.now) d q }
     {
         self.holds.reached_by(clock)
     }

@@ -34,7 +34,8 @@ pub fn marks_of(alloc: Global, entries: &[Entry]) -> Result<Vec<Mark>, AllocErro
 
 /// Why the sends and receipts are those of no trace of the group, if they are not. A place is that among the sends and receipts.
 fn trace_refusal(alloc: Global, raw: &RawLog) -> Option<(DumpRefusal, Breach)>
-    ensures trace { MatchOption result (IsDump (trace_of (parts_of_log raw.now))) (λ e. RefusesDump (trace_of (parts_of_log raw.now)) e.0) }
+    ensures trace { MatchOption result (IsDump (trace_of (parts_of_log raw.now)))
+        (λ e. RefusesDump (trace_of (parts_of_log raw.now)) e.0) }
     ensures breach { IfSome result (λ e. IsDumpBreach (trace_of (parts_of_log raw.now)) e.0 e.1) }
 {
     let (members, f) = (raw.members, raw.f);
@@ -61,7 +62,8 @@ fn trace_refusal(alloc: Global, raw: &RawLog) -> Option<(DumpRefusal, Breach)>
 
 /// Whether what the entry at the place says is held or stored, if it says so, is a receipt that happened before it.
 fn is_known(index: &Index<'_>, entry: &Entry, advance: &Advance) -> bool
-    ensures { (p : ℕ) → IsAdvance HappenedBefore index.now p advance.now → slice_get index.now p ≡ Some entry.now → (result ≡ true) ↔ IsKnownAt index.now p }
+    ensures { (p : ℕ) → IsAdvance HappenedBefore index.now p advance.now → slice_get index.now p ≡ Some entry.now
+        → (result ≡ true) ↔ IsKnownAt index.now p }
 {
     match entry.recorded() {
         Some(determinant) => index.has_received(&determinant, &advance.with),
@@ -77,7 +79,9 @@ fn broken_rule(
     advance: &Advance,
     before: usize,
 ) -> Option<RecordRule>
-    ensures { (p : ℕ) → IsAdvance HappenedBefore index.now p advance.now → slice_get index.now p ≡ Some entry.now → before ≡ length (records (take p index.now)) → MatchOption result (ObeysAt members index.now p) (BreaksAt members index.now p) }
+    ensures { (p : ℕ) → IsAdvance HappenedBefore index.now p advance.now → slice_get index.now p ≡ Some entry.now
+        → before ≡ length (records (take p index.now))
+        → MatchOption result (ObeysAt members index.now p) (BreaksAt members index.now p) }
 {
     if entry.recorded().is_some() && before >= MOST_PAIRS {
         return Some(RecordRule::TooMany);

@@ -30,7 +30,10 @@ impl Firsts {
     fn note(&mut self, member: Member, number: usize)
         requires { number < usize.MAX }
         ensures determinant { self.new.determinant ≡ self.old.determinant }
-        ensures counts { (q : ℕ) → first_in (cut_of self.new.counts q) ≡ (if q == member then option_or (first_in (cut_of self.old.counts q)) (Some number) else first_in (cut_of self.old.counts q)) }
+        ensures counts { (q : ℕ)
+            → first_in (cut_of self.new.counts q)
+            ≡ (if q == member then option_or (first_in (cut_of self.old.counts q)) (Some number)
+            else first_in (cut_of self.old.counts q)) }
     {
         if self.counts.count(member) == 0 {
             self.counts = self.counts.reaching(member, number + 1);
@@ -93,7 +96,9 @@ impl Numbers {
     /// How many entries each member has up to the first that says it of the determinant: 0 where none does.
     pub(crate) fn counts(&self, determinant: &Determinant) -> Clock
         requires { AreNumbers self.now }
-        ensures { (q : ℕ) → first_of self.now (record { member = q; determinant = determinant.now }) ≡ first_in (cut_of result q) }
+        ensures { (q : ℕ)
+            → first_of self.now (record { member = q; determinant = determinant.now })
+            ≡ first_in (cut_of result q) }
     {
         match self.slots.get(determinant) {
             Some(slot) => self.firsts[*slot].counts,

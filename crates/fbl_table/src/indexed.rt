@@ -303,7 +303,8 @@ impl<A: Allocator + Copy> IndexedEntries<A> {
     fn put(&mut self, place: usize, before: MemberSet, known: MemberSet)
         requires before { slice_get (values_of self.old.entries.entries) place ≡ Some before }
         requires more { nat_le (set.len known) self.old.limit ≡ true → nat_le (set.len before) self.old.limit ≡ true }
-        requires stale { self.old.stale ≡ false → nat_le (set.len before) self.old.limit ≡ true → nat_le (set.len known) self.old.limit ≡ true }
+        requires stale { self.old.stale ≡ false → nat_le (set.len before) self.old.limit ≡ true
+            → nat_le (set.len known) self.old.limit ≡ true }
         ensures entries { self.new.entries.entries ≡ set_value_at self.old.entries.entries place known }
         ensures kept { KeepsIndex self.old self.new }
         ensures room { room self.old ≤ room self.new }

@@ -82,7 +82,11 @@ fn put_first<A: Allocator>(
     places: &mut Vec<Option<Determinant>, A>,
     determinant: Determinant,
 ) -> Result<(), AllocError>
-    ensures { OnOk result ((rsn : ℕ) → receipt_at places.new.items rsn ≡ option_or (receipt_at places.old.items rsn) (if determinant.rsn == rsn then Some determinant else None)) }
+    ensures { OnOk result
+        ((rsn : ℕ)
+        → receipt_at places.new.items rsn
+        ≡ option_or (receipt_at places.old.items rsn)
+        (if determinant.rsn == rsn then Some determinant else None)) }
 {
     let place = determinant.rsn as usize;
     if places.len() <= place {

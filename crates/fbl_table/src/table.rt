@@ -174,7 +174,8 @@ impl<A: Allocator + Copy> Table<A> {
     /// How many entries at most are passed on once the member has taken in these and its own: room enough for them.
     #[tactic(auto, using(crate::proofs::Indexing::open_receipt))]
     pub fn room_to_piggyback(&self, f: u8, carried: &[Entry]) -> usize
-        ensures enough { (me : ℕ) (det : Determinant) → length (piggybacked f (noted me (learned me self.now carried.now) det)) ≤ result }
+        ensures enough { (me : ℕ) (det : Determinant)
+            → length (piggybacked f (noted me (learned me self.now carried.now) det)) ≤ result }
         ensures few { result ≤ length self.now + length carried.now + 1 }
     {
         self.entries.at_most_open(f) + carried.len() + 1

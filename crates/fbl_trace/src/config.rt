@@ -101,7 +101,8 @@ impl<N: Content, A: Allocator> Model for Config<N, A> {
 
     ghost view = { λ c. record { members = c.members; f = c.f; limit = c.limit; starts = c.starts.items } };
 
-    ghost invariant = { λ c. IsConfig N.allowed (record { members = c.members; f = c.f; limit = c.limit; starts = c.starts.items }) };
+    ghost invariant = { λ c. IsConfig N.allowed
+        (record { members = c.members; f = c.f; limit = c.limit; starts = c.starts.items }) };
 }
 
 impl<N: Content, A: Allocator + Copy> Config<N, A> {
@@ -116,7 +117,9 @@ impl<N: Content, A: Allocator + Copy> Config<N, A> {
     ) -> Result<Config<N, A>, ConfigRefusal>
         ensures accepted { IfOk result (λ c. c ≡ record { members = members; f = f; limit = limit; starts = starts.now }) }
         ensures rules { IfOk result (IsConfig N.allowed) }
-        ensures refused { IfErr result (RefusesConfig N.allowed (record { members = members; f = f; limit = limit; starts = starts.now })) }
+        ensures refused { IfErr result
+            (RefusesConfig N.allowed
+            (record { members = members; f = f; limit = limit; starts = starts.now })) }
     {
         match group_breach(members, f) {
             Some(GroupRule::Members) => return Err(ConfigRefusal::BadMembers),
@@ -202,7 +205,8 @@ impl<N: Content, A: Allocator + Copy> Config<N, A> {
 
 /// The place of the first start that may not be one in a group of so many members.
 fn first_bad_start<N: Content>(members: u8, starts: &[Start<N>]) -> Option<usize>
-    ensures { MatchOption result ((i : ℕ) → StartAllowedAt N.allowed members starts.now i) (IsFirstBreach (StartAllowedAt N.allowed members starts.now)) }
+    ensures { MatchOption result ((i : ℕ) → StartAllowedAt N.allowed members starts.now i)
+        (IsFirstBreach (StartAllowedAt N.allowed members starts.now)) }
 {
     for (place, start) in starts.iter().enumerate() {
         if !start.is_allowed(members) {

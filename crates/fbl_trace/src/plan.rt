@@ -44,7 +44,9 @@ fn broken_rule<N: Content>(
     before: u64,
     entry: Strike,
 ) -> Option<EntryRule>
-    ensures { MatchOption result ((place < 64) × (before < entry.at) × MayBeStruck config.now entry.set) (BreaksEntry config.now place before entry) }
+    ensures { MatchOption result
+        ((place < 64) × (before < entry.at) × MayBeStruck config.now entry.set)
+        (BreaksEntry config.now place before entry) }
 {
     if place >= MOST_STRIKES {
         return Some(EntryRule::TooMany);

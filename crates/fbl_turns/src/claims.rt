@@ -101,7 +101,8 @@ impl<A: Allocator> Model for Claims<A> {
 
     ghost view = { λ c. c.table.shared.table_id };
 
-    ghost invariant = { λ c. (c.table.shared.key ≡ c.table.shared.table_id.words) × (2 ≤ c.table.shared.table_id.words) × (c.table.shared.table_id.words ≤ 16) };
+    ghost invariant = { λ c. (c.table.shared.key ≡ c.table.shared.table_id.words)
+        × (2 ≤ c.table.shared.table_id.words) × (c.table.shared.table_id.words ≤ 16) };
 }
 
 /// A seat whose view holds no member, of the claims that contracts see. It is not dropped: it is joined to another, and the last

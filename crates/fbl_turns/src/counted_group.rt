@@ -37,7 +37,8 @@ pub struct CountedGroup<B: Behaviour, O: Origin<B::State, B::Note>> {
     records: Records<B::State, B::Note>,
     receipts: Book<O>,
     origin: PhantomData<O>,
-    ghost reached: { ∥ ReachedAs B.next O.plan O.workers (O.start (B.next.initial 0 0)) (recorded records) group (counts_of counted) ∥₁ },
+    ghost reached: { ∥ ReachedAs B.next O.plan O.workers (O.start (B.next.initial 0 0))
+        (recorded records) group (counts_of counted) ∥₁ },
     ghost keeps: { is_some (recorded records) ≡ O.records },
     ghost all_shared: { group.receipts_ever ≡ (O.start (B.next.initial 0 0)).receipts_ever + receipts.total },
 }

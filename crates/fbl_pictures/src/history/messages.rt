@@ -70,7 +70,10 @@ fn note_replays(
     replays: &[Replay],
     place: usize,
 ) -> Result<(), AllocError>
-    ensures { OnOk result ((q : ℕ) → hash_map.get ◌==◌ comebacks.new q ≡ if is_back q replays.now then Some place else hash_map.get ◌==◌ comebacks.old q) }
+    ensures { OnOk result
+        ((q : ℕ)
+        → hash_map.get ◌==◌ comebacks.new q
+        ≡ if is_back q replays.now then Some place else hash_map.get ◌==◌ comebacks.old q) }
 {
     for replay in replays {
         comebacks.insert(replay.member, place)?;
@@ -96,7 +99,9 @@ fn note_comebacks(
 
 /// The last places at which members came back.
 fn comebacks_in(alloc: Global, columns: &[Column]) -> Result<Comebacks, AllocError>
-    ensures { IfOk result (λ comebacks. (q : ℕ) → hash_map.get ◌==◌ comebacks q ≡ back_before columns.now (length columns.now) q) }
+    ensures { IfOk result
+        (λ comebacks. (q : ℕ)
+        → hash_map.get ◌==◌ comebacks q ≡ back_before columns.now (length columns.now) q) }
 {
     let mut comebacks = HashMap::new(alloc);
     for place in 0..columns.len() {
@@ -126,7 +131,9 @@ fn last_sent(sent: usize, back: Option<usize>) -> usize
 
 /// The arrow to a column at this place, if it is a receipt of a message that was sent.
 fn arrow(places: &SendPlaces, comebacks: &Comebacks, place: usize, column: &Column) -> Option<Shape>
-    ensures { result ≡ arrow_from (λ m. hash_map.get same_message places.now m) (λ q. hash_map.get ◌==◌ comebacks.now q) place column.now }
+    ensures { result
+        ≡ arrow_from (λ m. hash_map.get same_message places.now m)
+        (λ q. hash_map.get ◌==◌ comebacks.now q) place column.now }
 {
     match column {
         Column::Receipt {
@@ -183,7 +190,9 @@ pub(crate) fn push_arrows(
 
 /// The messages that receipts that stand have taken.
 fn received_in(alloc: Global, columns: &[Column]) -> Result<Received, AllocError>
-    ensures { IfOk result (λ received. (m : MessageName) → hash_set.contains same_message received m ≡ has_standing_receipt columns.now m) }
+    ensures { IfOk result
+        (λ received. (m : MessageName)
+        → hash_set.contains same_message received m ≡ has_standing_receipt columns.now m) }
 {
     let mut received = HashSet::new(alloc);
     for column in columns {
@@ -196,7 +205,9 @@ fn received_in(alloc: Global, columns: &[Column]) -> Result<Received, AllocError
 
 /// The stub of a column at this place, if it is a send of a message that nobody has received in the end.
 fn stub(received: &Received, comebacks: &Comebacks, place: usize, column: &Column) -> Option<Shape>
-    ensures { result ≡ stub_where (λ m. hash_set.contains same_message received.now m) (λ q. hash_map.get ◌==◌ comebacks.now q) place column.now }
+    ensures { result
+        ≡ stub_where (λ m. hash_set.contains same_message received.now m)
+        (λ q. hash_map.get ◌==◌ comebacks.now q) place column.now }
 {
     match column {
         Column::Send {

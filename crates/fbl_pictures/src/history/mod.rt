@@ -84,7 +84,8 @@ pub fn write_history_picture<W: Write>(
     writer: &mut W,
 ) -> Result<(), OutputFault>
     requires { members ≤ 16 }
-    ensures { PutsOut (λ _. IsHistoryPicture members f behaviour.now columns.now) (W.contents writer.old) (W.contents writer.new) result }
+    ensures { PutsOut (λ _. IsHistoryPicture members f behaviour.now columns.now)
+        (W.contents writer.old) (W.contents writer.new) result }
 {
     let text = history_text(alloc, members, f, behaviour, columns)?;
     put(writer, text.as_bytes())

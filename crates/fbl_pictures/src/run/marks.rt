@@ -56,7 +56,8 @@ impl Receipts<'_> {
 
     /// The kind of glyph of a receipt, which has come or not.
     fn receipt_kind(&self, has_come: bool, determinant: Determinant) -> GlyphKind
-        ensures { IsReceiptKind self.now.pasts.now (cut_of self.now.clock.now) self.now.lines.now.struck has_come determinant result }
+        ensures { IsReceiptKind self.now.pasts.now
+            (cut_of self.now.clock.now) self.now.lines.now.struck has_come determinant result }
     {
         if has_come {
             return self.held(determinant);
@@ -102,7 +103,11 @@ impl Receipts<'_> {
         place: usize,
         entry: &Entry,
     ) -> Result<(), AllocError>
-        ensures { OnOk result ((mark : Glyph) × IsGlyphOf self.now.pasts.now (cut_of self.now.clock.now) self.now.lines.now place entry.now mark × (glyphs.new.items ≡ glyphs.old.items ++ mark ∷ [])) }
+        ensures { OnOk result
+            ((mark : Glyph)
+            × IsGlyphOf self.now.pasts.now
+            (cut_of self.now.clock.now) self.now.lines.now place entry.now mark
+            × (glyphs.new.items ≡ glyphs.old.items ++ mark ∷ [])) }
     {
         let member = entry.member();
         let has_come = self.lines.moment.has_come(place, member);
@@ -118,7 +123,9 @@ impl Receipts<'_> {
 
     /// The glyphs of these entries of the run.
     pub(crate) fn glyphs(&self, alloc: Global, entries: &[Entry]) -> Result<Vec<Glyph>, AllocError>
-        ensures { IfOk result (λ glyphs. AreGlyphs self.now.pasts.now (cut_of self.now.clock.now) self.now.lines.now 0 entries.now glyphs.items) }
+        ensures { IfOk result
+            (λ glyphs. AreGlyphs self.now.pasts.now
+            (cut_of self.now.clock.now) self.now.lines.now 0 entries.now glyphs.items) }
     {
         let mut glyphs = Vec::new(alloc);
         for place in 0..entries.len() {

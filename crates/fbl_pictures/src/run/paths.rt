@@ -66,7 +66,9 @@ fn push_path_to(
     finding: &Finding<'_>,
     member: Member,
 ) -> Result<(), AllocError>
-    ensures { OnOk result ((steps : List Shape) × AreStepsTo pasts.now finding.now member steps × (shapes.new.items ≡ shapes.old.items ++ steps)) }
+    ensures { OnOk result
+        ((steps : List Shape) × AreStepsTo pasts.now finding.now member steps
+        × (shapes.new.items ≡ shapes.old.items ++ steps)) }
 {
     if let Some(cause) = finding.cause(pasts, member) {
         if let Some(path) = path_to(alloc, pasts, &cause, member)? {
@@ -85,7 +87,9 @@ pub(crate) fn push_paths(
     members: u8,
 ) -> Result<(), AllocError>
     requires { members ≤ 16 }
-    ensures { OnOk result ((paths : List Shape) × ArePathsDrawn pasts.now finding.now (range_with_len 0 members) paths × (shapes.new.items ≡ shapes.old.items ++ paths)) }
+    ensures { OnOk result
+        ((paths : List Shape) × ArePathsDrawn pasts.now finding.now (range_with_len 0 members) paths
+        × (shapes.new.items ≡ shapes.old.items ++ paths)) }
 {
     for number in 0..members {
         push_path_to(shapes, alloc, pasts, finding, Member::at(number))?;

@@ -82,7 +82,9 @@ fn shape_text(alloc: Global, shape: Shape) -> Result<String, AllocError> {
 
 /// Writes a text for each of the shapes.
 fn push_shapes(text: &mut String, alloc: Global, shapes: &[Shape]) -> Result<(), AllocError>
-    ensures { OnOk result ((texts : List (List ℕ)) × (length texts ≡ length shapes.now) × (string_bytes text.new ≡ string_bytes text.old ++ concat texts)) }
+    ensures { OnOk result
+        ((texts : List (List ℕ)) × (length texts ≡ length shapes.now)
+        × (string_bytes text.new ≡ string_bytes text.old ++ concat texts)) }
 {
     for shape in shapes {
         let piece = shape_text(alloc, *shape)?;
@@ -93,7 +95,9 @@ fn push_shapes(text: &mut String, alloc: Global, shapes: &[Shape]) -> Result<(),
 
 /// Writes a text for each of the glyphs.
 fn push_glyphs(text: &mut String, alloc: Global, glyphs: &[Glyph]) -> Result<(), AllocError>
-    ensures { OnOk result ((texts : List (List ℕ)) × (length texts ≡ length glyphs.now) × (string_bytes text.new ≡ string_bytes text.old ++ concat texts)) }
+    ensures { OnOk result
+        ((texts : List (List ℕ)) × (length texts ≡ length glyphs.now)
+        × (string_bytes text.new ≡ string_bytes text.old ++ concat texts)) }
 {
     for glyph in glyphs {
         let piece = glyph_text(alloc, glyph)?;

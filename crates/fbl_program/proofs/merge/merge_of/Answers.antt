@@ -1,4 +1,3 @@
-use Rattle.std.proofs.Common.{◌≡◌}
 use Rattle.fbl_dumps.specs.Dumps.{parts_of}
 use Rattle.fbl_runs.specs.Logs.{parts_of_log}
 use Rattle.fbl_program.proofs.Several.{passed}

@@ -1,53 +1,53 @@
 use Rattle.fbl_records.specs.Lines.{audit_lines}
 use Rattle.fbl_records.specs.Texts.{IsChecked}
 use Rattle.fbl_pictures.specs.RunPictures.{IsRunPicture}
-use Rattle.fbl_runs.specs.Entries.{receipts_in}
+use Rattle.std.specs.Global.{Global}
+use Rattle.std.specs.Prelude.{Vec}
+use Rattle.std.specs.Vec.{vec_len}
+use Rattle.fbl_judge.specs.declared.check.UnsafeReceipt.{UnsafeReceipt}
 use Rattle.std.proofs.Common.{length, nat_eq}
-use Rattle.fbl_runs.specs.Logs.{RunParts}
-use Rattle.fbl_program.proofs.Common.{◌≡◌, Audit, Check, Draw, IsAnswerTo, PutsOut, refl, subst, true}
+use Rattle.fbl_program.proofs.Common.{◌≡◌, ◌∙◌, Audit, Check, Draw, IsAnswerTo, ap, refl, rules, true}
 use Rattle.fbl_program.proofs.Endings.{cut}
 use Rattle.fbl_program.proofs.Sayings.{all_said}
 use Rattle.fbl_program.proofs.runs.answer.Goals as goal
 
 pub returns-in_err-write_audit-in-Audit : goal.returns-in_err-write_audit-in-Audit
 returns-in_err-write_audit-in-Audit g c =
-    let run = c.args.run.now in
+    let run = c.args.pasts.now in
     let audit = c.in_ok-audit-in-Audit.audit in
-    let is = rw c.in_ok-pasts.ensures at c.in_ok-audit-in-Audit.ensures in
     rw c.in-Audit.is (cut (λ _ told. told ≡ audit_lines audit.lost.items audit.orphans) (IsAnswerTo Audit run c.args.sources.now) (λ _. true)
-    (λ _ _ told. (audit, is, told, refl)) _ _ _ _ c.from_residual-in_err-write_audit-in-Audit.ensures.1 c.in_err-write_audit-in-Audit.ensures)
+    (λ _ _ told. (audit, c.in_ok-audit-in-Audit.ensures, told, refl)) _ _ _ _ c.from_residual-in_err-write_audit-in-Audit.ensures.1 c.in_err-write_audit-in-Audit.ensures)
 
-pub returns-in-Audit : goal.returns-in-Audit
-returns-in-Audit g c =
+pub returns-in_ok-write_audit-in-Audit : goal.returns-in_ok-write_audit-in-Audit
+returns-in_ok-write_audit-in-Audit g c =
     let puts = c.in_ok-write_audit-in-Audit.ensures in
-    let is = rw c.in_ok-pasts.ensures at c.in_ok-audit-in-Audit.ensures in
-    rw c.in-Audit.is (puts.0, (c.in_ok-audit-in-Audit.audit, is, puts.1, refl), puts.2)
+    rw c.in-Audit.is (puts.0, (c.in_ok-audit-in-Audit.audit, c.in_ok-audit-in-Audit.ensures, puts.1, refl), puts.2)
 
 pub returns-in_err-receipts-in-Check : goal.returns-in_err-receipts-in-Check
 returns-in_err-receipts-in-Check g c =
-    let run = c.args.run.now in
-    let puts = subst (λ (r : RunParts). PutsOut (λ said. IsChecked r c.args.sources.now said.items) _ _ _) c.in_ok-pasts.ensures c.in_err-receipts-in-Check.ensures in
-    rw c.in-Check.is (cut (λ said. IsChecked run c.args.sources.now said.items) (IsAnswerTo Check run c.args.sources.now) (λ said. nat_eq (length said.items) 0)
-    (λ said _ told. (said.items, told, refl)) _ _ _ _ c.from_residual-in_err-receipts-in-Check.ensures.1 puts)
+    let run = c.args.pasts.now in
+    rw c.in-Check.is (cut (λ (said : Vec UnsafeReceipt Global). IsChecked run c.args.sources.now said.items) (IsAnswerTo Check run c.args.sources.now) (λ said. nat_eq (length said.items) 0)
+    (λ said _ told. (said.items, told, refl)) _ _ _ _ c.from_residual-in_err-receipts-in-Check.ensures.1 c.in_err-receipts-in-Check.ensures)
 
 pub explain_check-requires : goal.explain_check-requires
 explain_check-requires g c =
     let puts = c.in_ok-receipts-in-Check.ensures in
     rw c.as_slice-in-Check.ensures.value (all_said _ _ c.in_ok-receipts-in-Check.receipts.items puts.1.says)
 
-pub returns-in-Check : goal.returns-in-Check
-returns-in-Check g c =
-    let puts = subst (λ (r : RunParts). PutsOut (λ said. IsChecked r c.args.sources.now said.items) _ _ _) c.in_ok-pasts.ensures c.in_ok-receipts-in-Check.ensures in
-    rw c.in-Check.is (puts.0, (c.in_ok-receipts-in-Check.receipts.items, puts.1, c.is_empty.ensures), puts.2)
+pub returns-in_ok-receipts-in-Check : goal.returns-in_ok-receipts-in-Check
+returns-in_ok-receipts-in-Check g c =
+    let puts = c.in_ok-receipts-in-Check.ensures in
+    let said = c.in_ok-receipts-in-Check.receipts in
+    let tie : vec_len said ≡ length said.items = search rules in
+    rw c.in-Check.is (puts.0, (said.items, puts.1, c.is_empty.ensures ∙ ap (λ n. nat_eq n 0) tie), puts.2)
 
 pub returns-in_err-write_run_picture-in-Draw : goal.returns-in_err-write_run_picture-in-Draw
 returns-in_err-write_run_picture-in-Draw g c =
-    let run = c.args.run.now in
-    let puts = subst (λ (r : RunParts). PutsOut (λ _. IsRunPicture r c.args.sources.now) _ _ _) c.in_ok-pasts.ensures c.in_err-write_run_picture-in-Draw.ensures in
+    let run = c.args.pasts.now in
     rw c.in-Draw.is (cut (λ _. IsRunPicture run c.args.sources.now) (IsAnswerTo Draw run c.args.sources.now) (λ _. true) (λ _ _ told. (told, refl)) _ _ _ _
-    c.from_residual-in_err-write_run_picture-in-Draw.ensures.1 puts)
+    c.from_residual-in_err-write_run_picture-in-Draw.ensures.1 c.in_err-write_run_picture-in-Draw.ensures)
 
-pub returns : goal.returns
-returns g c =
-    let puts = subst (λ (r : RunParts). PutsOut (λ _. IsRunPicture r c.args.sources.now) _ _ _) c.in_ok-pasts.ensures c.in_ok-write_run_picture-in-Draw.ensures in
+pub returns-in_ok-write_run_picture-in-Draw : goal.returns-in_ok-write_run_picture-in-Draw
+returns-in_ok-write_run_picture-in-Draw g c =
+    let puts = c.in_ok-write_run_picture-in-Draw.ensures in
     rw c.in-Draw.is (puts.0, (puts.1, refl), puts.2)

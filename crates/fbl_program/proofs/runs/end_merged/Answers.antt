@@ -21,6 +21,6 @@ returns-in-Ok-merge_of g c =
       c.end_run.ensures,
     )
 
-pub returns-in-Err-merge_of : goal.returns-in-Err-merge_of
-returns-in-Err-merge_of g c =
+pub returns : goal.returns
+returns g c =
     inr (c.in-Err-merge_of.fault, c.in-Err-merge_of.ensures.refused, (keeps_itself (g.W.Write.contents c.args.writer.now.stream), c.refuse_merge.ensures))

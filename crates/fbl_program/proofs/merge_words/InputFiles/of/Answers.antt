@@ -1,4 +1,4 @@
-use Rattle.std.proofs.Common.{◌≡◌, ◌∙◌, Some, ap, length, map, rules, sym}
+use Rattle.std.proofs.Common.{◌∙◌, Some, ap, length, map, rules, sym}
 use Rattle.std.proofs.lemmas.List.{take_all}
 use Rattle.std.proofs.lemmas.Option.{slice_get-get_or}
 use Rattle.fbl_program.proofs.Several.{counted_more}
