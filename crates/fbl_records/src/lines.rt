@@ -14,7 +14,7 @@ ghost use Rattle.fbl_records.specs.Logs.{log_of_data};
 ghost use Rattle.fbl_runs.specs.declared.judged.Judged.TheVariants.{AtEachMoment};
 
 use fbl_dumps::Dump;
-use fbl_runs::{Entry, Run};
+use fbl_runs::{ControlMessage, Entry, Run};
 use fbl_trace::{Determinant, Mark, Member, MemberSet};
 use serde_json::{Map, Value, put};
 use std::alloc::{AllocError, Global};
@@ -88,6 +88,14 @@ impl Form<Entry> for EntryForm {
                 member,
                 determinant,
             } => named_value(alloc, "store", &pair_numbers(member, determinant)),
+            Entry::Tell(ControlMessage { from, to, id }) => {
+                let numbers = [u32::from(from.number()), u32::from(to.number()), id];
+                named_value(alloc, "tell", &numbers)
+            }
+            Entry::Told(ControlMessage { from, to, id }) => {
+                let numbers = [u32::from(to.number()), u32::from(from.number()), id];
+                named_value(alloc, "told", &numbers)
+            }
         }
     }
 }

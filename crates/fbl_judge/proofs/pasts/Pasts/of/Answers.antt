@@ -2,12 +2,12 @@ use Rattle.fbl_judge.proofs.Common.{ap, ◌≡◌, ◌∙◌, List, Entry, Depen
 use Rattle.fbl_runs.specs.Clocks.{AreAdvances, IsLawful}
 use Rattle.fbl_judge.proofs.pasts.Pasts.of.Goals as goal
 
-pub advances_of-before-requires : goal.advances_of-before-requires
-advances_of-before-requires c =
+pub advances_of-requires : goal.advances_of-requires
+advances_of-requires c =
     subst IsLawful (sym c.entries-entries.ensures.entries) (c.args.run.now.members, c.entries-entries.ensures.rules.lawful.events, c.entries-entries.ensures.rules.lawful.told)
 
-pub advances_of-depends-requires : goal.advances_of-depends-requires
-advances_of-depends-requires c =
+pub advances_of-requires-2 : goal.advances_of-requires-2
+advances_of-requires-2 c =
     subst IsLawful (sym c.entries-entries.ensures.entries) (c.args.run.now.members, c.entries-entries.ensures.rules.lawful.events, c.entries-entries.ensures.rules.lawful.told)
 
 pub invariant_of-result : goal.invariant_of-result
