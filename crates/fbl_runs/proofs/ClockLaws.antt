@@ -1,7 +1,7 @@
 -- Vector clocks: how many entries of each member precede one of a member's first entries.
 use Rattle.fbl_runs.proofs.Common.{ℕ, zero, suc, cond, ◌≡◌, ◌≢◌, ◌==◌, ◌<◌, ◌≤◌, ◌⊎◌, ◌↔◌, inl, inr, List, length, max, Some, None, slice_get, refl, sym, ap, subst, ◌∙◌, arith}
 use Rattle.fbl_runs.proofs.Common.{nat_tests, cases_eq, cases_lt, slice_get_within, WellFormed, Mark, Send, Receipt, send_of}
-use Rattle.fbl_runs.proofs.Common.{Causality, ControlMessage, Dependence, HappenedBefore, Entry, Event, Hold, Store, Tell, Told, Carries, Passes, Tells, Logs, entry_member, log_of, marks, IsAt, Leads, Position, Precedes, at, itself, step, Cut, HasCome}
+use Rattle.fbl_runs.proofs.Common.{Causality, ControlMessage, Dependence, HappenedBefore, Entry, Event, Hold, Store, Tell, Told, Carries, Passes, Logs, entry_member, log_of, marks, IsAt, Leads, Position, Precedes, at, itself, step, Cut, HasCome}
 use Rattle.fbl_runs.specs.Clocks.{IsBrought, IsClock, seen}
 use Rattle.fbl_runs.specs.ControlMessages.{AreTold}
 use Rattle.fbl_runs.proofs.ControlLaws.{one_tell, told_before}

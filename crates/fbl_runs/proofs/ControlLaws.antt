@@ -1,16 +1,13 @@
 -- Control messages: each is told once, and before anybody is told it.
-use Rattle.fbl_runs.proofs.Common.{ℕ, Bool, true, false, cond, ◌≡◌, ◌==◌, ◌&&◌, ◌<◌, ◌≤◌, ◌↔◌, ◌⊎◌, ◌∙◌, inl, inr, List, [], ◌∷◌, ◌++◌, length, take, drop, Some, slice_get, refl, sym, ap, subst, arith}
-use Rattle.fbl_runs.proofs.Common.{cases_lt, cases_order, At-front, At-push, At-seam, slice_get-take, slice_get_within, take-append-drop, take-more, length-take, eqb-true, eqb-self, false≢true}
+use Rattle.fbl_runs.proofs.Common.{ℕ, Bool, true, false, cond, ◌≡◌, ◌==◌, ◌&&◌, ◌<◌, ◌≤◌, ◌↔◌, ◌⊎◌, ◌∙◌, inl, inr, List, [], ◌∷◌, ◌++◌, length, take, drop, Some, slice_get, refl, sym, ap, arith}
+use Rattle.fbl_runs.proofs.Common.{cases_order, At-front, At-push, At-seam, slice_get-take, slice_get_within, take-append-drop, length-take, eqb-true, eqb-self, false≢true}
 use Rattle.fbl_runs.proofs.Common.{Entry, Event, Hold, Store, Tell, Told, ControlMessage, log_of, IsAt, at}
 use Rattle.std.proofs.lemmas.Bool.{and_parts}
-use Rattle.std.specs.HashSet as hash_set
 use Rattle.fbl_trace.specs.Configs.{IsFirstBreach}
 use Rattle.fbl_runs.specs.declared.fault.ControlFault.{ControlFault}
 use Rattle.fbl_runs.specs.declared.fault.ControlRule.{ControlRule}
 use Rattle.fbl_runs.specs.declared.fault.ControlRule.TheVariants.{NotTold, Outside, SameNumber, ToItself, ToldBefore}
-use Rattle.fbl_runs.specs.ControlMessages.{AreTold, BreaksControl, Has, HasTold, IsFirstUntold, IsToldAt, MayBeTold, same_control}
-use Rattle.fbl_runs.specs.declared.control.ControlMessages.{ControlMessages}
-use Rattle.fbl_runs.specs.Clocks.{seen}
+use Rattle.fbl_runs.specs.ControlMessages.{AreTold, BreaksControl, Has, IsFirstUntold, IsToldAt, MayBeTold, same_control}
 use Rattle.fbl_runs.proofs.Listing.{one_place}
 
 pub has_more : (before : List Entry) (e x : Entry) → Has (before ++ e ∷ []) x ↔ Has before x ⊎ (e ≡ x)

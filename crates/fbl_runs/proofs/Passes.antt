@@ -1,13 +1,13 @@
 -- A pass over the entries keeps the clocks.
 use Rattle.fbl_runs.proofs.Common.{ℕ, zero, suc, Bool, true, false, cond, ◌≡◌, ◌≢◌, ◌==◌, ◌&&◌, ◌<◌, ◌≤◌, ◌+◌, ◌⊎◌, ◌↔◌, inl, inr, List, [], ◌∷◌, length, max, Option, Some, None, slice_get, refl, sym, ap, subst, ◌∙◌, arith, take, length-take, get_or}
 use Rattle.fbl_runs.proofs.Common.{nat_tests, cases_eq, cases_lt, slice_get_within, WellFormed, Mark, Send, Receipt, send_of, add-one, eqb-self}
-use Rattle.fbl_runs.proofs.Common.{Causality, ControlMessage, Dependence, HappenedBefore, Entry, Event, Hold, Store, Tell, Told, Carries, Logs, Passes, entry_member, log_of, mark_in, marks, IsAt, at, Cut}
-use Rattle.std.proofs.Common.{option_and_then, set, length-set, get_or-set_other, get_or-set_same}
+use Rattle.fbl_runs.proofs.Common.{Causality, ControlMessage, Dependence, HappenedBefore, Entry, Event, Hold, Store, Tell, Told, Carries, Logs, entry_member, log_of, marks, IsAt, at, Cut}
+use Rattle.std.proofs.Common.{set, length-set, get_or-set_other, get_or-set_same}
 use Rattle.std.proofs.lemmas.Bool.{and_parts, eqb-true}
 use Rattle.fbl_runs.specs.declared.clock.Clock.{Clock}
 use Rattle.fbl_runs.specs.declared.clocks.AddressedMessage.{AddressedMessage}
 use Rattle.fbl_runs.specs.declared.clocks.Clocks.{Clocks}
-use Rattle.fbl_runs.specs.Clocks.{HasSeen, IsBrought, IsClock, IsNoClock, cut_of, kept_after, message_sent_by, message_taken_by, message_told_by, message_told_to, same_message, seen, sent_clock, sent_in, taken_in, tell_clock}
+use Rattle.fbl_runs.specs.Clocks.{HasSeen, IsBrought, IsClock, IsNoClock, cut_of, kept_after, message_told_by, message_told_to, same_message, seen, sent_clock, sent_in, taken_in, tell_clock}
 use Rattle.fbl_runs.specs.ControlMessages.{AreTold, same_control}
 use Rattle.fbl_runs.proofs.ControlLaws.{same_control-self, same_control-true, tell_once, told_before}
 use Rattle.fbl_runs.proofs.Listing.{locate, once, placed, seen-later, seen-other, seen-own, sent_before}

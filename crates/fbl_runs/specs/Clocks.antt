@@ -5,7 +5,7 @@ use Rattle.fbl_trace.specs.declared.trace.Mark.{Mark}
 use Rattle.fbl_trace.specs.declared.trace.Mark.TheVariants.{Send, Receipt}
 use Rattle.fbl_trace.specs.Rules.{WellFormed}
 use Rattle.fbl_runs.specs.declared.causality.Causality.{Causality}
-use Rattle.fbl_runs.specs.declared.causality.Causality.TheVariants.{Dependence, HappenedBefore}
+use Rattle.fbl_runs.specs.declared.causality.Causality.TheVariants.{HappenedBefore}
 use Rattle.fbl_runs.specs.declared.clock.Clock.{Clock}
 use Rattle.fbl_runs.specs.declared.clocks.AddressedMessage.{AddressedMessage}
 use Rattle.fbl_runs.specs.declared.clocks.Clocks.{Clocks}

@@ -18,6 +18,11 @@ Has entries e = (i : ℕ) × (slice_get entries i ≡ Some e)
 abbrev pub AreEndsAllowed : ℕ → ControlMessage → Type 0
 AreEndsAllowed n m = (m.from < n) × (m.to < n) × (m.from ≢ m.to)
 
+-- what the entry's member is told, if it is told something, was told before
+abbrev pub IsHeard : List Entry → Entry → Type 0
+IsHeard before (Told m) = Has before (Tell m)
+IsHeard before e = Unit {0}
+
 -- behind these the entry obeys the rules: no two tells are the same, and a member is told what was told before, and only once. Control
 -- messages come in any order, and may be lost
 abbrev pub MayBeTold : ℕ → List Entry → Entry → Type 0

@@ -1,8 +1,8 @@
 //! Control messages, and their rules.
 
-ghost use Rattle.std.specs.Prelude.{◌≡◌, ◌<◌, ◌++◌, ◌∷◌, [], ℕ, List, IfOk, MatchOption, OnOk};
+ghost use Rattle.std.specs.Prelude.{◌≡◌, ◌<◌, ◌++◌, ◌∷◌, ◌↔◌, [], ℕ, true, List, IfOk, MatchOption, OnOk};
 ghost use Rattle.fbl_trace.specs.Breaches.{IsEndOutside};
-ghost use Rattle.fbl_runs.specs.ControlMessages.{AreEndsAllowed, AreTold, BreaksControl, HasTold, IsFirstUntold, MayBeTold};
+ghost use Rattle.fbl_runs.specs.ControlMessages.{AreEndsAllowed, AreTold, BreaksControl, HasTold, IsFirstUntold, IsHeard, MayBeTold};
 ghost use Rattle.fbl_runs.specs.declared.entry.Entry.{Entry};
 ghost use Rattle.fbl_runs.specs.declared.entry.Entry.TheVariants.{Tell, Told};
 
@@ -114,6 +114,16 @@ impl ControlMessages {
             Entry::Tell(message) => self.broken_tell(n, message),
             Entry::Told(message) => self.broken_told(message),
             _ => None,
+        }
+    }
+
+    /// Whether what the member of the entry, the next one, is told, if it is told something, was told before.
+    pub fn is_heard(&self, entry: &Entry) -> bool
+        ensures { (before : _) → HasTold before self.now → (result ≡ true) ↔ IsHeard before entry.now }
+    {
+        match *entry {
+            Entry::Told(message) => self.tells.contains(&message),
+            _ => true,
         }
     }
 

@@ -1,5 +1,5 @@
-use Rattle.fbl_runs.proofs.Common.{ℕ, ◌≡◌, ◌+◌, ◌++◌, ◌∷◌, [], ◌∙◌, suc, arith, sym, ap, refl, subst, List, Entry, Some, length, slice_get, slice_get_read, take, take-more}
-use Rattle.std.proofs.Common.{MatchOption, below_more}
+use Rattle.fbl_runs.proofs.Common.{◌≡◌, ◌+◌, ◌++◌, ◌∷◌, [], ◌∙◌, suc, arith, sym, ap, refl, subst, List, Entry, Some, length, slice_get, slice_get_read, take, take-more}
+use Rattle.std.proofs.Common.{below_more}
 use Rattle.fbl_runs.specs.ControlMessages.{HasTold, IsToldAt, MayBeTold}
 use Rattle.fbl_runs.proofs.ControlLaws.{told_all}
 use Rattle.fbl_runs.proofs.control.first_untold.Goals as goal

@@ -1,5 +1,5 @@
 use Rattle.fbl_runs.proofs.Common.{◌≡◌, ◌∙◌, ap, cond, Some}
-use Rattle.fbl_runs.specs.Clocks.{kept_after, same_message, sent_clock, sent_in, tell_clock}
+use Rattle.fbl_runs.specs.Clocks.{kept_after, same_message, sent_clock, tell_clock}
 use Rattle.fbl_runs.specs.ControlMessages.{same_control}
 use Rattle.fbl_runs.specs.declared.clocks.Clocks.{Clocks}
 use Rattle.fbl_runs.proofs.clocks.Clocks.keep.Goals as goal

@@ -1,7 +1,6 @@
-use Rattle.fbl_runs.proofs.Common.{◌≡◌, ◌∙◌, true, false, sym, false≢true, Option, Some, None}
+use Rattle.fbl_runs.proofs.Common.{◌≡◌, ◌∙◌, false, sym, false≢true, Option, Some, None}
 use Rattle.std.proofs.Common.{MatchOption}
 use Rattle.std.specs.Option.{is_some}
-use Rattle.fbl_runs.specs.ControlMessages.{AreEndsAllowed}
 use Rattle.fbl_runs.specs.declared.fault.ControlRule.{ControlRule}
 use Rattle.fbl_runs.proofs.control.ControlMessages.broken_tell.Goals as goal
 

@@ -1,4 +1,4 @@
-use Rattle.fbl_runs.proofs.Common.{◌≡◌, ◌∙◌, true, false, sym, false≢true}
+use Rattle.fbl_runs.proofs.Common.{◌∙◌, sym, false≢true}
 use Rattle.fbl_runs.proofs.control.ControlMessages.broken_told.Goals as goal
 
 pub returns-then-not-contains : goal.returns-then-not-contains
