@@ -6,7 +6,7 @@ ghost use Rattle.fbl_runs.specs.Entries.{marks};
 ghost use Rattle.fbl_runs.specs.Logs.{IsLog, parts_of_log};
 ghost use Rattle.fbl_order.specs.Answers.{AnswersAlike};
 ghost use Rattle.fbl_order.specs.Faults.{RefusesUnorderedLog, place_given, record_given};
-ghost use Rattle.fbl_order.specs.Orders.{ArePlaces, IsOrderOfEntries, items_at, with_entries};
+ghost use Rattle.fbl_order.specs.Orders.{AreHeard, ArePlaces, IsOrderOfEntries, items_at, with_entries};
 
 use crate::fault::OrderFault;
 use crate::merge::Merge;
@@ -64,7 +64,9 @@ pub fn order_log(alloc: Global, raw: RawLog) -> Result<Ordered<Run>, OrderFault>
     ensures parts { IfOk result (λ o. o.run ≡ with_entries o.run.entries (parts_of_log raw)) }
     ensures order { IfOk result (λ o. IsOrderOfEntries raw.members raw.entries.items o.run.entries) }
     ensures places { IfOk result (λ o. ArePlaces raw.entries.items o.run.entries o.places.items) }
-    ensures kept { IfOk result (λ o. WellFormed raw.members (marks raw.entries.items) → o.run ≡ parts_of_log raw) }
+    ensures kept { IfOk result
+        (λ o. WellFormed raw.members (marks raw.entries.items) → AreHeard raw.entries.items
+        → o.run ≡ parts_of_log raw) }
     ensures answers { IfOk result (λ o. AnswersAlike (parts_of_log raw) o.run) }
     ensures refused { IfErr result (RefusesUnorderedLog (parts_of_log raw)) }
 {

@@ -23,10 +23,10 @@ returns-in-Ok-clause-order c =
     rw c.in-Ok.ensures.log (record { obeys = order.obeys; told = told; logs = order.logs })
 
 pub returns-in-Ok-clause-kept : goal.returns-in-Ok-clause-kept
-returns-in-Ok-clause-kept c well =
+returns-in-Ok-clause-kept c well heard =
     c.in-Ok.ensures.log ∙ ap (λ (es : List Entry). with_entries es (parts_of_log c.args.raw)) (entries-kept c.args.raw.members c.args.raw.entries.items
     c.as_slice-given.result.now c.in_ok-entries.entries.items c.as_slice-given.ensures.value c.in_ok-places.field-0 c.in_ok-places.ensures.merges
-    c.in_ok-places.ensures.all (are c) well)
+    c.in_ok-places.ensures.all (are c) well heard)
 
 pub returns-in-Ok-clause-answers : goal.returns-in-Ok-clause-answers
 returns-in-Ok-clause-answers c entries other =
