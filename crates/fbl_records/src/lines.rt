@@ -14,7 +14,7 @@ ghost use Rattle.fbl_records.specs.Logs.{log_of_data};
 ghost use Rattle.fbl_runs.specs.declared.judged.Judged.TheVariants.{AtEachMoment};
 
 use fbl_dumps::Dump;
-use fbl_runs::{ControlMessage, Entry, Run};
+use fbl_runs::{Entry, Run};
 use fbl_trace::{Determinant, Mark, Member, MemberSet};
 use serde_json::{Map, Value, put};
 use std::alloc::{AllocError, Global};
@@ -47,6 +47,17 @@ fn pair_numbers(member: Member, determinant: Determinant) -> [u32; 5]
         ssn,
         u32::from(to.number()),
         rsn,
+    ]
+}
+
+/// The numbers of two members and of a control message between them.
+fn control_numbers(own: Member, other: Member, id: u32) -> [u32; 3]
+    ensures { result ≡ own ∷ other ∷ id ∷ [] }
+{
+    [
+        u32::from(own.number()),
+        u32::from(other.number()),
+        id,
     ]
 }
 
@@ -88,12 +99,12 @@ impl Form<Entry> for EntryForm {
                 member,
                 determinant,
             } => named_value(alloc, "store", &pair_numbers(member, determinant)),
-            Entry::Tell(ControlMessage { from, to, id }) => {
-                let numbers = [u32::from(from.number()), u32::from(to.number()), id];
+            Entry::Tell(message) => {
+                let numbers = control_numbers(message.from, message.to, message.id);
                 named_value(alloc, "tell", &numbers)
             }
-            Entry::Told(ControlMessage { from, to, id }) => {
-                let numbers = [u32::from(to.number()), u32::from(from.number()), id];
+            Entry::Told(message) => {
+                let numbers = control_numbers(message.to, message.from, message.id);
                 named_value(alloc, "told", &numbers)
             }
         }
