@@ -5,13 +5,16 @@ import random
 import sys
 
 from hostile_parts.crashes import MOST_RESTARTS, CrashJudge, History, is_due
-from hostile_parts.logs import is_send, logs_of
-from hostile_parts.moments import Log, receipt_of
+from hostile_parts.logs import files_of, is_send, logs_of, note_each, texts_of
+from hostile_parts.moments import CutLog, Log, receipt_of
+from program import run
 from tally import Tally
 
 # the most of each kind in the runs of two members of which all are tried
 MOST_OF = {"send": 2, "tell": 1, "restart": 1}
+MOST_WITH_CONTROL = {**MOST_OF, "restart": 0}
 RANDOM_LOGS = 2000
+CONTROL_LOGS = 300
 
 
 def history_of(members, entries):
@@ -47,8 +50,9 @@ def renamed(entry, names):
     return tuple(names[part] if place in named else part for place, part in enumerate(entry))
 
 
-def small_runs(members):
+def small_runs(members, most_of=None):
     """All runs with so few messages, control messages and restarts, each in one order, but for the members' names."""
+    most_of = most_of or MOST_OF
     seen, waiting = set(), [()]
     orders = list(itertools.permutations(range(members)))
     while waiting:
@@ -59,7 +63,7 @@ def small_runs(members):
         seen.add(key)
         yield entries
         waiting += [(*entries, entry) for entry in next_entries(members, entries)
-                    if sum(other[0] == entry[0] for other in entries) < MOST_OF.get(entry[0], len(entries))]
+                    if sum(other[0] == entry[0] for other in entries) < most_of.get(entry[0], len(entries))]
 
 
 def random_run(source, members, most, restarts):
@@ -134,6 +138,44 @@ def random_logs(source, count):
         run = random_run(source, members, source.randint(6, 22 - 3 * members), source.randint(0, 3))
         strike = tuple(member for member in range(members) if source.random() < 0.05)
         yield Log(members, source.randint(1, members - 1), strike, some_records(source, members, run))
+
+
+def small_control_logs():
+    """All small logs in which somebody is told something, and nobody restarts."""
+    runs = (small for small in small_runs(2, MOST_WITH_CONTROL) if any(entry[0] == "told" for entry in small))
+    return [Log(2, 1, (), entries) for small in runs for entries in each_choice_of_holds(2, small)]
+
+
+def random_control_logs(source, count):
+    """Such logs at random."""
+    while count:
+        members = source.randint(2, 4)
+        entries = some_records(source, members, random_run(source, members, source.randint(8, 26 - 3 * members), 0))
+        if any(entry[0] == "told" for entry in entries):
+            count -= 1
+            yield Log(members, source.randint(1, members - 1), (), entries)
+
+
+def judge_control_log(case):
+    """Whether the check of the log says what trying everything says, and of its members' files, named in an order, the same, but for places."""
+    log, order = case
+    wanted = CrashJudge(log).text()
+    ran = run(["check"], log.text().encode())
+    yield ran == (0 if wanted == "safe\n" else 1, wanted, ""), f"{log.text()}: {ran}, and not {wanted}"
+    cut = CutLog(log, list(range(log.members)), order)
+    with files_of(texts_of(cut.parts())) as paths:
+        named = [paths[file] for file in order]
+        ran = run(["check", *named])
+        merged = run(["merge", *named])
+    lines = cut.lines_in(wanted, log.entries, paths)
+    yield (ran.status, sorted(ran.text.splitlines(True))) == (0 if wanted == "safe\n" else 1, sorted(lines)), f"{case} in files: {ran}, and not {lines}, merged to {merged}"
+
+
+def try_control_logs(tally):
+    """Logs with control messages, whole and cut into the files of the members, which are named in any order."""
+    source = random.Random(12)
+    logs = [*small_control_logs(), *random_control_logs(source, CONTROL_LOGS)]
+    note_each(tally, judge_control_log, [(log, source.sample(range(log.members), log.members)) for log in logs])
 
 
 def try_candidates(tally):
