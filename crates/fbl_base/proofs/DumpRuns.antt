@@ -4,8 +4,9 @@ use Rattle.fbl_runs.proofs.Common.{subst, arith, cases_eq, cases_order, slice_ge
 use Rattle.fbl_runs.proofs.Common.{WellFormed, entry_member, log_of, mark_in, marks, IsAt, Leads, Position, Precedes, at, itself, step}
 use Rattle.fbl_trace.specs.declared.trace.Determinant.{Determinant}
 use Rattle.fbl_trace.specs.declared.trace.Mark.{Mark}
+use Rattle.fbl_runs.specs.declared.causality.Causality.TheVariants.{Dependence}
 use Rattle.fbl_runs.specs.declared.entry.Entry.{Entry}
-use Rattle.fbl_runs.specs.declared.entry.Entry.TheVariants.{Event, Hold, Store}
+use Rattle.fbl_runs.specs.declared.entry.Entry.TheVariants.{Event, Hold, Store, Tell, Told}
 use Rattle.fbl_trace.specs.Events.{determinant_of, member_of, receipt_of, receipts, send_of}
 use Rattle.fbl_trace.specs.declared.trace.Mark.TheVariants.{Receipt, Send}
 use Rattle.fbl_runs.specs.Moments.{Cut, DependsAt, HoldsAt, IsStoredAt, last_cut}
@@ -94,7 +95,7 @@ module _ (n : ℕ) (entries : List Entry) (obeys : WellFormed n (marks entries))
   LastEvent : Mark → Position → Type 0
   LastEvent a j = (b : Mark) × (k : Position) × IsAt (log_of entries) k (Event b) × (k.member ≡ j.member) × (k.number ≤ j.number) × base.Precedes t a b
 
-  to_marks : {i j : Position} (a : Mark) → IsAt (log_of entries) i (Event a) → Precedes (log_of entries) i j → LastEvent a j
+  to_marks : {i j : Position} (a : Mark) → IsAt (log_of entries) i (Event a) → Precedes Dependence (log_of entries) i j → LastEvent a j
   unfolding LastEvent
   to_marks {i} a here (itself h) = (a, i, here, refl, omega arith, base.itself (has_mark i a here))
   to_marks a here (step {j = u} {k = v} p leads) =
@@ -109,7 +110,7 @@ module _ (n : ℕ) (entries : List Entry) (obeys : WellFormed n (marks entries))
       ]
 
   -- so one between events is one between them
-  pub marks_precede : {i j : Position} (a b : Mark) → IsAt (log_of entries) i (Event a) → IsAt (log_of entries) j (Event b) → Precedes (log_of entries) i j → base.Precedes t a b
+  pub marks_precede : {i j : Position} (a b : Mark) → IsAt (log_of entries) i (Event a) → IsAt (log_of entries) j (Event b) → Precedes Dependence (log_of entries) i j → base.Precedes t a b
   unfolding LastEvent
   marks_precede {i} {j} a b at_i at_j p = (let r = to_marks a at_i p in to_later a j b at_j r.0 r.1 r.2 r.3 r.4 r.5)
 
@@ -117,16 +118,18 @@ module _ (n : ℕ) (entries : List Entry) (obeys : WellFormed n (marks entries))
   is_mark (Event m') m is = cc
   is_mark (Hold q d) m is = cc
   is_mark (Store q d) m is = cc
+  is_mark (Tell t) m is = cc
+  is_mark (Told t) m is = cc
 
   -- where an event of the list stands in its member's log
   position_of : (p : ℕ) (a : Mark) → slice_get entries p ≡ Some (Event a) → IsAt (log_of entries) (at (member_of a) (seen entries p (member_of a))) (Event a)
   position_of p a here = placed entries p (Event a) (member_of a) here refl
 
-  pub from_marks : {a b : Mark} (i j : Position) → IsAt (log_of entries) i (Event a) → IsAt (log_of entries) j (Event b) → base.Precedes t a b → Precedes (log_of entries) i j
+  pub from_marks : {a b : Mark} (i j : Position) → IsAt (log_of entries) i (Event a) → IsAt (log_of entries) j (Event b) → base.Precedes t a b → Precedes Dependence (log_of entries) i j
   from_marks {a} i j at_i at_j (base.itself h) =
       let one = one_position n entries obeys i.member i.number j.member j.number a at_i at_j in
       let same : i ≡ j = λ x. record { member = one.0 x; number = one.1 x } in
-      subst (λ (y : Position). Precedes (log_of entries) i y) same (itself at_i)
+      subst (λ (y : Position). Precedes Dependence (log_of entries) i y) same (itself at_i)
   from_marks {a} {b = c} i j at_i at_j (base.step {b} p leads) =
       let apart = Apart-filter_map mark_in entries b c leads.0 in
       let places = apart.2 in
@@ -136,8 +139,8 @@ module _ (n : ℕ) (entries : List Entry) (obeys : WellFormed n (marks entries))
       let at_k = position_of places.0 b at_b in
       let l : Position = at (member_of c) (seen entries places.1 (member_of c)) in
       let at_l = position_of places.1 c at_c in
-      let before : Precedes (log_of entries) i k = from_marks i k at_i at_k p in
-      let last : Leads (log_of entries) k l = (
+      let before : Precedes Dependence (log_of entries) i k = from_marks i k at_i at_k p in
+      let last : Leads Dependence (log_of entries) k l = (
         Event b,
         Event c,
         at_k,
@@ -149,7 +152,7 @@ module _ (n : ℕ) (entries : List Entry) (obeys : WellFormed n (marks entries))
       ) in
       let one = one_position n entries obeys l.member l.number j.member j.number c at_l at_j in
       let same : l ≡ j = λ x. record { member = one.0 x; number = one.1 x } in
-      subst (λ (y : Position). Precedes (log_of entries) i y) same (step before last)
+      subst (λ (y : Position). Precedes Dependence (log_of entries) i y) same (step before last)
 
   -- who depends on a receipt at the last moment depends on it by the events
   pub depends_iff : (d : Determinant) (q : ℕ) → DependsAt (log_of entries) (last_cut (log_of entries)) d q ↔ base.Depends t q (receipt_of d)
@@ -173,6 +176,8 @@ receipts_of [] = refl
 receipts_of (Event m ∷ es) = ap (λ ds. cons_option (determinant_of m) ds) (receipts_of es)
 receipts_of (Hold q d ∷ es) = receipts_of es
 receipts_of (Store q d ∷ es) = receipts_of es
+receipts_of (Tell t ∷ es) = receipts_of es
+receipts_of (Told t ∷ es) = receipts_of es
 
 module _ (dump : Parts) (rules : IsRun (run_of_dump dump)) where
   abbrev es : List Entry

@@ -157,6 +157,16 @@ pub enum GlyphKind {
     Hold(Determinant),
     /// From here on the receipt's determinant is on stable storage.
     Store(Determinant),
+    /// The member sends a control message.
+    Tell {
+        to: Member,
+        id: u32,
+    },
+    /// The member takes a control message.
+    Told {
+        from: Member,
+        id: u32,
+    },
     /// The member is struck.
     Strike,
     /// The member is brought back.

@@ -10,7 +10,7 @@ use Rattle.fbl_trace.specs.declared.trace.Mark.{Mark}
 use Rattle.fbl_trace.specs.declared.trace.Mark.TheVariants.{Send, Receipt}
 use Rattle.fbl_runs.specs.Entries.{mark_in}
 use Rattle.fbl_runs.specs.declared.entry.Entry.{Entry}
-use Rattle.fbl_runs.specs.declared.entry.Entry.TheVariants.{Event, Hold, Store}
+use Rattle.fbl_runs.specs.declared.entry.Entry.TheVariants.{Event, Hold, Store, Tell, Told}
 use Rattle.fbl_input.specs.declared.key.Key.{Key}
 use Rattle.fbl_input.specs.declared.key.Key.TheVariants as keys
 use Rattle.fbl_input.specs.declared.kind.InputKind.{InputKind}
@@ -53,14 +53,32 @@ receipt_from (to ∷ rsn ∷ from ∷ ssn ∷ []) =
     (count_shape ssn)) (member_shape from)) (count_shape rsn)) (member_shape to)
 receipt_from _ = None
 
--- the entry with the name: `["send", from, ssn, to]`, `["receipt", to, rsn, from, ssn]`, `["hold", holder, from, ssn, to, rsn]` or
--- `["store", member, from, ssn, to, rsn]`
+-- `from, to, id` of a tell
+abbrev pub tell_from : List Data → Option Entry
+tell_from (from ∷ to ∷ id ∷ []) =
+    option_and_then (λ p. option_and_then (λ q. option_map (λ i. Tell (record { from = p; to = q; id = i }))
+    (count_shape id)) (member_shape to)) (member_shape from)
+tell_from _ = None
+
+-- `to, from, id` of what a member is told
+abbrev pub told_from : List Data → Option Entry
+told_from (to ∷ from ∷ id ∷ []) =
+    option_and_then (λ q. option_and_then (λ p. option_map (λ i. Told (record { from = p; to = q; id = i }))
+    (count_shape id)) (member_shape from)) (member_shape to)
+told_from _ = None
+
+-- the entry with the name, if it is a tell or a told: `["tell", from, to, id]` or `["told", to, from, id]`
+abbrev pub control_named : Data → List Data → Option Entry
+control_named name rest = if is_text (codes "tell") name then tell_from rest else (if is_text (codes "told") name then told_from rest else None)
+
+-- the entry with the name: `["send", from, ssn, to]`, `["receipt", to, rsn, from, ssn]`, `["hold", holder, from, ssn, to, rsn]`,
+-- `["store", member, from, ssn, to, rsn]`, or a control message
 abbrev pub entry_named : Data → List Data → Option Entry
 entry_named name rest =
     if is_text (codes "send") name then send_from rest
     else (if is_text (codes "receipt") name then receipt_from rest
     else (if is_text (codes "hold") name then option_map (λ h. Hold h.0 h.1) (pair_from rest)
-    else (if is_text (codes "store") name then option_map (λ h. Store h.0 h.1) (pair_from rest) else None)))
+    else (if is_text (codes "store") name then option_map (λ h. Store h.0 h.1) (pair_from rest) else control_named name rest)))
 
 abbrev pub entry_from : List Data → Option Entry
 entry_from [] = None

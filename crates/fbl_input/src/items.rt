@@ -3,12 +3,12 @@
 ghost use Rattle.std.specs.Prelude.{◌≡◌, map, not};
 ghost use Rattle.std.specs.List.{position};
 ghost use Rattle.serde_json.specs.View.{view};
-ghost use Rattle.fbl_input.specs.Items.{bad_place, entry_named, is_item, pair_from, receipt_from, send_from, start_from};
+ghost use Rattle.fbl_input.specs.Items.{bad_place, control_named, entry_named, is_item, pair_from, receipt_from, send_from, start_from, tell_from, told_from};
 
 use crate::key::Key;
 use crate::kind::InputKind;
 use crate::shapes::{ByteShape, JsonShape, count_in, is_named, list_in, member_in};
-use fbl_runs::Entry;
+use fbl_runs::{ControlMessage, Entry};
 use fbl_trace::{Determinant, Mark, Member, Note, Start};
 use serde_json::Value;
 
@@ -99,6 +99,47 @@ fn receipt_of(list: &[Value]) -> Option<Entry>
     }
 }
 
+fn tell_of(list: &[Value]) -> Option<Entry>
+    ensures { result ≡ tell_from (map view list.now) }
+{
+    match list {
+        [from, to, id] => {
+            let from = member_in(from)?;
+            let to = member_in(to)?;
+            let id = count_in(id)?;
+            Some(Entry::Tell(ControlMessage { from, to, id }))
+        }
+        _ => None,
+    }
+}
+
+fn told_of(list: &[Value]) -> Option<Entry>
+    ensures { result ≡ told_from (map view list.now) }
+{
+    match list {
+        [to, from, id] => {
+            let to = member_in(to)?;
+            let from = member_in(from)?;
+            let id = count_in(id)?;
+            Some(Entry::Told(ControlMessage { from, to, id }))
+        }
+        _ => None,
+    }
+}
+
+/// The entry with the name, if it is of a control message, by what stands behind that.
+fn control_named(name: &Value, list: &[Value]) -> Option<Entry>
+    ensures { result ≡ control_named (view name.now) (map view list.now) }
+{
+    if is_named(name, "tell") {
+        return tell_of(list);
+    }
+    if is_named(name, "told") {
+        return told_of(list);
+    }
+    None
+}
+
 /// The entry with the name, by what stands behind that.
 fn entry_named(name: &Value, list: &[Value]) -> Option<Entry>
     ensures { result ≡ entry_named (view name.now) (map view list.now) }
@@ -123,7 +164,7 @@ fn entry_named(name: &Value, list: &[Value]) -> Option<Entry>
             determinant,
         });
     }
-    None
+    control_named(name, list)
 }
 
 /// An entry of a recorded run: a list that begins with its name.

@@ -60,7 +60,7 @@ impl InputKind {
             (Key::Start, _) => "a list of starts [from, to, value, hops]",
             (Key::Commands, _) => "a list of commands",
             (Key::Events, InputKind::Log) =>
-                "a list of events [\"send\", from, number, to], [\"receipt\", to, number, from, number of the send], [\"hold\", holder, from, number of the send, to, number of the receipt] and [\"store\", member, from, number of the send, to, number of the receipt]",
+                "a list of events [\"send\", from, number, to], [\"receipt\", to, number, from, number of the send], [\"hold\", holder, from, number of the send, to, number of the receipt], [\"store\", member, from, number of the send, to, number of the receipt], [\"tell\", from, to, id] and [\"told\", to, from, id]",
             (Key::Events, _) =>
                 "a list of events [\"send\", from, number, to] and [\"receipt\", to, number, from, number of the send]",
             (Key::Held, _) =>
@@ -78,7 +78,7 @@ impl InputKind {
             ),
             (Key::Events, InputKind::Log) => (
                 "event",
-                "[\"send\", from, number, to], [\"receipt\", to, number, from, number of the send], [\"hold\", holder, from, number of the send, to, number of the receipt] or [\"store\", member, from, number of the send, to, number of the receipt]: members 0 to 15, numbers 0 to 4294967295",
+                "[\"send\", from, number, to], [\"receipt\", to, number, from, number of the send], [\"hold\", holder, from, number of the send, to, number of the receipt], [\"store\", member, from, number of the send, to, number of the receipt], [\"tell\", from, to, id] or [\"told\", to, from, id]: members 0 to 15, numbers 0 to 4294967295",
             ),
             (Key::Events, _) => (
                 "event",

@@ -1,7 +1,7 @@
 -- What is lost at the last moment, and who is an orphan there.
-use Rattle.fbl_judge.proofs.Common.{ℕ, Bool, true, false, ◌≡◌, ◌==◌, ◌<◌, ◌≤◌, ◌+◌, ◌↔◌, inl, inr, List, [], ◌∷◌, length, Some, slice_get, refl, sym, ap, subst, ◌∙◌, arith}
+use Rattle.fbl_judge.proofs.Common.{HappenedBefore, ℕ, Bool, true, false, ◌≡◌, ◌==◌, ◌<◌, ◌≤◌, ◌+◌, ◌↔◌, inl, inr, List, [], ◌∷◌, length, Some, slice_get, refl, sym, ap, subst, ◌∙◌, arith}
 use Rattle.fbl_judge.proofs.Common.{cases_eq, false≢true, nat_tests, Determinant, Send, Receipt, receipt_of, Members, contains-union}
-use Rattle.fbl_judge.proofs.Common.{Entry, Event, Hold, Store, log_of, Position, at, DependsAt, DependsOn, IsReceiptAt, LosesAt, IsOrphanAt}
+use Rattle.fbl_judge.proofs.Common.{Entry, Event, Hold, Store, Tell, Told, log_of, Position, at, DependsAt, DependsOn, IsReceiptAt, LosesAt, IsOrphanAt}
 use Rattle.std.specs.FinSet as set
 use Rattle.std.specs.Cmp.{nat_cmp_total}
 use Rattle.fbl_trace.proofs.Sets.{len-remove_one, some_member}
@@ -47,9 +47,11 @@ receipt_is (Event (Send from ssn to)) d is = cc
 receipt_is (Event (Receipt to rsn from ssn)) d is = (let same : ◌≡◌ {A = Determinant} (record { from = from; ssn = ssn; to = to; rsn = rsn }) d = cc in ap (λ (d : Determinant). Event (receipt_of d)) same)
 receipt_is (Hold q d') d is = cc
 receipt_is (Store q d') d is = cc
+receipt_is (Tell m) d is = cc
+receipt_is (Told m) d is = cc
 
 -- the receipt stands at the number that the pasts have of its place
-pub receipt_at : (entries : List Entry) (p : ℕ) (e : Entry) (d : Determinant) (advance : Advance) → slice_get entries p ≡ Some e → receipt_in e ≡ Some d → IsAdvance entries p advance
+pub receipt_at : (entries : List Entry) (p : ℕ) (e : Entry) (d : Determinant) (advance : Advance) → slice_get entries p ≡ Some e → receipt_in e ≡ Some d → IsAdvance HappenedBefore entries p advance
     → IsReceiptAt (log_of entries) d (at d.to advance.number)
 receipt_at entries p e d advance here receipt is =
     let there : slice_get entries p ≡ Some (Event (receipt_of d)) = here ∙ ap Some (receipt_is e d receipt) in

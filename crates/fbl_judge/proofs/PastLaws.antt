@@ -1,5 +1,5 @@
 -- What the clocks of the entries say.
-use Rattle.fbl_judge.proofs.Common.{ℕ, suc, Bool, true, false, cond, ◌≡◌, ◌==◌, ◌<◌, ◌≤◌, ◌+◌, ◌⊎◌, ◌↔◌, inl, inr, List, [], ◌∷◌, ◌++◌, length, length-append, Some, slice_get, max, refl, sym, ap, subst, ◌∙◌, arith}
+use Rattle.fbl_judge.proofs.Common.{Causality, Dependence, HappenedBefore, ℕ, suc, Bool, true, false, cond, ◌≡◌, ◌==◌, ◌<◌, ◌≤◌, ◌+◌, ◌⊎◌, ◌↔◌, inl, inr, List, [], ◌∷◌, ◌++◌, length, length-append, Some, slice_get, max, refl, sym, ap, subst, ◌∙◌, arith}
 use Rattle.fbl_judge.proofs.Common.{At-push, nat_tests, cases_eq, cases_lt, eqb-true, slice_get_within, Determinant, receipt_of, Entry, Event, entry_member, Logs, log_of, IsAt, Position, Precedes, at, Cut, HasCome}
 use Rattle.std.proofs.Common.{nat_lt}
 use Rattle.fbl_runs.specs.declared.clocks.Advance.{Advance}
@@ -11,32 +11,32 @@ use Rattle.fbl_runs.proofs.Listing.{placed, stands_at}
 use Rattle.fbl_judge.proofs.LeastMoments.{cut_of_step, least_moment, max_or}
 
 -- an entry precedes one of the member's first ones where it has come by their clock
-pub precedes_iff : (logs : Logs) (source k m count n : ℕ) (cut : Cut) → IsClock logs m count cut → n ≡ cut source → (nat_lt k n ≡ true) ↔ PrecedesSome logs (at source k) m count
+pub precedes_iff : (logs : Logs) (source k m count n : ℕ) (cut : Cut) → IsClock Dependence logs m count cut → n ≡ cut source → (nat_lt k n ≡ true) ↔ PrecedesSome Dependence logs (at source k) m count
 precedes_iff logs source k m count n cut clock is = (
   λ h. clock.only (at source k) (let lt : k < n = grind (arith, nat_tests, h) in omega (arith, lt, is)),
   λ p. (let come : k < cut source = clock.all (at source k) p in let lt : k < n = omega (arith, come, is) in grind (arith, nat_tests, lt)),
 )
 
 -- of the member's first entries the last is the first that the other precedes
-pub first_after : (logs : Logs) (i : Position) (m k : ℕ) → ¬ (PrecedesSome logs i m k) → PrecedesSome logs i m (k + 1) → IsFirstAfter logs i (at m k)
+pub first_after : (logs : Logs) (i : Position) (m k : ℕ) → ¬ (PrecedesSome Dependence logs i m k) → PrecedesSome Dependence logs i m (k + 1) → IsFirstAfter logs i (at m k)
 first_after logs i m k none some = record {
   precedes = elim (cases_eq some.0 k) [
-    | inl same ↦ subst (λ (k : ℕ). Precedes logs i (at m k)) same some.2
+    | inl same ↦ subst (λ (k : ℕ). Precedes Dependence logs i (at m k)) same some.2
     | inr ne ↦ absurd (none (some.0, (let below = some.1 in omega (arith, below, ne)), some.2))
   ];
   first = λ l earlier precedes. none (l, earlier, precedes);
 }
 
 -- what precedes none of the member's entries
-pub none_after : (logs : Logs) (i : Position) (m count : ℕ) → length (logs m) ≤ count → ¬ (PrecedesSome logs i m count) → (k : ℕ) → ¬ (Precedes logs i (at m k))
+pub none_after : (logs : Logs) (i : Position) (m count : ℕ) → length (logs m) ≤ count → ¬ (PrecedesSome Dependence logs i m count) → (k : ℕ) → ¬ (Precedes Dependence logs i (at m k))
 none_after logs i m count all none k precedes =
     let there = last_there precedes in
     let within = slice_get_within (logs m) k there.0 there.1 in
     none (k, omega (arith, within, all), precedes)
 
 -- a clock has no more entries than there are
-pub clock_within : (logs : Logs) (m count : ℕ) (cut : Cut) → IsClock logs m count cut → (q : ℕ) → cut q ≤ length (logs q)
-clock_within logs m count cut clock q = elim (cases_lt (length (logs q)) (cut q)) [
+pub clock_within : (c : Causality) (logs : Logs) (m count : ℕ) (cut : Cut) → IsClock c logs m count cut → (q : ℕ) → cut q ≤ length (logs q)
+clock_within c logs m count cut clock q = elim (cases_lt (length (logs q)) (cut q)) [
   | inr fine ↦ fine
   | inl more ↦
       let w = clock.only (at q (length (logs q))) more in
@@ -52,11 +52,11 @@ step_within log l end within ends = elim (cases_lt (length log) end) [
 ]
 
 -- the clock with the entry, up to the end of its step, is the least moment at which the entry has come
-pub moment_of : (logs : Logs) (m l end : ℕ) (clock cut : Cut) → IsClock logs m (l + 1) clock → EndsStep (logs m) l end → ((q : ℕ) → cut q ≡ max (clock q) (cond (q == m) end 0))
+pub moment_of : (logs : Logs) (m l end : ℕ) (clock cut : Cut) → IsClock HappenedBefore logs m (l + 1) clock → EndsStep (logs m) l end → ((q : ℕ) → cut q ≡ max (clock q) (cond (q == m) end 0))
     → IsLeastMomentOfReceipt logs (at m l) cut
 moment_of logs m l end clock cut is_clock ends counts r here = least_moment logs r (at m l) here cut (cut_of_step logs r m l end clock cut here with_clock ends joins) where
-  with_clock : IsClock logs m (suc l) clock
-  with_clock = (let same : l + 1 ≡ suc l = omega arith in subst (λ (k : ℕ). IsClock logs m k clock) same is_clock)
+  with_clock : IsClock HappenedBefore logs m (suc l) clock
+  with_clock = (let same : l + 1 ≡ suc l = omega arith in subst (λ (k : ℕ). IsClock HappenedBefore logs m k clock) same is_clock)
 
   joins : (i : Position) → HasCome cut i ↔ HasCome clock i ⊎ ((i.member ≡ m) × (i.number < end))
   joins i =
@@ -67,7 +67,7 @@ moment_of logs m l end clock cut is_clock ends counts r here = least_moment logs
         λ h. subst (λ (x : ℕ). i.number < x) (sym count) (both.1 (elim h [ inl x ↦ inl x | inr x ↦ inr (own.1 x) ])),
       )
 
-pub moment_within : (logs : Logs) (m l end : ℕ) (clock cut : Cut) → l < length (logs m) → IsClock logs m (l + 1) clock → EndsStep (logs m) l end → ((q : ℕ) → cut q ≡ max (clock q) (cond (q == m) end 0))
+pub moment_within : (logs : Logs) (m l end : ℕ) (clock cut : Cut) → l < length (logs m) → IsClock HappenedBefore logs m (l + 1) clock → EndsStep (logs m) l end → ((q : ℕ) → cut q ≡ max (clock q) (cond (q == m) end 0))
     → (q : ℕ) → cut q ≤ length (logs q)
 moment_within logs m l end clock cut within is_clock ends counts q = at_member (q == m) refl where
   at_member : (b : Bool) → (q == m) ≡ b → cut q ≤ length (logs q)
@@ -75,40 +75,40 @@ moment_within logs m l end clock cut within is_clock ends counts q = at_member (
       let same : q ≡ m = eqb-true q m own in
       let count : cut q ≡ max (clock q) end = counts q ∙ ap (λ b. max (clock q) (cond b end 0)) own in
       let lengths : length (logs q) ≡ length (logs m) = ap (λ q. length (logs q)) same in
-      let below = clock_within logs m (l + 1) clock is_clock q in
+      let below = clock_within HappenedBefore logs m (l + 1) clock is_clock q in
       let step = step_within (logs m) l end within ends in
       omega (arith, count, lengths, below, step)
   at_member false other =
       let count : cut q ≡ max (clock q) 0 = counts q ∙ ap (λ b. max (clock q) (cond b end 0)) other in
-      let below = clock_within logs m (l + 1) clock is_clock q in
+      let below = clock_within HappenedBefore logs m (l + 1) clock is_clock q in
       omega (arith, count, below)
 
 -- ---- a pass
 
-pub AreAdvances-none : (entries : List Entry) (advances : List Advance) → advances ≡ [] → AreAdvances entries 0 advances
-AreAdvances-none entries advances none = subst (λ (xs : List Advance). AreAdvances entries 0 xs) (sym none) (record { count = refl; each = λ k a there. cc })
+pub AreAdvances-none : (c : Causality) (entries : List Entry) (advances : List Advance) → advances ≡ [] → AreAdvances c entries 0 advances
+AreAdvances-none c entries advances none = subst (λ (xs : List Advance). AreAdvances c entries 0 xs) (sym none) (record { count = refl; each = λ k a there. cc })
 
 -- one entry more
-pub AreAdvances-push : (entries : List Entry) (p : ℕ) (advances : List Advance) (advance : Advance) → AreAdvances entries p advances → IsAdvance entries p advance → AreAdvances entries (p + 1) (advances ++ advance ∷ [])
-AreAdvances-push entries p advances advance are is = record {
+pub AreAdvances-push : (c : Causality) (entries : List Entry) (p : ℕ) (advances : List Advance) (advance : Advance) → AreAdvances c entries p advances → IsAdvance c entries p advance → AreAdvances c entries (p + 1) (advances ++ advance ∷ [])
+AreAdvances-push c entries p advances advance are is = record {
   count = (let c = are.count in omega (arith, c, length-append advances (advance ∷ [])));
   each = λ k a there. elim (At-push advances advance k a there) [
     | inl old ↦ are.each k a old
     | inr new ↦
         let at_p : p ≡ k = (let n = are.count in omega (arith, new.0, n)) in
-        subst (λ (a : Advance). IsAdvance entries k a) new.1 (subst (λ (k : ℕ). IsAdvance entries k advance) at_p is)
+        subst (λ (a : Advance). IsAdvance c entries k a) new.1 (subst (λ (k : ℕ). IsAdvance c entries k advance) at_p is)
   ];
 }
 
 -- what a pass knows of an entry is its position
-pub advance_at : (entries : List Entry) (p : ℕ) (i : Position) (advance : Advance) → IsAdvance entries p advance → StandsAt entries p i → at advance.member advance.number ≡ i
+pub advance_at : {c : Causality} (entries : List Entry) (p : ℕ) (i : Position) (advance : Advance) → IsAdvance c entries p advance → StandsAt entries p i → at advance.member advance.number ≡ i
 advance_at entries p i advance is stands =
     let member : advance.member ≡ i.member = sym (is.member stands.0 stands.1) ∙ stands.2 in
     let number : advance.number ≡ i.number = is.number ∙ ap (seen entries p) member ∙ stands.3 in
     λ x. record { member = member x; number = number x }
 
 -- and so it is known
-pub advance_stands : (entries : List Entry) (p : ℕ) (e : Entry) (advance : Advance) → IsAdvance entries p advance → slice_get entries p ≡ Some e → StandsAt entries p (at (entry_member e) advance.number)
+pub advance_stands : {c : Causality} (entries : List Entry) (p : ℕ) (e : Entry) (advance : Advance) → IsAdvance c entries p advance → slice_get entries p ≡ Some e → StandsAt entries p (at (entry_member e) advance.number)
 advance_stands entries p e advance is here = (e, here, refl, sym (is.number ∙ ap (seen entries p) (sym (is.member e here))))
 
 -- a receipt that is in no log is not listed

@@ -1,5 +1,5 @@
 -- How a path from a receipt goes back from an entry that depends on it.
-use Rattle.fbl_judge.proofs.Common.{ℕ, ◌≡◌, ◌<◌, ◌≤◌, ◌+◌, inl, inr, List, [], ◌∷◌, ◌++◌, Option, Some, None, slice_get, refl, sym, ap, subst, ◌∙◌, arith, cases_lt, cases_eq, slice_get_within, DependsAt}
+use Rattle.fbl_judge.proofs.Common.{Dependence, ℕ, ◌≡◌, ◌<◌, ◌≤◌, ◌+◌, inl, inr, List, [], ◌∷◌, ◌++◌, Option, Some, None, slice_get, refl, sym, ap, subst, ◌∙◌, arith, cases_lt, cases_eq, slice_get_within, DependsAt}
 use Rattle.fbl_judge.proofs.Common.{Determinant, Mark, Send, receipt_of, send_of, Entry, Event, Carries, Logs, entry_member, log_of, IsAt, Position, Precedes, at, DependsOn, IsFirstDependent, IsReceiptAt, WellFormed, marks}
 use Rattle.std.proofs.Common.{MatchOption, reverse, ◌↔◌}
 use Rattle.std.proofs.lemmas.List.{reverse-append}
@@ -46,11 +46,11 @@ module _ (run : RunParts) (obeys : WellFormed run.members (marks run.entries)) (
   depends_j = (i, receipt_i, before.4)
 
   -- what depends on the receipt it precedes
-  precedes_all : (k : Position) → DependsOn logs d k → Precedes logs i k
+  precedes_all : (k : Position) → DependsOn logs d k → Precedes Dependence logs i k
   precedes_all k depends =
       let o = one_position run.members es obeys depends.0.member depends.0.number i.member i.number (receipt_of d) depends.1 receipt_i in
       let same : depends.0 ≡ i = λ x. at (o.0 x) (o.1 x) in
-      subst (λ (x : Position). Precedes logs x k) same depends.2
+      subst (λ (x : Position). Precedes Dependence logs x k) same depends.2
 
   -- the member depends on it
   pub some_dependent : (member : ℕ) → member ≡ j.member → DependsSome run d member
@@ -84,7 +84,7 @@ module _ (run : RunParts) (obeys : WellFormed run.members (marks run.entries)) (
   is_receipt first = (let r = first_is_receipt logs d j first in (r.0, placed_at es p j (Event (receipt_of r.0)) before.3 r.1))
 
   pub sent : IsFirstDependent logs d j → ¬ (p ≡ start) → (r : Determinant) → slice_get es p ≡ Some (Event (receipt_of r))
-      → (k : ℕ) × IsAt logs (at r.from k) (Event (Send r.from r.ssn r.to)) × Precedes logs i (at r.from k)
+      → (k : ℕ) × IsAt logs (at r.from k) (Event (Send r.from r.ssn r.to)) × Precedes Dependence logs i (at r.from k)
   sent first other r at_p = elim (last_step before.4) [
     | inl same ↦ absurd (
         let there = subst (λ (x : Position). IsReceiptAt logs d x) same receipt_i in
@@ -102,12 +102,12 @@ module _ (run : RunParts) (obeys : WellFormed run.members (marks run.entries)) (
         let both : Some (Send r.from r.ssn r.to) ≡ Some s = ap send_of same ∙ takes in
         cc
 
-    by_send : (k : Position) → Precedes logs i k → (s : Mark) → IsAt logs k (Event s) → s ≡ Send r.from r.ssn r.to
-        → (k : ℕ) × IsAt logs (at r.from k) (Event (Send r.from r.ssn r.to)) × Precedes logs i (at r.from k)
+    by_send : (k : Position) → Precedes Dependence logs i k → (s : Mark) → IsAt logs k (Event s) → s ≡ Send r.from r.ssn r.to
+        → (k : ℕ) × IsAt logs (at r.from k) (Event (Send r.from r.ssn r.to)) × Precedes Dependence logs i (at r.from k)
     by_send k path s at_k is =
         let send = subst (λ (s : Mark). IsAt logs k (Event s)) is at_k in
         let own : r.from ≡ k.member = (locate_all es k.member k.number (Event (Send r.from r.ssn r.to)) send).3 in
-        let P : ℕ → Type 0 = λ m. IsAt logs (at m k.number) (Event (Send r.from r.ssn r.to)) × Precedes logs i (at m k.number) in
+        let P : ℕ → Type 0 = λ m. IsAt logs (at m k.number) (Event (Send r.from r.ssn r.to)) × Precedes Dependence logs i (at m k.number) in
         let both = subst P (sym own) (send, path) in
         (k.number, both.0, both.1)
 
@@ -130,7 +130,7 @@ module _ (run : RunParts) (obeys : WellFormed run.members (marks run.entries)) (
       let early = sent_before run.members es obeys p (receipt_of r) (Send r.from r.ssn r.to) at_p refl in
       let here : early.0 ≡ place = once run.members es obeys early.0 place (Send r.from r.ssn r.to) early.2 is.2 in
       let at_j = stands_at es p j (Event (receipt_of r)) before.3 at_p in
-      let path = subst (λ (k : ℕ). Precedes logs i (at r.from k)) same.1 s.2 in
+      let path = subst (λ (k : ℕ). Precedes Dependence logs i (at r.from k)) same.1 s.2 in
       let carries : Carries (Event (Send r.from r.ssn r.to)) (Event (receipt_of r)) = (Send r.from r.ssn r.to, receipt_of r, refl, refl, refl) in
       ((let e = early.1 in omega (arith, e, here)), (at r.from is.0, j, is.1, before.3, (Event (Send r.from r.ssn r.to), Event (receipt_of r), at_place, at_j, inr carries)), (i, at r.from is.0, before.2, is.1, path))
 

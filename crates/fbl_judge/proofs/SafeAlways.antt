@@ -1,7 +1,7 @@
 -- A run is always safe exactly where it is at the least moments at which the members depend on its receipts.
 use Rattle.fbl_judge.proofs.Common.{ℕ, zero, suc, Bool, true, false, ◌≡◌, ◌==◌, ◌&&◌, ◌<◌, ◌≤◌, ◌⊎◌, ◌↔◌, inl, inr, List, take, Some, slice_get, refl, sym, ap, subst, ◌∙◌, arith}
 use Rattle.fbl_judge.proofs.Common.{cases_eq, cases_lt, eqb-true, eqb-self, false≢true, slice_get_within, slice_get_read, slice_get-take, list_any, take-append-drop, At-front, drop, length-take, Determinant, Mark, Send, Receipt, send_of, len-within}
-use Rattle.fbl_judge.proofs.Common.{Entry, Event, Hold, Store, Logs, log_of, IsAt, Position, at, Cut, HasCome, AllBelow, Members, AreEntries, Run, AlwaysSafe, IsSafeFromTheFirst}
+use Rattle.fbl_judge.proofs.Common.{Entry, Event, Hold, Store, Tell, Told, Logs, log_of, IsAt, Position, at, Cut, HasCome, AllBelow, Members, AreEntries, Run, AlwaysSafe, IsSafeFromTheFirst}
 use Rattle.fbl_judge.proofs.Common.{DependsOn, HoldsAt, IsStoredAt, IsFirstDependent, IsLeastMoment, IsMoment, IsReceiptAt, AreStruckOrHold, LosesAt, MayBeLost, bound}
 use Rattle.fbl_trace.specs.MemberSets.{contains-insert_same, contains-insert_other, contains-union}
 use Rattle.fbl_trace.proofs.RulesLaws.{Decides-same_determinant}
@@ -60,11 +60,15 @@ abbrev is_hold : Determinant → ℕ → Entry → Bool
 is_hold d q (Event e) = false
 is_hold d q (Hold holder d') = (holder == q) && same_determinant d' d
 is_hold d q (Store member d') = false
+is_hold d q (Tell m) = false
+is_hold d q (Told m) = false
 
 is_hold-true : (d : Determinant) (q : ℕ) (e : Entry) → is_hold d q e ≡ true → e ≡ Hold q d
 is_hold-true d q (Event e) is = cc
 is_hold-true d q (Hold holder d') is = (let parts = and_parts (holder == q) (same_determinant d' d) is in (let a = eqb-true holder q parts.0 in let b = (Decides-same_determinant d' d).0 parts.1 in λ i. Hold (a i) (b i)))
 is_hold-true d q (Store member d') is = cc
+is_hold-true d q (Tell m) is = cc
+is_hold-true d q (Told m) is = cc
 
 is_hold-self : (d : Determinant) (q : ℕ) → is_hold d q (Hold q d) ≡ true
 is_hold-self d q = (let same = (Decides-same_determinant d d).1 refl in rw (eqb-self q, same) refl)
@@ -93,7 +97,7 @@ module _ (run : Run) (entries : List Entry) (is : run.logs ≡ log_of entries) (
   pub least_of : (d : Determinant) (j : Position) → IsReceiptAt run.logs d j → (cut : Cut) × IsLeastMoment run.logs j cut × IsCutOf run.logs j cut
   least_of =
       let P : Logs → Type 0 = λ logs. (d : Determinant) (j : Position) → IsReceiptAt logs d j → (cut : Cut) × IsLeastMoment logs j cut × IsCutOf logs j cut in
-      subst P (sym is) (has_least run.members entries rules.events)
+      subst P (sym is) (has_least run.members entries rules.events rules.told)
 
   -- who has an entry is of the group
   pub of_group : (q k : ℕ) (e : Entry) → IsAt run.logs (at q k) e → q < run.members

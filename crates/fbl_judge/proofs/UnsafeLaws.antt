@@ -1,5 +1,5 @@
 -- What is said of a receipt is so, and nothing is said where it is safe.
-use Rattle.fbl_judge.proofs.Common.{ℕ, zero, suc, Bool, true, false, ◌≡◌, ◌<◌, ◌≤◌, ◌+◌, ◌⊎◌, ◌↔◌, inl, inr, List, [], ◌∷◌, Option, Some, None, slice_get, refl, sym, ap, subst, ◌∙◌, arith}
+use Rattle.fbl_judge.proofs.Common.{Dependence, ℕ, zero, suc, Bool, true, false, ◌≡◌, ◌<◌, ◌≤◌, ◌+◌, ◌⊎◌, ◌↔◌, inl, inr, List, [], ◌∷◌, Option, Some, None, slice_get, refl, sym, ap, subst, ◌∙◌, arith}
 use Rattle.fbl_judge.proofs.Common.{cases_lt, false≢true, Determinant, receipt_of, AllBelow, Members, contains-union}
 use Rattle.fbl_judge.proofs.Common.{Entry, Event, Logs, log_of, IsAt, Position, Precedes, at, Cut, DependsOn, DependsAt, HoldsAt, IsFirstDependent, IsLeastMoment, IsReceiptAt}
 use Rattle.fbl_judge.proofs.Common.{AreEntries, AreStruckOrHold, IsJudgedAt, IsMoment, IsSafe, Run, bound, filter_map-At, last_cut, len-within}
@@ -127,9 +127,9 @@ module _ (log : RunParts) (rules : AreEntries log.members log.entries) (struck :
       λ x. record { member = o.0 x; number = o.1 x }
 
   -- so what depends on it is what it precedes
-  pub depends_iff : (i j : Position) → IsReceiptAt run.logs d i → DependsOn run.logs d j ↔ Precedes run.logs i j
+  pub depends_iff : (i j : Position) → IsReceiptAt run.logs d i → DependsOn run.logs d j ↔ Precedes Dependence run.logs i j
   depends_iff i j at_i = (
-    λ depends. subst (λ (k : Position). Precedes run.logs k j) (one depends.0 i depends.1 at_i) depends.2,
+    λ depends. subst (λ (k : Position). Precedes Dependence run.logs k j) (one depends.0 i depends.1 at_i) depends.2,
     λ precedes. (i, at_i, precedes),
   )
 
@@ -141,7 +141,7 @@ module _ (log : RunParts) (rules : AreEntries log.members log.entries) (struck :
   }
 
   -- who has an entry that it precedes depends on it
-  pub dependents_at : (i : Position) → IsReceiptAt run.logs d i → (cut : Cut) (dependents : Members) → ((q : ℕ) → (set.contains dependents q ≡ true) ↔ PrecedesSome run.logs i q (cut q))
+  pub dependents_at : (i : Position) → IsReceiptAt run.logs d i → (cut : Cut) (dependents : Members) → ((q : ℕ) → (set.contains dependents q ≡ true) ↔ PrecedesSome Dependence run.logs i q (cut q))
       → (q : ℕ) → (set.contains dependents q ≡ true) ↔ DependsAt run.logs cut d q
   dependents_at i at_i cut dependents are q = (
     λ h. (let p = (are q).0 h in (p.0, (depends_iff i (at q p.0) at_i).1 p.2, p.1)),
@@ -150,14 +150,14 @@ module _ (log : RunParts) (rules : AreEntries log.members log.entries) (struck :
 
   -- and if it is left, it is an orphan of it
   pub left_orphans : (i : Position) → IsReceiptAt run.logs d i → (cut : Cut) (members dependents left : Members) → left ≡ set.difference dependents members
-      → ((q : ℕ) → (set.contains dependents q ≡ true) ↔ PrecedesSome run.logs i q (cut q)) → (q : ℕ) → (set.contains left q ≡ true) ↔ IsLeftOrphanAt run cut members d q
+      → ((q : ℕ) → (set.contains dependents q ≡ true) ↔ PrecedesSome Dependence run.logs i q (cut q)) → (q : ℕ) → (set.contains left q ≡ true) ↔ IsLeftOrphanAt run cut members d q
   left_orphans i at_i cut members dependents left is are q = subst (λ (s : Members). (set.contains s q ≡ true) ↔ IsLeftOrphanAt run cut members d q) (sym is) (
       let left_of = set.contains-difference nat_cmp_total dependents members q in
       let depends = dependents_at i at_i cut dependents are q in
       grind (arith, left_of, depends))
 
   -- where it precedes none of a member's entries the member is an orphan of no candidate
-  pub none_after : (i : Position) (q : ℕ) → IsReceiptAt run.logs d i → ((k : ℕ) → ¬ (Precedes run.logs i (at q k))) → HasNoCandidate run d q
+  pub none_after : (i : Position) (q : ℕ) → IsReceiptAt run.logs d i → ((k : ℕ) → ¬ (Precedes Dependence run.logs i (at q k))) → HasNoCandidate run d q
   none_after i q at_i none k cut strike candidate = none k ((depends_iff i (at q k) at_i).0 candidate.first.depends)
 
   -- ---- at one cut

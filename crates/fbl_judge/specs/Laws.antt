@@ -3,6 +3,7 @@ use Rattle.std.specs.Prelude.{ℕ, ◌≡◌, ◌≤◌, ◌⊎◌, ◌↔◌, t
 use Rattle.std.specs.FinSet as set
 use Rattle.fbl_trace.specs.declared.trace.Determinant.{Determinant}
 use Rattle.fbl_trace.specs.MemberSets.{AllBelow, Members}
+use Rattle.fbl_runs.specs.declared.causality.Causality.TheVariants.{HappenedBefore}
 use Rattle.fbl_runs.specs.declared.entry.Entry.{Entry}
 use Rattle.fbl_runs.specs.Entries.{log_of}
 use Rattle.fbl_runs.specs.HappenedBefore.{Position, Precedes}
@@ -19,7 +20,7 @@ LeastMomentLaw =
     (n : ℕ) (entries : List Entry) → AreEntries n entries
     → (d : Determinant) (j : Position) → IsReceiptAt (log_of entries) d j
     → (cut : Cut) × IsLeastMoment (log_of entries) j cut
-    × ((i : Position) → HasCome cut i ↔ Precedes (log_of entries) i j ⊎ IsInStepOf (log_of entries) j i)
+    × ((i : Position) → HasCome cut i ↔ Precedes HappenedBefore (log_of entries) i j ⊎ IsInStepOf (log_of entries) j i)
 
 -- a run is always safe exactly where it is at the least moments at which the members depend on its receipts
 abbrev pub AlwaysSafeLaw : Type 0

@@ -1,6 +1,7 @@
 -- What the pasts of a run's entries say of them.
 use Rattle.std.specs.Prelude.{ℕ, ◌≡◌, ◌<◌, List, length}
 use Rattle.fbl_trace.specs.declared.trace.Determinant.{Determinant}
+use Rattle.fbl_runs.specs.declared.causality.Causality.TheVariants.{Dependence, HappenedBefore}
 use Rattle.fbl_runs.specs.declared.clock.Clock.{Clock}
 use Rattle.fbl_runs.specs.declared.clocks.Advance.{Advance}
 use Rattle.fbl_runs.specs.declared.entry.Entry.{Entry}
@@ -10,19 +11,21 @@ use Rattle.fbl_runs.specs.HappenedBefore.{Position, Precedes, at}
 use Rattle.fbl_runs.specs.Logs.{IsRun, RunParts}
 use Rattle.fbl_runs.specs.Moments.{Cut, IsLeastMoment, IsReceiptAt}
 
--- it is its member's first entry that the other precedes
+-- it is its member's first entry that depends on the other
 pub record IsFirstAfter (logs : Logs) (i j : Position) : Type 0 where
-  pub precedes : Precedes logs i j
-  pub first : (k : ℕ) → k < j.number → ¬ (Precedes logs i (at j.member k))
+  pub precedes : Precedes Dependence logs i j
+  pub first : (k : ℕ) → k < j.number → ¬ (Precedes Dependence logs i (at j.member k))
 
 -- if the entry is a receipt, the cut is the least moment at which it has come
 abbrev pub IsLeastMomentOfReceipt : Logs → Position → Cut → Type 0
 IsLeastMomentOfReceipt logs j cut = (r : Determinant) → IsReceiptAt logs r j → IsLeastMoment logs j cut
 
--- the run obeys its rules, the index is of its entries, two clocks are those of nothing and of all, and the others are known of each entry
-pub record AreOf (run : RunParts) (indexed : List Entry) (empty full : Clock) (advances : List Advance) : Type 0 where
+-- the run obeys its rules, the index is of its entries, two clocks are those of nothing and of all, and of each entry it is known what
+-- happened before it and on what it depends
+pub record AreOf (run : RunParts) (indexed : List Entry) (empty full : Clock) (befores dependences : List Advance) : Type 0 where
   pub rules : IsRun run
   pub index : indexed ≡ run.entries
   pub none : IsNoClock empty
   pub last : (q : ℕ) → cut_of full q ≡ length (log_of run.entries q)
-  pub all : AreAdvances run.entries (length run.entries) advances
+  pub before : AreAdvances HappenedBefore run.entries (length run.entries) befores
+  pub depends : AreAdvances Dependence run.entries (length run.entries) dependences

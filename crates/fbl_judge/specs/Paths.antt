@@ -1,10 +1,11 @@
--- Why a member depends on a receipt: a path of steps of causality from the one to the other.
+-- Why a member depends on a receipt: a path of steps that carry dependence from the one to the other.
 use Rattle.std.specs.Prelude.{ℕ, ◌≡◌, ◌<◌, ◌≤◌, ◌+◌, true, List, [], ◌∷◌, Option, Some, None, slice_get}
 use Rattle.fbl_trace.specs.declared.trace.Determinant.{Determinant}
 use Rattle.fbl_trace.specs.Events.{receipt_of}
 use Rattle.fbl_trace.specs.MemberSets.{Members}
 use Rattle.std.specs.FinSet as set
 use Rattle.fbl_judge.specs.declared.paths.OrphanPath.{OrphanPath}
+use Rattle.fbl_runs.specs.declared.causality.Causality.TheVariants.{Dependence}
 use Rattle.fbl_runs.specs.declared.entry.Entry.{Entry}
 use Rattle.fbl_runs.specs.declared.entry.Entry.TheVariants.{Event}
 use Rattle.fbl_runs.specs.Clocks.{StandsAt}
@@ -18,9 +19,9 @@ abbrev pub IsDependentPlace : RunParts → Determinant → ℕ → ℕ → Type 
 IsDependentPlace run d member place =
     (number : ℕ) × StandsAt run.entries place (at member number) × IsFirstDependent (log_of run.entries) d (at member number)
 
--- one step of causality leads from the entry at the one place to that at the other
+-- one step that carries dependence leads from the entry at the one place to that at the other
 abbrev pub PlaceLeads : List Entry → ℕ → ℕ → Type 0
-PlaceLeads entries p q = (i : Position) × (j : Position) × StandsAt entries p i × StandsAt entries q j × Leads (log_of entries) i j
+PlaceLeads entries p q = (i : Position) × (j : Position) × StandsAt entries p i × StandsAt entries q j × Leads Dependence (log_of entries) i j
 
 -- the places begin at p and end at q, and each leads to the next
 pub data IsPath (entries : List Entry) : ℕ → ℕ → List ℕ → Type 0 where
@@ -51,9 +52,9 @@ DependsIn run d members q = (set.contains members q ≡ true) × DependsSome run
 
 -- ---- how paths are found
 
--- the entry at the place is preceded by that at the start
+-- the entry at the place depends on that at the start
 abbrev pub PlacePrecedes : List Entry → ℕ → ℕ → Type 0
-PlacePrecedes entries start place = (i : Position) × (j : Position) × StandsAt entries start i × StandsAt entries place j × Precedes (log_of entries) i j
+PlacePrecedes entries start place = (i : Position) × (j : Position) × StandsAt entries start i × StandsAt entries place j × Precedes Dependence (log_of entries) i j
 
 -- the places are those of the receipt, and of the member's first entry that depends on it
 pub record ArePathEnds (run : RunParts) (d : Determinant) (member start end : ℕ) : Type 0 where

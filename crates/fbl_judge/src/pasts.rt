@@ -2,17 +2,18 @@
 
 ghost use Rattle.std.specs.Prelude.{◌≡◌, ◌<◌, ◌+◌, ◌≤◌, ◌↔◌, ℕ, Some, true, IfOk, MatchOption, length, slice_get};
 ghost use Rattle.std.specs.FinSet as set;
-ghost use Rattle.fbl_runs.specs.Clocks.{IsAdvance, IsClock, PrecedesSome, StandsAt, cut_of};
+ghost use Rattle.fbl_runs.specs.Clocks.{AreAdvances, IsAdvance, IsClock, IsLawful, PrecedesSome, StandsAt, cut_of};
 ghost use Rattle.fbl_runs.specs.Entries.{log_of};
 ghost use Rattle.fbl_runs.specs.HappenedBefore.{Position, Precedes, at};
 ghost use Rattle.fbl_runs.specs.Moments.{DependsAt, IsFirstDependent};
+ghost use Rattle.fbl_runs.specs.declared.causality.Causality.TheVariants.{Dependence, HappenedBefore};
 ghost use Rattle.fbl_runs.specs.declared.entry.Entry.TheVariants.{Event};
 ghost use Rattle.fbl_trace.specs.Events.{receipt_of};
 ghost use Rattle.fbl_judge.specs.Pasts.{IsFirstAfter, IsLeastMomentOfReceipt};
 ghost use Rattle.fbl_judge.specs.Paths.{ArePathEnds, DependsSome, IsDependentPlace};
 ghost use Rattle.fbl_runs.specs.Logs.{IsRun};
 
-use fbl_runs::{Advance, Clock, Clocks, Entry, Index, Run};
+use fbl_runs::{Advance, Causality, Clock, Clocks, Entry, Index, Run};
 use fbl_trace::{Determinant, Member, MemberSet};
 use std::alloc::{AllocError, Global};
 use std::marker::Model;
@@ -26,8 +27,10 @@ pub struct Pasts<'a> {
     none: Clock,
     /// The clock at which all entries have come.
     last: Clock,
-    /// For each entry, at its place, what a pass over them knows of it.
-    advances: Vec<Advance>,
+    /// For each entry, at its place, what happened before it.
+    before: Vec<Advance>,
+    /// For each entry, at its place, on what it depends.
+    depends: Vec<Advance>,
 }
 
 impl<'a> Model for Pasts<'a> {
@@ -45,7 +48,24 @@ impl<'a> Model for Pasts<'a> {
 
     ghost view = { λ p. p.run.now };
 
-    ghost invariant = { λ p. AreOf p.run.now p.index p.none p.last p.advances.items };
+    ghost invariant = { λ p. AreOf p.run.now p.index p.none p.last p.before.items p.depends.items };
+}
+
+/// What a pass over the entries knows of each.
+fn advances_of(
+    alloc: Global,
+    entries: &[Entry],
+    causality: Causality,
+) -> Result<Vec<Advance>, AllocError>
+    requires { IsLawful entries.now }
+    ensures { IfOk result (λ v. AreAdvances causality entries.now (length entries.now) v.items) }
+{
+    let mut pass = Clocks::new(alloc, causality);
+    let mut advances = Vec::with_capacity(alloc, entries.len())?;
+    for place in 0..entries.len() {
+        advances.push(pass.add(entries, place)?)?;
+    }
+    Ok(advances)
 }
 
 impl<'a> Pasts<'a> {
@@ -55,11 +75,8 @@ impl<'a> Pasts<'a> {
         ensures { IfOk result (λ pasts. pasts ≡ run.now) }
     {
         let entries = run.entries();
-        let mut pass = Clocks::new(alloc);
-        let mut advances = Vec::with_capacity(alloc, entries.len())?;
-        for place in 0..entries.len() {
-            advances.push(pass.add(entries, place)?)?;
-        }
+        let before = advances_of(alloc, entries, Causality::HappenedBefore)?;
+        let depends = advances_of(alloc, entries, Causality::Dependence)?;
         let index = Index::of(alloc, entries)?;
         let last = index.last();
         Ok(Pasts {
@@ -67,7 +84,8 @@ impl<'a> Pasts<'a> {
             index,
             none: Clock::none(),
             last,
-            advances,
+            before,
+            depends,
         })
     }
 
@@ -87,12 +105,23 @@ impl<'a> Pasts<'a> {
         self.run.entries()
     }
 
-    /// What a pass over the entries knows of the entry at the place.
+    /// What a pass over the entries knows of the entry at the place: what happened before it, or on what it depends.
+    fn known(&self, causality: Causality, place: usize) -> &Advance
+        requires { place < length self.now.entries }
+        ensures { IsAdvance causality self.now.entries place result.now }
+    {
+        match causality {
+            Causality::HappenedBefore => &self.before[place],
+            Causality::Dependence => &self.depends[place],
+        }
+    }
+
+    /// What a pass over the entries knows of the entry at the place, and of what happened before it.
     pub fn advance(&self, place: usize) -> &Advance
         requires { place < length self.now.entries }
-        ensures { IsAdvance self.now.entries place result.now }
+        ensures { IsAdvance HappenedBefore self.now.entries place result.now }
     {
-        &self.advances[place]
+        self.known(Causality::HappenedBefore, place)
     }
 
     /// The entries' index.
@@ -110,30 +139,30 @@ impl<'a> Pasts<'a> {
     }
 
     /// The clock of the member's first entries, this many.
-    fn clock(&self, member: Member, count: usize) -> &Clock
+    fn clock(&self, causality: Causality, member: Member, count: usize) -> &Clock
         requires { count ≤ length (log_of self.now.entries member) }
-        ensures { IsClock (log_of self.now.entries) member count (cut_of result.now) }
+        ensures { IsClock causality (log_of self.now.entries) member count (cut_of result.now) }
     {
         if count == 0 {
             return &self.none;
         }
-        &self.advance(self.index.place(member, count - 1)).with
+        &self.known(causality, self.index.place(member, count - 1)).with
     }
 
-    /// Whether the source's entry with the number precedes one of the member's first entries, this many.
+    /// Whether one of the member's first entries, this many, depends on the source's entry with the number.
     fn precedes(&self, source: Member, number: usize, member: Member, count: usize) -> bool
         requires { count ≤ length (log_of self.now.entries member) }
-        ensures { (result ≡ true) ↔ PrecedesSome (log_of self.now.entries) (at source number) member count }
+        ensures { (result ≡ true) ↔ PrecedesSome Dependence (log_of self.now.entries) (at source number) member count }
     {
-        number < self.clock(member, count).count(source)
+        number < self.clock(Causality::Dependence, member, count).count(source)
     }
 
-    /// How many of the member's entries stand before the first that the source's entry with the number precedes: all where none does.
+    /// How many of the member's entries stand before the first that depends on the source's entry with the number: all where none does.
     fn count_before(&self, source: Member, number: usize, member: Member) -> usize
         ensures within { result ≤ length (log_of self.now.entries member) }
-        ensures none { ¬ (PrecedesSome (log_of self.now.entries) (at source number) member result) }
+        ensures none { ¬ (PrecedesSome Dependence (log_of self.now.entries) (at source number) member result) }
         ensures next { result < length (log_of self.now.entries member)
-            → PrecedesSome (log_of self.now.entries) (at source number) member (result + 1) }
+            → PrecedesSome Dependence (log_of self.now.entries) (at source number) member (result + 1) }
     {
         let mut first = 0;
         let mut end = self.index.count(member);
@@ -148,10 +177,10 @@ impl<'a> Pasts<'a> {
         first
     }
 
-    /// The number of the member's first entry that the source's entry with the number precedes.
+    /// The number of the member's first entry that depends on the source's entry with the number.
     pub(crate) fn first_after(&self, source: Member, number: usize, member: Member) -> Option<usize>
         ensures { MatchOption result
-            ((k : ℕ) → ¬ (Precedes (log_of self.now.entries) (at source number) (at member k)))
+            ((k : ℕ) → ¬ (Precedes Dependence (log_of self.now.entries) (at source number) (at member k)))
             (λ k. IsFirstAfter (log_of self.now.entries) (at source number) (at member k)) }
     {
         let count = self.count_before(source, number, member);
@@ -169,7 +198,7 @@ impl<'a> Pasts<'a> {
         ensures within { (q : ℕ) → cut_of result q ≤ length (log_of self.now.entries q) }
     {
         let end = self.index.step_end(member, number);
-        let clock = self.clock(member, number + 1);
+        let clock = self.clock(Causality::HappenedBefore, member, number + 1);
         clock.reaching(member, end)
     }
 
@@ -183,12 +212,12 @@ impl<'a> Pasts<'a> {
         self.moment(advance.member, advance.number)
     }
 
-    /// The members that have an entry at the clock's cut that the source's entry with the number precedes.
+    /// The members that have an entry at the clock's cut that depends on the source's entry with the number.
     pub fn reached(&self, source: Member, number: usize, moment: &Clock) -> MemberSet
         requires { (q : ℕ) → cut_of moment.now q ≤ length (log_of self.now.entries q) }
         ensures { (q : ℕ)
             → (set.contains result q ≡ true)
-            ↔ PrecedesSome (log_of self.now.entries) (at source number) q (cut_of moment.now q) }
+            ↔ PrecedesSome Dependence (log_of self.now.entries) (at source number) q (cut_of moment.now q) }
     {
         let mut reached = MemberSet::empty();
         for number_of_member in 0..16u8 {

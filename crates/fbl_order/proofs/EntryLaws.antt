@@ -1,10 +1,10 @@
 -- A log may have its entries in any order that keeps the members' logs.
 use Rattle.fbl_order.proofs.Common.{ℕ, List, None, Some, ◌≡◌, ◌≤◌, ◌+◌, ◌==◌, ◌∙◌, [], ◌∷◌, zero, suc, refl, sym, ap, arith, length, slice_get, subst, take, Entry}
-use Rattle.fbl_order.proofs.Common.{Event, Hold, Store, entry_member, recorded_in, IsFewAt, records, IsLog, RunParts, IsOrderOfEntries, SameEntryLogs, with_entries}
+use Rattle.fbl_order.proofs.Common.{Event, Hold, Store, Tell, Told, entry_member, recorded_in, IsFewAt, records, IsLog, RunParts, IsOrderOfEntries, SameEntryLogs, with_entries}
 use Rattle.fbl_order.proofs.Common.{sum_by, add-one, At-filter, drop, sum_by-cons, eqb-self, filter_map-append, length-append, take-append-drop, take_all}
 use Rattle.fbl_runs.specs.Entries.{Logs, log_of}
 use Rattle.fbl_runs.specs.HappenedBefore.{IsAt}
-use Rattle.fbl_runs.specs.Moments.{DependsOn}
+use Rattle.fbl_runs.specs.Moments.{IsKnownTo}
 use Rattle.fbl_runs.proofs.RunLaws.{records-none, records-some}
 use Rattle.fbl_order.specs.Answers.{SameAnswers}
 use Rattle.fbl_order.proofs.Independence.{same_answers}
@@ -34,6 +34,8 @@ same_records a b same =
       counted (Event m ∷ es) = omega (arith, counted es, sum_by-cons (λ (e : Entry). length (records (e ∷ []))) (Event m) es)
       counted (Hold holder d ∷ es) = omega (arith, counted es, sum_by-cons (λ (e : Entry). length (records (e ∷ []))) (Hold holder d) es)
       counted (Store member d ∷ es) = omega (arith, counted es, sum_by-cons (λ (e : Entry). length (records (e ∷ []))) (Store member d) es)
+      counted (Tell m ∷ es) = omega (arith, counted es, sum_by-cons (λ (e : Entry). length (records (e ∷ []))) (Tell m) es)
+      counted (Told m ∷ es) = omega (arith, counted es, sum_by-cons (λ (e : Entry). length (records (e ∷ []))) (Told m) es)
 
 few_same : (a b : List Entry) → SameEntryLogs a b → ((i : ℕ) → IsFewAt a i) → (i : ℕ) → IsFewAt b i
 few_same a b same few i e d at has =
@@ -60,12 +62,13 @@ log_same log entries is order = record {
     lawful = record {
       size = is.run.lawful.size;
       events = order.obeys;
+      told = order.told;
       members = λ i e at. (let there = has_same log.entries entries order.logs i e at in is.run.lawful.members there.0 e there.1);
     };
   };
   known = λ j e d at has. (
       let logs : log_of log.entries ≡ log_of entries = λ i q. order.logs q i in
-      subst (λ (logs : Logs). DependsOn logs d j) logs (is.known j e d (subst (λ (logs : Logs). IsAt logs j e) (sym logs) at) has)
+      subst (λ (logs : Logs). IsKnownTo logs d j) logs (is.known j e d (subst (λ (logs : Logs). IsAt logs j e) (sym logs) at) has)
       );
   few = few_same log.entries entries order.logs is.few;
 }

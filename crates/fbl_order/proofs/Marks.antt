@@ -1,6 +1,6 @@
 -- The sends and receipts among entries, and in a member's log.
 use Rattle.fbl_order.proofs.Common.{ℕ, List, Mark, None, Some, [], ◌∷◌, ◌++◌, ◌+◌, ◌<◌, ◌≡◌, ◌==◌, ◌∙◌, true, false, cond, ap, arith, drop, length-append, refl, sym, length, take-append-drop, take, slice_get, filter_map-append}
-use Rattle.fbl_order.proofs.Common.{Entry, Event, Hold, Store, entry_member, mark_in, marks, member_of, own, Begins, log_of, Has, HasEvent, At-filter_map, filter_map-At, as_entries, items_at}
+use Rattle.fbl_order.proofs.Common.{Entry, Event, Hold, Store, Tell, Told, entry_member, mark_in, marks, member_of, own, Begins, log_of, Has, HasEvent, At-filter_map, filter_map-At, as_entries, items_at}
 use Rattle.fbl_order.proofs.Own.{own-front, own-push}
 use Rattle.fbl_runs.proofs.RunLaws.{marks-some}
 use Rattle.fbl_trace.proofs.Common.{cons_option}
@@ -26,6 +26,13 @@ marks-own q (Store member d ∷ es) =
       | true ↦ rest
       | false ↦ rest
     ]
+
+marks-own q (Tell t ∷ es) =
+    let rest = marks-own q es in
+    elim (t.from == q) as (λ b. marks (cond b (Tell t ∷ own entry_member q es) (own entry_member q es)) ≡ own member_of q (marks es)) [ true ↦ rest | false ↦ rest ]
+marks-own q (Told t ∷ es) =
+    let rest = marks-own q es in
+    elim (t.to == q) as (λ b. marks (cond b (Told t ∷ own entry_member q es) (own entry_member q es)) ≡ own member_of q (marks es)) [ true ↦ rest | false ↦ rest ]
 
 -- those of a member in a front begin those in all
 pub log-front : (q k : ℕ) (es : List Entry) → Begins (log_of q (marks (take k es))) (log_of q (marks es))
@@ -55,6 +62,8 @@ pub event_is : (e : Entry) (m : Mark) → mark_in e ≡ Some m → e ≡ Event m
 event_is (Event x) m is = cc
 event_is (Hold holder d) m is = cc
 event_is (Store member d) m is = cc
+event_is (Tell t) m is = cc
+event_is (Told t) m is = cc
 
 pub has-event : (es : List Entry) (m : Mark) → HasEvent es m → Has (marks es) m
 has-event es m has = filter_map-At mark_in es has.0 (Event m) m has.1 refl

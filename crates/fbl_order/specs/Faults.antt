@@ -16,11 +16,11 @@ use Rattle.fbl_trace.specs.Precedence.{Has}
 use Rattle.fbl_runs.specs.declared.entry.Entry.{Entry}
 use Rattle.fbl_runs.specs.declared.entry.Entry.TheVariants.{Event}
 use Rattle.fbl_runs.specs.declared.fault.LogBreach.{LogBreach}
-use Rattle.fbl_runs.specs.declared.fault.LogBreach.TheVariants.{Record, Trace}
+use Rattle.fbl_runs.specs.declared.fault.LogBreach.TheVariants.{Control, Record, Trace}
 use Rattle.fbl_runs.specs.Entries.{marks}
 use Rattle.fbl_runs.specs.Lawful.{IsEventPlace}
 use Rattle.fbl_runs.specs.Logs.{IsLogBreach, RunParts, RefusesLog}
-use Rattle.fbl_order.specs.Orders.{ArePlaces, CanCome, HasNoOrder, IsFurthest, IsOrder, IsOrderOfEntries, as_entries, log_of, with_entries, with_events}
+use Rattle.fbl_order.specs.Orders.{ArePlaces, CanCome, HasNoOrder, IsFurthest, IsOrder, IsOrderOfEvents, as_entries, log_of, with_entries, with_events}
 use Rattle.fbl_order.specs.declared.fault.Obstacle.{Obstacle}
 use Rattle.fbl_order.specs.declared.fault.Obstacle.TheVariants.{Rule, NeverSent, Received, Waits}
 use Rattle.fbl_order.specs.declared.fault.OrderFault.{OrderFault}
@@ -134,16 +134,19 @@ RefusesUnordered dump fault =
 abbrev pub place_given : List ℕ → ℕ → ℕ
 place_given places number = slice_index_or places number number
 
--- the refusal of entries that were given at these places: a hold or a store that breaks a rule is named where it was given
+-- the refusal of entries that were given at these places: a control message, a hold or a store that breaks a rule is named where it was
+-- given
 abbrev pub record_given : List ℕ → DumpRefusal → LogBreach → OrderFault
 record_given places refusal (Trace broken) = Refused refusal (Trace broken)
+record_given places refusal (Control fault) =
+    let place = place_given places fault.place in Refused (BadEvent place) (Control (record fault { place = place }))
 record_given places refusal (Record fault) =
     let place = place_given places fault.place in Refused (BadEvent place) (Record (record fault { place = place }))
 
 -- the log with its entries in an order is refused
 pub record RefusesLogInOrder (log : RunParts) (fault : OrderFault) : Type 0 where
   pub ordered : List Entry
-  pub order : IsOrderOfEntries log.members log.entries ordered
+  pub order : IsOrderOfEvents log.members log.entries ordered
   pub places : List ℕ
   pub are_places : ArePlaces log.entries ordered places
   pub refusal : DumpRefusal

@@ -1,14 +1,15 @@
 -- What a merge of the members' logs keeps.
-use Rattle.std.specs.Prelude.{ℕ, ◌≡◌, ◌<◌, List, length, Option, Some, slice_get}
+use Rattle.std.specs.Prelude.{ℕ, ◌≡◌, ◌<◌, ◌⊎◌, List, length, Option, None, Some, slice_get}
 use Rattle.fbl_trace.specs.declared.trace.Mark.{Mark}
 use Rattle.fbl_trace.specs.Rules.{Counted, MayFollow, WellFormed}
 use Rattle.fbl_trace.specs.Events.{member_of}
 use Rattle.fbl_runs.specs.declared.entry.Entry.{Entry}
 use Rattle.fbl_runs.specs.declared.entry.Entry.TheVariants.{Event}
+use Rattle.fbl_runs.specs.ControlMessages.{HasTold, IsHeard}
 use Rattle.fbl_runs.specs.Entries.{entry_member, mark_in, marks}
 use Rattle.fbl_order.specs.Cursors.{AreCursors, IsInStep, IsLeastCursor, cursor_in}
 use Rattle.fbl_order.specs.Faults.{ClosesAt, StandsIn}
-use Rattle.fbl_order.specs.Orders.{ArePlaces, items_at}
+use Rattle.fbl_order.specs.Orders.{AreHeard, ArePlaces, items_at}
 use Rattle.fbl_order.specs.declared.fault.Obstacle.{Obstacle}
 use Rattle.fbl_order.specs.declared.fault.Obstacle.TheVariants.{Waits}
 use Rattle.fbl_order.specs.declared.fault.Stuck.{Stuck}
@@ -24,14 +25,16 @@ cursor_of entries merge = cursor_in entries merge.cursors
 abbrev pub placed_of : List Entry → Merge → List Entry
 placed_of entries merge = items_at entries merge.places.items
 
--- the run has the sends and receipts that are placed and obeys the rules, and of each member the entries before its cursor are placed
+-- the run has the sends and receipts that are placed and obeys the rules, of each member the entries before its cursor are placed, and it is
+-- known what was told
 pub record Merges (n : ℕ) (entries : List Entry) (merge : Merge) : Type 0 where
   pub run : merge.run.items ≡ marks (placed_of entries merge)
   pub obeys : WellFormed n merge.run.items
   pub counted : Counted merge.run.items merge.counts
   pub places : ArePlaces entries (placed_of entries merge) merge.places.items
   pub cursors : AreCursors entry_member entries (placed_of entries merge) merge.cursors
-  pub in_step : WellFormed n (marks entries) → IsInStep entries (placed_of entries merge) merge.cursors
+  pub known : HasTold (placed_of entries merge) merge.known
+  pub in_step : WellFormed n (marks entries) → AreHeard entries → IsInStep entries (placed_of entries merge) merge.cursors
 
 -- the entry may come behind the run: if it is a send or a receipt, this obeys the rules there
 abbrev pub MayFollowAs : ℕ → List Mark → Entry → Type 0
@@ -44,6 +47,17 @@ MayComeAt n run entries place = (e : Entry) × (slice_get entries place ≡ Some
 -- of the cursors, the least whose entry may come behind the run
 abbrev pub IsLeastNext : ℕ → List Entry → Merge → Option ℕ → Type 0
 IsLeastNext n entries merge = IsLeastCursor (MayComeAt n merge.run.items entries) (cursor_of entries merge)
+
+-- the entry at the place may come behind the run, and what its member is told there was told
+abbrev pub IsReady : ℕ → List Entry → Merge → ℕ → Type 0
+IsReady n entries merge place =
+    MayComeAt n merge.run.items entries place × ((e : Entry) × (slice_get entries place ≡ Some e) × IsHeard (placed_of entries merge) e)
+
+-- of the cursors, the least whose entry is ready; where none is, the least whose entry may come behind the run
+abbrev pub IsChosen : ℕ → List Entry → Merge → Option ℕ → Type 0
+IsChosen n entries merge chosen =
+    ((place : ℕ) × (chosen ≡ Some place) × IsLeastCursor (IsReady n entries merge) (cursor_of entries merge) (Some place))
+    ⊎ (IsLeastCursor (IsReady n entries merge) (cursor_of entries merge) None × IsLeastNext n entries merge chosen)
 
 -- of the cursors, the least before the end: the first entry that is not placed, if there is one
 abbrev pub IsFirstLeft : List Entry → Merge → Option ℕ → Type 0

@@ -5,14 +5,14 @@ ghost use Rattle.fbl_trace.specs.Rules.{WellFormed};
 ghost use Rattle.fbl_runs.specs.Entries.{marks};
 ghost use Rattle.fbl_runs.specs.Logs.{IsLog, parts_of_log};
 ghost use Rattle.fbl_order.specs.Answers.{AnswersAlike};
-ghost use Rattle.fbl_order.specs.Faults.{RefusesUnorderedLog, record_given};
-ghost use Rattle.fbl_order.specs.Orders.{ArePlaces, IsOrderOfEntries, items_at, with_entries};
+ghost use Rattle.fbl_order.specs.Faults.{RefusesUnorderedLog, place_given, record_given};
+ghost use Rattle.fbl_order.specs.Orders.{AreHeard, ArePlaces, IsOrderOfEntries, items_at, with_entries};
 
 use crate::fault::OrderFault;
 use crate::merge::Merge;
 use crate::order::{Ordered, group_refusal, merge_in_order};
 use fbl_dumps::DumpRefusal;
-use fbl_runs::{Entry, LogBreach, RawLog, RecordFault, Run, checked_log};
+use fbl_runs::{ControlFault, Entry, LogBreach, RawLog, RecordFault, Run, checked_log};
 use std::alloc::{AllocError, Global};
 
 /// The entries at these places, in this order.
@@ -27,16 +27,30 @@ fn entries_at(alloc: Global, entries: &[Entry], places: &[usize]) -> Result<Vec<
     Ok(chosen)
 }
 
-/// The refusal of a log whose entries were given at these places: a hold or a store that breaks a rule is named where it was given.
+/// The place at which what has the number was given.
+fn place_given(places: &[usize], number: usize) -> usize
+    ensures { result ≡ place_given places.now number }
+{
+    places.get(number).copied().unwrap_or(number)
+}
+
+/// The refusal of a log whose entries were given at these places: a control message, a hold or a store that breaks a rule is named where it
+/// was given.
 fn refusal_as_given(refusal: DumpRefusal, breach: LogBreach, places: &[usize]) -> OrderFault
     ensures { result ≡ record_given places.now refusal breach }
 {
-    let LogBreach::Record(fault) = breach else {
-        return OrderFault::Refused(refusal, breach);
+    let (place, breach) = match breach {
+        LogBreach::Trace(_) => return OrderFault::Refused(refusal, breach),
+        LogBreach::Control(fault) => {
+            let place = place_given(places, fault.place);
+            (place, LogBreach::Control(ControlFault { place, ..fault }))
+        }
+        LogBreach::Record(fault) => {
+            let place = place_given(places, fault.place);
+            (place, LogBreach::Record(RecordFault { place, ..fault }))
+        }
     };
-    let place = places.get(fault.place).copied().unwrap_or(fault.place);
-    let fault = RecordFault { place, ..fault };
-    OrderFault::Refused(DumpRefusal::BadEvent(place), LogBreach::Record(fault))
+    OrderFault::Refused(DumpRefusal::BadEvent(place), breach)
 }
 
 /// The log of these parts, with its entries in an order in which the sends and receipts obey the rules and each member's own entries
@@ -50,7 +64,9 @@ pub fn order_log(alloc: Global, raw: RawLog) -> Result<Ordered<Run>, OrderFault>
     ensures parts { IfOk result (λ o. o.run ≡ with_entries o.run.entries (parts_of_log raw)) }
     ensures order { IfOk result (λ o. IsOrderOfEntries raw.members raw.entries.items o.run.entries) }
     ensures places { IfOk result (λ o. ArePlaces raw.entries.items o.run.entries o.places.items) }
-    ensures kept { IfOk result (λ o. WellFormed raw.members (marks raw.entries.items) → o.run ≡ parts_of_log raw) }
+    ensures kept { IfOk result
+        (λ o. WellFormed raw.members (marks raw.entries.items) → AreHeard raw.entries.items
+        → o.run ≡ parts_of_log raw) }
     ensures answers { IfOk result (λ o. AnswersAlike (parts_of_log raw) o.run) }
     ensures refused { IfErr result (RefusesUnorderedLog (parts_of_log raw)) }
 {

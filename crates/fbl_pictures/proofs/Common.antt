@@ -14,7 +14,7 @@ pub use Rattle.fbl_trace.specs.declared.trace.MessageName.{MessageName}
 pub use Rattle.fbl_runs.specs.Clocks.{StandsAt, cut_of, seen}
 pub use Rattle.fbl_runs.specs.Entries.{entry_member, log_of, receipts_in}
 pub use Rattle.fbl_runs.specs.declared.entry.Entry.{Entry}
-pub use Rattle.fbl_runs.specs.declared.entry.Entry.TheVariants.{Event, Hold, Store}
+pub use Rattle.fbl_runs.specs.declared.entry.Entry.TheVariants.{Event, Hold, Store, Tell, Told}
 pub use Rattle.fbl_input.proofs.Outputs.{puts_text}
 pub use Rattle.fbl_history.proofs.Common.{column_marks, recovery_mark, strike_mark, history_member_shapes, is_back, line_parts, members_shapes, drawn, label_and_names}
 pub use Rattle.fbl_history.specs.Arrows.{arrow_from, back_before, has_standing_receipt, receipt_arrow, sent_before, stub, stub_where, taken_by_column}

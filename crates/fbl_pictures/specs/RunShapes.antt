@@ -17,7 +17,7 @@ use Rattle.fbl_runs.specs.HappenedBefore.{Position}
 use Rattle.fbl_runs.specs.Logs.{RunParts}
 use Rattle.fbl_runs.specs.Moments.{Cut, HoldsAt, IsLeastMoment, IsReceiptAt, IsStoredAt}
 use Rattle.fbl_runs.specs.declared.entry.Entry.{Entry}
-use Rattle.fbl_runs.specs.declared.entry.Entry.TheVariants.{Event, Hold, Store}
+use Rattle.fbl_runs.specs.declared.entry.Entry.TheVariants.{Event, Hold, Store, Tell, Told}
 use Rattle.fbl_runs.specs.declared.judged.Judged.{Judged}
 use Rattle.fbl_runs.specs.declared.judged.Judged.TheVariants.{AtEachMoment, AtItsEnd}
 use Rattle.fbl_judge.specs.Audits.{IsFirstCause, IsFirstOnAny}
@@ -96,6 +96,8 @@ abbrev pub IsKind : RunParts → Cut → Members → Bool → Entry → GlyphKin
 IsKind run cut struck come (Event e) kind = IsEventKind run cut struck come e kind
 IsKind run cut struck come (Hold q d) kind = kind ≡ glyph.Hold d
 IsKind run cut struck come (Store q d) kind = kind ≡ glyph.Store d
+IsKind run cut struck come (Tell m) kind = kind ≡ glyph.Tell m.to m.id
+IsKind run cut struck come (Told m) kind = kind ≡ glyph.Told m.from m.id
 
 -- the mark of the entry at the place, on its member's line
 pub record IsGlyphOf (run : RunParts) (cut : Cut) (lines : Lines) (place : ℕ) (e : Entry) (mark : Glyph) : Type 0 where
@@ -127,6 +129,8 @@ abbrev pub entry_arrow : List Entry → Columns → ℕ → Entry → List Shape
 entry_arrow entries moment place (Event e) = event_arrow entries (has_come moment place (member_of e)) place e
 entry_arrow entries moment place (Hold q d) = []
 entry_arrow entries moment place (Store q d) = []
+entry_arrow entries moment place (Tell m) = []
+entry_arrow entries moment place (Told m) = []
 
 -- ---- members: a label, names and a line for each
 
@@ -255,6 +259,8 @@ abbrev pub is_event : Entry → Bool
 is_event (Event e) = true
 is_event (Hold q d) = false
 is_event (Store q d) = false
+is_event (Tell m) = false
+is_event (Told m) = false
 
 -- the entries that are drawn: of a dump its events, behind which who holds what stands, and of a log all
 abbrev pub shown : Judged → List Entry → List Entry

@@ -9,7 +9,7 @@ use Rattle.fbl_order.specs.declared.order.Ordered.{Ordered}
 use Rattle.fbl_order.specs.Faults.{RefusesUnordered, RefusesUnorderedLog}
 use Rattle.fbl_order.specs.Files.{IsUnionOfDumps, IsUnionOfLogs, RefusesFiles, dump_group, log_group}
 use Rattle.fbl_order.specs.Answers.{AnswersAlike, DumpsAnswerAlike}
-use Rattle.fbl_order.specs.Orders.{ArePlaces, IsOrder, IsOrderOfEntries, as_entries, with_entries, with_events}
+use Rattle.fbl_order.specs.Orders.{AreHeard, ArePlaces, IsOrder, IsOrderOfEntries, as_entries, with_entries, with_events}
 use Rattle.fbl_runs.specs.Entries.{marks}
 use Rattle.fbl_runs.specs.Logs.{IsLog, RunParts}
 use Rattle.fbl_records.specs.declared.reader.Checked.{Checked}
@@ -75,7 +75,7 @@ pub record IsMergedLog (whole log : RunParts) (places : List ℕ) : Type 0 where
   pub parts : log ≡ with_entries log.entries whole
   pub order : IsOrderOfEntries whole.members whole.entries log.entries
   pub given : ArePlaces whole.entries log.entries places
-  pub kept : WellFormed whole.members (marks whole.entries) → log ≡ whole
+  pub kept : WellFormed whole.members (marks whole.entries) → AreHeard whole.entries → log ≡ whole
   pub answers : AnswersAlike whole log
 
 -- the same of what the files have together

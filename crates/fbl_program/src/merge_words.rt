@@ -288,6 +288,11 @@ impl MergeExplanation<'_> {
                 let (event, rule) = (fault.event, fault.rule);
                 write!(f, "event {spot} is {event}, and {rule}")
             }
+            LogBreach::Control(fault) => {
+                let spot = Place(self.files.event(fault.place));
+                let (entry, rule) = (fault.entry, fault.rule);
+                write!(f, "event {spot} is {entry}, and {rule}")
+            }
             LogBreach::Record(fault) => {
                 let spot = Place(self.files.event(fault.place));
                 let (entry, rule) = (fault.entry, fault.rule);

@@ -50,6 +50,17 @@ fn pair_numbers(member: Member, determinant: Determinant) -> [u32; 5]
     ]
 }
 
+/// The numbers of two members and of a control message between them.
+fn control_numbers(own: Member, other: Member, id: u32) -> [u32; 3]
+    ensures { result ≡ own ∷ other ∷ id ∷ [] }
+{
+    [
+        u32::from(own.number()),
+        u32::from(other.number()),
+        id,
+    ]
+}
+
 /// A send or a receipt as a list.
 fn event_value(alloc: Global, event: Mark) -> Result<Value, AllocError>
     ensures { IfOk result (λ v. view v ≡ event_data event) }
@@ -88,6 +99,14 @@ impl Form<Entry> for EntryForm {
                 member,
                 determinant,
             } => named_value(alloc, "store", &pair_numbers(member, determinant)),
+            Entry::Tell(message) => {
+                let numbers = control_numbers(message.from, message.to, message.id);
+                named_value(alloc, "tell", &numbers)
+            }
+            Entry::Told(message) => {
+                let numbers = control_numbers(message.to, message.from, message.id);
+                named_value(alloc, "told", &numbers)
+            }
         }
     }
 }

@@ -7,8 +7,11 @@ pub use Rattle.fbl_trace.proofs.RulesLaws.{MayFollow-last, MayFollow-new, WellFo
 pub use Rattle.fbl_trace.specs.declared.trace.Determinant.{Determinant}
 pub use Rattle.fbl_trace.specs.declared.trace.Mark.{Mark}
 pub use Rattle.fbl_trace.specs.declared.trace.Mark.TheVariants.{Receipt, Send}
+pub use Rattle.fbl_runs.specs.declared.causality.Causality.{Causality}
+pub use Rattle.fbl_runs.specs.declared.causality.Causality.TheVariants.{Dependence, HappenedBefore}
+pub use Rattle.fbl_runs.specs.declared.control.ControlMessage.{ControlMessage}
 pub use Rattle.fbl_runs.specs.declared.entry.Entry.{Entry}
-pub use Rattle.fbl_runs.specs.declared.entry.Entry.TheVariants.{Event, Hold, Store}
-pub use Rattle.fbl_runs.specs.Entries.{Carries, IsRecord, Logs, entry_member, is_at, log_of, mark_in, marks}
+pub use Rattle.fbl_runs.specs.declared.entry.Entry.TheVariants.{Event, Hold, Store, Tell, Told}
+pub use Rattle.fbl_runs.specs.Entries.{Carries, IsArrival, IsRecord, Logs, Passes, Tells, entry_member, is_at, log_of, mark_in, marks}
 pub use Rattle.fbl_runs.specs.HappenedBefore.{IsAt, Leads, Position, Precedes, at, itself, step}
-pub use Rattle.fbl_runs.specs.Moments.{Cut, DependsOn, HasCome, HoldsAt, IsReceiptAt, IsStoredAt}
+pub use Rattle.fbl_runs.specs.Moments.{Cut, DependsOn, HasCome, HoldsAt, IsKnownTo, IsReceiptAt, IsStoredAt}

@@ -1,5 +1,6 @@
 pub mod Common
 pub mod Listing
+pub mod ControlLaws
 pub mod ClockLaws
 pub mod Passes
 pub mod NumberLaws

@@ -3,7 +3,7 @@ use Rattle.fbl_runs.proofs.Common.{ℕ, zero, suc, true, false, cond, ◌≡◌,
 use Rattle.fbl_runs.proofs.Common.{refl, sym, ap, subst, ◌∙◌, arith, nat_tests, cases_eq, cases_order, append-nil, length-append, filter-append, filter_map-append}
 use Rattle.fbl_runs.proofs.Common.{At-filter_map, At-front, At-seam, filter_map-At, slice_get-take, slice_get_within, take-more, take-append-drop, take_all, length-take}
 use Rattle.fbl_runs.proofs.Common.{MayFollow-last, MayFollow-new, WellFormed-front, in_flight-sent, MayFollow, WellFormed, Mark, Send, Receipt, send_of}
-use Rattle.fbl_runs.proofs.Common.{Entry, Event, Hold, Store, entry_member, is_at, log_of, mark_in, marks, IsAt, Position, at}
+use Rattle.fbl_runs.proofs.Common.{Entry, Event, Hold, Store, Tell, Told, entry_member, is_at, log_of, mark_in, marks, IsAt, Position, at}
 use Rattle.std.proofs.lemmas.List.{take-take}
 use Rattle.fbl_runs.specs.Clocks.{StandsAt, seen}
 
@@ -88,6 +88,16 @@ seen-later entries p q m e here own before =
     let within = slice_get_within (log_of (take q entries) m) _ e front in
     (rw (take-take p q entries (omega (arith, before))) at within)
 
+-- an entry that is listed once stands at one position
+pub one_place : (entries : List Entry) (m k q l : ℕ) (x : Entry) → ((p q : ℕ) → slice_get entries p ≡ Some x → slice_get entries q ≡ Some x → p ≡ q)
+    → IsAt (log_of entries) (at m k) x → IsAt (log_of entries) (at q l) x → (m ≡ q) × (k ≡ l)
+one_place entries m k q l x once at_m at_q =
+    let a = locate_all entries m k x at_m in
+    let b = locate_all entries q l x at_q in
+    let same : a.0 ≡ b.0 = once a.0 b.0 a.2 b.2 in
+    let member : m ≡ q = sym a.3 ∙ b.3 in
+    (member, sym a.4 ∙ ap (λ p. seen entries p m) same ∙ ap (λ m'. seen entries b.0 m') member ∙ b.4)
+
 -- ---- the rules
 
 module _ (n : ℕ) (entries : List Entry) (obeys : WellFormed n (marks entries)) where
@@ -107,6 +117,8 @@ module _ (n : ℕ) (entries : List Entry) (obeys : WellFormed n (marks entries))
   is_mark (Event m') m is = cc
   is_mark (Hold q d) m is = cc
   is_mark (Store q d) m is = cc
+  is_mark (Tell t) m is = cc
+  is_mark (Told t) m is = cc
 
   -- no send or receipt stands twice
   not_twice : (p q : ℕ) (e : Mark) → slice_get entries p ≡ Some (Event e) → slice_get entries q ≡ Some (Event e) → p < q → ⊥
@@ -137,9 +149,4 @@ module _ (n : ℕ) (entries : List Entry) (obeys : WellFormed n (marks entries))
 
   -- one send stands at one position
   pub one_position : (m k q l : ℕ) (e : Mark) → IsAt (log_of entries) (at m k) (Event e) → IsAt (log_of entries) (at q l) (Event e) → (m ≡ q) × (k ≡ l)
-  one_position m k q l e at_m at_q =
-      let x = locate_all entries m k (Event e) at_m in
-      let y = locate_all entries q l (Event e) at_q in
-      let same : x.0 ≡ y.0 = once x.0 y.0 e x.2 y.2 in
-      let member : m ≡ q = sym x.3 ∙ y.3 in
-      (member, sym x.4 ∙ ap (λ p. seen entries p m) same ∙ ap (λ m'. seen entries y.0 m') member ∙ y.4)
+  one_position m k q l e at_m at_q = one_place entries m k q l (Event e) (λ a b. once a b e) at_m at_q

@@ -1,7 +1,7 @@
 -- Which entries are those of a run.
 use Rattle.std.specs.Option.{is_some}
-use Rattle.fbl_runs.proofs.Common.{Option, None, true, false, ℕ, zero, suc, ◌≡◌, ◌<◌, ◌≤◌, ◌+◌, ◌↔◌, ◌⊎◌, inl, inr, List, [], ◌∷◌, ◌++◌, length, Some, None, slice_get, refl, sym, ap, subst, ◌∙◌, arith, take, append-nil, take-more, filter_map, filter_map-append, length-append, Event, Hold, Store}
-use Rattle.fbl_runs.proofs.Common.{cases_lt, slice_get_within, Determinant, Mark, Entry, entry_member, log_of, mark_in, marks, at, DependsOn}
+use Rattle.fbl_runs.proofs.Common.{Option, None, true, false, ℕ, zero, suc, ◌≡◌, ◌<◌, ◌≤◌, ◌+◌, ◌↔◌, ◌⊎◌, inl, inr, List, [], ◌∷◌, ◌++◌, length, Some, None, slice_get, refl, sym, ap, subst, ◌∙◌, arith, take, append-nil, take-more, filter_map, filter_map-append, length-append, Event, Hold, Store, Tell, Told, HappenedBefore, IsKnownTo}
+use Rattle.fbl_runs.proofs.Common.{cases_lt, slice_get_within, Determinant, Mark, Entry, entry_member, log_of, mark_in, marks, at}
 use Rattle.fbl_dumps.specs.Dumps.{IsDump, Parts}
 use Rattle.fbl_dumps.proofs.DumpLaws.{member_below}
 use Rattle.std.proofs.Common.{map}
@@ -9,6 +9,7 @@ use Rattle.fbl_runs.specs.declared.clocks.Advance.{Advance}
 use Rattle.fbl_runs.specs.declared.fault.RecordRule.{RecordRule}
 use Rattle.fbl_runs.specs.declared.fault.RecordRule.TheVariants.{NotBefore, Outside, TooMany}
 use Rattle.fbl_runs.specs.Clocks.{IsAdvance, cut_of, seen}
+use Rattle.fbl_runs.specs.ControlMessages.{AreTold, MayBeTold}
 use Rattle.fbl_runs.specs.Entries.{recorded_in}
 use Rattle.fbl_runs.specs.Indexes.{HasReceived}
 use Rattle.fbl_runs.specs.Lawful.{BreaksAt, IsKnownAt, ObeysAt, records}
@@ -17,23 +18,23 @@ use Rattle.fbl_runs.proofs.ClockLaws.{Precedes-joined, last_there, own_precedes}
 use Rattle.fbl_runs.proofs.Listing.{locate_all, placed}
 
 -- what the entry says is held or stored precedes it exactly where it has come by the entry's clock
-pub known_iff : (entries : List Entry) (p : ℕ) (e : Entry) (d : Determinant) (advance : Advance) → IsAdvance entries p advance → slice_get entries p ≡ Some e → recorded_in e ≡ Some d
+pub known_iff : (entries : List Entry) (p : ℕ) (e : Entry) (d : Determinant) (advance : Advance) → IsAdvance HappenedBefore entries p advance → slice_get entries p ≡ Some e → recorded_in e ≡ Some d
     → HasReceived (log_of entries) (cut_of advance.with) d ↔ IsKnownAt entries p
 known_iff entries p e d advance is here says = (
   λ received e' d' here' says'.
       let same : e ≡ e' = (let s : Some e ≡ Some e' = sym here ∙ here' in cc) in
       let same_d : d ≡ d' = (let s : Some d ≡ Some d' = sym says ∙ ap recorded_in same ∙ says' in cc) in
-      subst (λ (x : Entry). DependsOn (log_of entries) d' (at (entry_member x) (seen entries p (entry_member x)))) same
-      (subst (λ (x : Determinant). DependsOn (log_of entries) x (at (entry_member e) (seen entries p (entry_member e)))) same_d
-      (subst (λ (m : ℕ). DependsOn (log_of entries) d (at m (seen entries p m))) (sym own) (known received))),
+      subst (λ (x : Entry). IsKnownTo (log_of entries) d' (at (entry_member x) (seen entries p (entry_member x)))) same
+      (subst (λ (x : Determinant). IsKnownTo (log_of entries) x (at (entry_member e) (seen entries p (entry_member e)))) same_d
+      (subst (λ (m : ℕ). IsKnownTo (log_of entries) d (at m (seen entries p m))) (sym own) (known received))),
   λ known'.
-      let depends = subst (λ (m : ℕ). DependsOn (log_of entries) d (at m (seen entries p m))) own (known' e d here says) in
+      let depends = subst (λ (m : ℕ). IsKnownTo (log_of entries) d (at m (seen entries p m))) own (known' e d here says) in
       (depends.0, depends.1, is.with.all depends.0 (seen entries p advance.member, (let n = is.number in omega (arith, n)), depends.2)),
 ) where
   own : entry_member e ≡ advance.member
   own = is.member e here
 
-  known : HasReceived (log_of entries) (cut_of advance.with) d → DependsOn (log_of entries) d (at advance.member (seen entries p advance.member))
+  known : HasReceived (log_of entries) (cut_of advance.with) d → IsKnownTo (log_of entries) d (at advance.member (seen entries p advance.member))
   known received =
       let w = is.with.only received.0 received.2 in
       let there = last_there w.2 in (
@@ -44,13 +45,13 @@ known_iff entries p e d advance is here says = (
       )
 
 -- entries that break no rule are those of a run
-pub is_log : (log : RunParts) → IsDump (trace_of log) → ((i : ℕ) → ObeysAt log.members log.entries i) → IsLog log
-is_log log trace good = record {
-  run = record { f = trace.f; strike = trace.strike; lawful = record { size = trace.members; events = trace.events; members = λ i e. (good i).1 e } };
+pub is_log : (log : RunParts) → IsDump (trace_of log) → AreTold log.members log.entries → ((i : ℕ) → ObeysAt log.members log.entries i) → IsLog log
+is_log log trace told good = record {
+  run = record { f = trace.f; strike = trace.strike; lawful = record { size = trace.members; events = trace.events; told = told; members = λ i e. (good i).1 e } };
   known = λ j e d here says.
       let w = locate_all log.entries j.member j.number e here in
       let depends = (good w.0).2 e d w.2 says in
-      let P : ℕ → ℕ → Type 0 = λ m k. DependsOn (log_of log.entries) d (at m k) in
+      let P : ℕ → ℕ → Type 0 = λ m k. IsKnownTo (log_of log.entries) d (at m k) in
       subst (λ (k : ℕ). P j.member k) w.4 (subst (λ (m : ℕ). P m (seen log.entries w.0 m)) w.3 depends);
   few = λ i. (good i).0;
 }
@@ -103,6 +104,10 @@ is_run dump is = record {
   lawful = record {
     size = is.members;
     events = rw (events_of_dump dump) is.events;
+    told = λ i e here. elim (entry_of_dump dump i e here) [
+      | inl w ↦ (let P : Entry → Type 0 = λ e. MayBeTold dump.members (take i (run_of_dump dump).entries) e in subst P (sym w.3) tt)
+      | inr w ↦ (let P : Entry → Type 0 = λ e. MayBeTold dump.members (take i (run_of_dump dump).entries) e in subst P (sym w.3) tt)
+    ];
     members = λ i e here. elim (entry_of_dump dump i e here) [
       | inl w ↦ rw w.3 (member_below dump.members dump.events w.0 w.1 is.events w.2)
       | inr w ↦ rw w.3 (is.held w.0 w.1 w.2).1
@@ -157,6 +162,8 @@ records-le [] (suc p) = omega arith
 records-le (Event m ∷ t) (suc p) = (let rest = records-le t p in omega (arith, rest))
 records-le (Hold q d ∷ t) (suc p) = (let rest = records-le t p in omega (arith, rest))
 records-le (Store q d ∷ t) (suc p) = (let rest = records-le t p in omega (arith, rest))
+records-le (Tell m ∷ t) (suc p) = (let rest = records-le t p in omega (arith, rest))
+records-le (Told m ∷ t) (suc p) = (let rest = records-le t p in omega (arith, rest))
 
 pub records-is_some : (entries : List Entry) (p : ℕ) (e : Entry) (o : Option Determinant) → slice_get entries p ≡ Some e → o ≡ recorded_in e → is_some o ≡ true
     → length (records (take (p + 1) entries)) ≡ length (records (take p entries)) + 1
@@ -173,6 +180,8 @@ pub marks-is_some : (entries : List Entry) (p : ℕ) (e : Entry) (o : Option Mar
 marks-is_some entries p e None here is yes' = cc
 marks-is_some entries p (Hold q d) (Some m) here is yes' = cc
 marks-is_some entries p (Store q d) (Some m) here is yes' = cc
+marks-is_some entries p (Tell t) (Some m) here is yes' = cc
+marks-is_some entries p (Told t) (Some m) here is yes' = cc
 marks-is_some entries p (Event e) (Some m) here is yes' = ((e, here), (rw (marks-some entries p (Event e) e here refl, length-append) refl))
 
 pub marks-is_none : (entries : List Entry) (p : ℕ) (e : Entry) (o : Option Mark) → slice_get entries p ≡ Some e → o ≡ mark_in e → is_some o ≡ false

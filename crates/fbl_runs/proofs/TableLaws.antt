@@ -1,7 +1,7 @@
 -- What the tables of an index keep.
 use Rattle.fbl_runs.proofs.Common.{ℕ, zero, suc, Bool, true, false, cond, ◌≡◌, ◌≢◌, ◌==◌, ◌<◌, ◌≤◌, ◌+◌, ◌↔◌, inl, inr, List, [], ◌∷◌, ◌++◌, length, Option, Some, None, slice_get, refl, sym, ap, subst, ◌∙◌, arith}
 use Rattle.fbl_runs.proofs.Common.{nat_tests, cases_eq, slice_get_within, length-append, At-front, At-seam, At-push, Determinant, Send, Receipt, receipt_of, IsReceiptAt, false≢true}
-use Rattle.fbl_runs.proofs.Common.{Entry, Event, Hold, Store, entry_member, Logs, log_of, IsAt, Position, at, Cut, HoldsAt, IsStoredAt}
+use Rattle.fbl_runs.proofs.Common.{Entry, Event, Hold, Store, Tell, Told, entry_member, Logs, log_of, IsAt, Position, at, Cut, HoldsAt, IsStoredAt}
 use Rattle.std.proofs.Common.{set, length-set, replicate}
 use Rattle.std.proofs.Common.{nat_cmp}
 use Rattle.std.specs.FinSet as fin
@@ -52,6 +52,8 @@ receipt_kind = record { is = is; says = says; own = λ k fits. sym fits; fits = 
       let same : record { member = to; determinant = d } ≡ k = cc in ap (λ (x : Keeping). Event (receipt_of x.determinant)) same)
   is (Hold q d) k some = cc
   is (Store q d) k some = cc
+  is (Tell m) k some = cc
+  is (Told m) k some = cc
 
   says : (k : Keeping) → k.member ≡ k.determinant.to → Some (record { member = k.determinant.to; determinant = k.determinant }) ≡ Some k
   says k fits = λ i. Some (record { member = sym fits i; determinant = k.determinant })
@@ -62,6 +64,8 @@ receipt_kind = record { is = is; says = says; own = λ k fits. sym fits; fits = 
       let same : record { member = to; determinant = d } ≡ k = cc in ap (λ (x : Keeping). x.member) (sym same) ∙ ap (λ (x : Keeping). x.determinant.to) same)
   fits (Hold q d) k some = cc
   fits (Store q d) k some = cc
+  fits (Tell m) k some = cc
+  fits (Told m) k some = cc
 
 hold_kind : Kind (λ _. Unit {0}) (λ k. Hold k.member k.determinant) held_in
 hold_kind = record { is = is; says = λ k _. refl; own = λ k _. refl; fits = λ x k some. tt } where
@@ -69,6 +73,8 @@ hold_kind = record { is = is; says = λ k _. refl; own = λ k _. refl; fits = λ
   is (Event e) k some = cc
   is (Hold q d) k some = (let same : record { member = q; determinant = d } ≡ k = cc in ap (λ (x : Keeping). Hold x.member x.determinant) same)
   is (Store q d) k some = cc
+  is (Tell m) k some = cc
+  is (Told m) k some = cc
 
 store_kind : Kind (λ _. Unit {0}) (λ k. Store k.member k.determinant) stored_in
 store_kind = record { is = is; says = λ k _. refl; own = λ k _. refl; fits = λ x k some. tt } where
@@ -76,6 +82,8 @@ store_kind = record { is = is; says = λ k _. refl; own = λ k _. refl; fits = �
   is (Event e) k some = cc
   is (Hold q d) k some = cc
   is (Store q d) k some = (let same : record { member = q; determinant = d } ≡ k = cc in ap (λ (x : Keeping). Store x.member x.determinant) same)
+  is (Tell m) k some = cc
+  is (Told m) k some = cc
 
 module _ (Fits : Keeping → Type 0) (entry_of : Keeping → Entry) (kept_in : Entry → Option Keeping) (kind : Kind Fits entry_of kept_in) (t : List Entry) (x : Entry) (number : ℕ) (count : number ≡ length (log_of t (entry_member x))) where
   -- one entry more

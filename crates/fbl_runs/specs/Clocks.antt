@@ -1,16 +1,20 @@
 -- Vector clocks (Mattern 1988; Fidge 1988): how many of each member's first entries precede one of a member's first entries.
-use Rattle.std.specs.Prelude.{ℕ, ◌≡◌, ◌==◌, ◌&&◌, ◌+◌, ◌<◌, Bool, List, length, take, Option, Some, None, slice_get, slice_index}
+use Rattle.std.specs.Prelude.{ℕ, ◌≡◌, ◌==◌, ◌&&◌, ◌+◌, ◌<◌, Bool, List, length, take, Option, Some, None, option_and_then, slice_get, slice_index, if◌then◌else◌}
 use Rattle.std.specs.HashMap as hash_map
 use Rattle.fbl_trace.specs.declared.trace.Mark.{Mark}
 use Rattle.fbl_trace.specs.declared.trace.Mark.TheVariants.{Send, Receipt}
 use Rattle.fbl_trace.specs.Rules.{WellFormed}
+use Rattle.fbl_runs.specs.declared.causality.Causality.{Causality}
+use Rattle.fbl_runs.specs.declared.causality.Causality.TheVariants.{HappenedBefore}
 use Rattle.fbl_runs.specs.declared.clock.Clock.{Clock}
 use Rattle.fbl_runs.specs.declared.clocks.AddressedMessage.{AddressedMessage}
 use Rattle.fbl_runs.specs.declared.clocks.Clocks.{Clocks}
 use Rattle.fbl_runs.specs.declared.clocks.Advance.{Advance}
+use Rattle.fbl_runs.specs.declared.control.ControlMessage.{ControlMessage}
 use Rattle.fbl_runs.specs.declared.entry.Entry.{Entry}
-use Rattle.fbl_runs.specs.declared.entry.Entry.TheVariants.{Event}
-use Rattle.fbl_runs.specs.Entries.{Carries, Logs, entry_member, log_of, marks}
+use Rattle.fbl_runs.specs.declared.entry.Entry.TheVariants.{Event, Tell, Told}
+use Rattle.fbl_runs.specs.ControlMessages.{AreTold, same_control}
+use Rattle.fbl_runs.specs.Entries.{Logs, Passes, entry_member, log_of, mark_in, marks}
 use Rattle.fbl_runs.specs.HappenedBefore.{Position, IsAt, Precedes, at}
 use Rattle.fbl_runs.specs.Moments.{Cut, HasCome}
 
@@ -23,18 +27,18 @@ abbrev pub IsNoClock : Clock → Type 0
 IsNoClock clock = (q : ℕ) → cut_of clock q ≡ 0
 
 -- the entry precedes one of the member's first ones
-abbrev pub PrecedesSome : Logs → Position → ℕ → ℕ → Type 0
-PrecedesSome logs i m count = (l : ℕ) × (l < count) × Precedes logs i (at m l)
+abbrev pub PrecedesSome : Causality → Logs → Position → ℕ → ℕ → Type 0
+PrecedesSome c logs i m count = (l : ℕ) × (l < count) × Precedes c logs i (at m l)
 
 -- the cut has exactly what precedes one of the member's first entries
-pub record IsClock (logs : Logs) (m count : ℕ) (cut : Cut) : Type 0 where
-  pub all : (i : Position) → PrecedesSome logs i m count → HasCome cut i
-  pub only : (i : Position) → HasCome cut i → PrecedesSome logs i m count
+pub record IsClock (c : Causality) (logs : Logs) (m count : ℕ) (cut : Cut) : Type 0 where
+  pub all : (i : Position) → PrecedesSome c logs i m count → HasCome cut i
+  pub only : (i : Position) → HasCome cut i → PrecedesSome c logs i m count
 
 -- what the entry's message brings: exactly what precedes a send of it
-pub record IsBrought (logs : Logs) (b : Entry) (cut : Cut) : Type 0 where
-  pub all : (i j : Position) (a : Entry) → IsAt logs j a → Carries a b → Precedes logs i j → HasCome cut i
-  pub only : (i : Position) → HasCome cut i → (j : Position) × (a : Entry) × IsAt logs j a × Carries a b × Precedes logs i j
+pub record IsBrought (c : Causality) (logs : Logs) (b : Entry) (cut : Cut) : Type 0 where
+  pub all : (i j : Position) (a : Entry) → IsAt logs j a → Passes c a b → Precedes c logs i j → HasCome cut i
+  pub only : (i : Position) → HasCome cut i → (j : Position) × (a : Entry) × IsAt logs j a × Passes c a b × Precedes c logs i j
 
 -- how many entries of the member are among the first p
 abbrev pub seen : List Entry → ℕ → ℕ → ℕ
@@ -60,30 +64,59 @@ abbrev pub message_taken_by : Mark → Option AddressedMessage
 message_taken_by (Send from ssn to) = None
 message_taken_by (Receipt to rsn from ssn) = Some (record { from = from; ssn = ssn; to = to })
 
+-- the message of the entry, if it is a send, and if it is a receipt
+abbrev pub sent_in : Entry → Option AddressedMessage
+sent_in e = option_and_then message_sent_by (mark_in e)
+
+abbrev pub taken_in : Entry → Option AddressedMessage
+taken_in e = option_and_then message_taken_by (mark_in e)
+
+-- the clocks that are kept, with one more if this is kept
+abbrev pub kept_after : {M : Type 0} → (M → M → Bool) → (M → Option Clock) → Option M → Clock → M → Option Clock
+kept_after same old None with k = old k
+kept_after same old (Some m) with k = if same m k then Some with else old k
+
 -- the clock of a message's send, if it was seen
 abbrev pub sent_clock : {S : Type 0} → hash_map.HashMap AddressedMessage Clock S → AddressedMessage → Option Clock
 sent_clock map m = hash_map.get same_message map m
 
--- the pass has seen the first p entries: it knows each member's clock, its number of entries, and the clocks of the sends
-pub record HasSeen (entries : List Entry) (p : ℕ) (clocks : Clocks) : Type 0 where
+-- the clock of a tell, if it was seen
+abbrev pub tell_clock : {S : Type 0} → hash_map.HashMap ControlMessage Clock S → ControlMessage → Option Clock
+tell_clock map m = hash_map.get same_control map m
+
+-- the control message that the entry sends, if it is a tell
+abbrev pub message_told_by : Entry → Option ControlMessage
+message_told_by (Tell m) = Some m
+message_told_by e = None
+
+-- the control message by which what happened before leads to the entry, if its member is told one; it leads no dependence there
+abbrev pub message_told_to : Causality → Entry → Option ControlMessage
+message_told_to HappenedBefore (Told m) = Some m
+message_told_to c e = None
+
+-- the pass has seen the first p entries: it knows each member's clock, its number of entries, and the clocks of the sends and tells
+pub record HasSeen (c : Causality) (entries : List Entry) (p : ℕ) (clocks : Clocks) : Type 0 where
+  pub causality : clocks.causality ≡ c
   pub room : length clocks.latest ≡ 16
   pub places : length clocks.numbers ≡ 16
-  pub clock : (m : ℕ) (c : Clock) → slice_get clocks.latest m ≡ Some c → IsClock (log_of entries) m (seen entries p m) (cut_of c)
+  pub clock : (m : ℕ) (k : Clock) → slice_get clocks.latest m ≡ Some k → IsClock c (log_of entries) m (seen entries p m) (cut_of k)
   pub number : (m : ℕ) → m < 16 → slice_index clocks.numbers m ≡ seen entries p m
   pub sends : (k from ssn to : ℕ) → k < seen entries p from → IsAt (log_of entries) (at from k) (Event (Send from ssn to))
-      → (c : Clock) × (sent_clock clocks.sent (record { from = from; ssn = ssn; to = to }) ≡ Some c) × IsClock (log_of entries) from (k + 1) (cut_of c)
+      → (with : Clock) × (sent_clock clocks.sent (record { from = from; ssn = ssn; to = to }) ≡ Some with) × IsClock c (log_of entries) from (k + 1) (cut_of with)
+  pub tells : (k : ℕ) (m : ControlMessage) → k < seen entries p m.from → IsAt (log_of entries) (at m.from k) (Tell m)
+      → (with : Clock) × (tell_clock clocks.tells m ≡ Some with) × IsClock c (log_of entries) m.from (k + 1) (cut_of with)
 
 -- what is known of the entry at the place: whose it is, its number, and its member's clock with it
-pub record IsAdvance (entries : List Entry) (p : ℕ) (advance : Advance) : Type 0 where
+pub record IsAdvance (c : Causality) (entries : List Entry) (p : ℕ) (advance : Advance) : Type 0 where
   pub member : (e : Entry) → slice_get entries p ≡ Some e → entry_member e ≡ advance.member
   pub number : advance.number ≡ seen entries p advance.member
-  pub with : IsClock (log_of entries) advance.member (advance.number + 1) (cut_of advance.with)
+  pub with : IsClock c (log_of entries) advance.member (advance.number + 1) (cut_of advance.with)
 
 -- that of each of the first p entries, at its place
-pub record AreAdvances (entries : List Entry) (p : ℕ) (advances : List Advance) : Type 0 where
+pub record AreAdvances (c : Causality) (entries : List Entry) (p : ℕ) (advances : List Advance) : Type 0 where
   pub count : length advances ≡ p
-  pub each : (k : ℕ) (a : Advance) → slice_get advances k ≡ Some a → IsAdvance entries k a
+  pub each : (k : ℕ) (a : Advance) → slice_get advances k ≡ Some a → IsAdvance c entries k a
 
--- the entries obey the rules of traces
+-- the entries obey the rules of traces, and those of control messages
 abbrev pub IsLawful : List Entry → Type 0
-IsLawful entries = (n : ℕ) × WellFormed n (marks entries)
+IsLawful entries = (n : ℕ) × WellFormed n (marks entries) × AreTold n entries

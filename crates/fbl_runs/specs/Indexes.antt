@@ -15,15 +15,13 @@ use Rattle.fbl_runs.specs.Moments.{Cut, HasCome, IsReceiptAt}
 
 -- what the entry says is held, if it is a hold
 abbrev pub held_in : Entry → Option Keeping
-held_in (Event e) = None
 held_in (Hold q d) = Some (record { member = q; determinant = d })
-held_in (Store q d) = None
+held_in e = None
 
 -- what the entry says is stored, if it is a store
 abbrev pub stored_in : Entry → Option Keeping
-stored_in (Event e) = None
-stored_in (Hold q d) = None
 stored_in (Store q d) = Some (record { member = q; determinant = d })
+stored_in e = None
 
 -- what the entry is a receipt of, with its receiver, if it is one
 abbrev pub received_in : Entry → Option Keeping

@@ -11,7 +11,7 @@ use Rattle.fbl_runs.specs.declared.fault.RecordRule.TheVariants.{TooMany, Outsid
 use Rattle.fbl_runs.specs.Clocks.{seen}
 use Rattle.fbl_runs.specs.Entries.{entry_member, log_of, marks, recorded_in}
 use Rattle.fbl_runs.specs.HappenedBefore.{at}
-use Rattle.fbl_runs.specs.Moments.{DependsOn}
+use Rattle.fbl_runs.specs.Moments.{IsKnownTo}
 
 -- what the holds and stores name, in order
 abbrev pub records : List Entry → List Determinant
@@ -25,10 +25,10 @@ IsFewAt entries i = (e : Entry) (d : Determinant) → slice_get entries i ≡ So
 abbrev pub IsMembersAt : ℕ → List Entry → ℕ → Type 0
 IsMembersAt n entries i = (e : Entry) → slice_get entries i ≡ Some e → entry_member e < n
 
--- the entry at the place, if there is one, says only of a receipt that precedes it that it is held or stored
+-- the entry at the place, if there is one, says only of a receipt that happened before it that it is held or stored
 abbrev pub IsKnownAt : List Entry → ℕ → Type 0
 IsKnownAt entries i =
-    (e : Entry) (d : Determinant) → slice_get entries i ≡ Some e → recorded_in e ≡ Some d → DependsOn (log_of entries) d (at (entry_member e) (seen entries i (entry_member e)))
+    (e : Entry) (d : Determinant) → slice_get entries i ≡ Some e → recorded_in e ≡ Some d → IsKnownTo (log_of entries) d (at (entry_member e) (seen entries i (entry_member e)))
 
 -- the entry at the place obeys these rules
 abbrev pub ObeysAt : ℕ → List Entry → ℕ → Type 0

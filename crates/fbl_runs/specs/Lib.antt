@@ -1,5 +1,6 @@
 pub mod Entries
 pub mod HappenedBefore
+pub mod ControlMessages
 pub mod Moments
 pub mod Runs
 pub mod Clocks

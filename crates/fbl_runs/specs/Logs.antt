@@ -11,13 +11,14 @@ use Rattle.fbl_dumps.specs.declared.refusal.DumpRefusal.TheVariants.{BadEvent, B
 use Rattle.fbl_runs.specs.declared.entry.Entry.{Entry}
 use Rattle.fbl_runs.specs.declared.entry.Entry.TheVariants.{Event, Hold}
 use Rattle.fbl_runs.specs.declared.fault.LogBreach.{LogBreach}
-use Rattle.fbl_runs.specs.declared.fault.LogBreach.TheVariants.{Record, Trace}
+use Rattle.fbl_runs.specs.declared.fault.LogBreach.TheVariants.{Control, Record, Trace}
 use Rattle.fbl_runs.specs.declared.judged.Judged.{Judged}
 use Rattle.fbl_runs.specs.declared.judged.Judged.TheVariants.{AtEachMoment, AtItsEnd}
 use Rattle.fbl_runs.specs.declared.run.RawLog.{RawLog}
+use Rattle.fbl_runs.specs.ControlMessages.{AreTold, IsFirstUntold, IsToldAt}
 use Rattle.fbl_runs.specs.Entries.{log_of, marks, recorded_in}
 use Rattle.fbl_runs.specs.HappenedBefore.{Position, IsAt}
-use Rattle.fbl_runs.specs.Moments.{DependsOn}
+use Rattle.fbl_runs.specs.Moments.{IsKnownTo}
 use Rattle.fbl_runs.specs.Lawful.{IsEventPlace, IsFewAt, IsFirstBad, ObeysAt}
 use Rattle.fbl_runs.specs.Runs.{AreEntries, Run}
 
@@ -59,10 +60,10 @@ run_of_dump dump = record { members = dump.members; f = dump.f; entries = map Ev
 
 -- ---- logs
 
--- the rules of a log: those of a run, each hold and store is of a receipt that precedes it, and they are at most 131,072
+-- the rules of a log: those of a run, each hold and store is of a receipt that happened before it, and they are at most 131,072
 pub record IsLog (log : RunParts) : Type 0 where
   pub run : IsRun log
-  pub known : (j : Position) (e : Entry) (d : Determinant) → IsAt (log_of log.entries) j e → recorded_in e ≡ Some d → DependsOn (log_of log.entries) d j
+  pub known : (j : Position) (e : Entry) (d : Determinant) → IsAt (log_of log.entries) j e → recorded_in e ≡ Some d → IsKnownTo (log_of log.entries) d j
   pub few : (i : ℕ) → IsFewAt log.entries i
 
 -- ---- refusals
@@ -71,12 +72,13 @@ pub record IsLog (log : RunParts) : Type 0 where
 abbrev pub trace_of : RunParts → Parts
 trace_of log = record { members = log.members; f = log.f; events = marks log.entries; held = []; strike = log.strike }
 
--- the refusal is the first that fits: what such a dump is refused for, or else the first entry that breaks a rule of holds and stores; its
--- place is that among all entries, and memory may run out once the parameters are allowed
+-- the refusal is the first that fits: what such a dump is refused for, or else the first entry that breaks a rule of control messages, or
+-- else of holds and stores; its place is that among all entries, and memory may run out once the parameters are allowed
 abbrev pub RefusesLog : RunParts → DumpRefusal → Type 0
 RefusesLog log (BadEvent place) =
     ((event : ℕ) × IsEventPlace log.entries event place × RefusesDump (trace_of log) (BadEvent event))
-    ⊎ (IsDump (trace_of log) × IsFirstBreach (ObeysAt log.members log.entries) place)
+    ⊎ (IsDump (trace_of log) × IsFirstBreach (IsToldAt log.members log.entries) place)
+    ⊎ (IsDump (trace_of log) × AreTold log.members log.entries × IsFirstBreach (ObeysAt log.members log.entries) place)
 RefusesLog log (BadHeld place) = ⊥
 RefusesLog log refusal = RefusesDump (trace_of log) refusal
 
@@ -84,6 +86,8 @@ RefusesLog log refusal = RefusesDump (trace_of log) refusal
 abbrev pub IsLogBreach : RunParts → DumpRefusal → LogBreach → Type 0
 IsLogBreach log (BadEvent place) (Trace (breach.Event fault)) =
     (fault.place ≡ place) × ((event : ℕ) × IsEventPlace log.entries event place × IsEventFault log.members (marks log.entries) (record fault { place = event }))
+IsLogBreach log (BadEvent place) (Control fault) = (fault.place ≡ place) × IsFirstUntold log.members log.entries fault
 IsLogBreach log (BadEvent place) (Record fault) = (fault.place ≡ place) × IsFirstBad log.members log.entries fault
+IsLogBreach log refusal (Control fault) = ⊥
 IsLogBreach log refusal (Record fault) = ⊥
 IsLogBreach log refusal (Trace breach) = IsDumpBreach (trace_of log) refusal breach

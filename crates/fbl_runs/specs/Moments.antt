@@ -2,9 +2,10 @@
 use Rattle.std.specs.Prelude.{ℕ, ◌≡◌, ◌<◌, ◌≤◌, length}
 use Rattle.fbl_trace.specs.declared.trace.Determinant.{Determinant}
 use Rattle.fbl_trace.specs.Events.{receipt_of}
+use Rattle.fbl_runs.specs.declared.causality.Causality.TheVariants.{Dependence, HappenedBefore}
 use Rattle.fbl_runs.specs.declared.entry.Entry.{Entry}
 use Rattle.fbl_runs.specs.declared.entry.Entry.TheVariants.{Event, Hold, Store}
-use Rattle.fbl_runs.specs.Entries.{IsRecord, Logs}
+use Rattle.fbl_runs.specs.Entries.{IsArrival, IsRecord, Logs}
 use Rattle.fbl_runs.specs.HappenedBefore.{Position, at, IsAt, Leads, Precedes}
 
 -- a cut: how many of its first entries each member has
@@ -23,18 +24,18 @@ HasCome cut i = i.number < cut i.member
 abbrev pub IsReceiptAt : Logs → Determinant → Position → Type 0
 IsReceiptAt logs d i = IsAt logs i (Event (receipt_of d))
 
--- the one is a receipt, and the other follows it in the same log with no send or receipt between: they are one step. What a member
--- holds with a receipt it holds before anybody can see what it does of it: it has sent nothing, and if it is lost here, it depends
--- on nothing. What stands behind a send is no part of it, since the message may be taken before
+-- the one is a receipt, or the member is told something, and the other follows it in the same log with none but holds and stores between:
+-- they are one step. What a member holds with a receipt it holds before anybody can see what it does of it: it has sent nothing, and if it
+-- is lost here, it depends on nothing. What stands behind a send or a tell is no part of it, since the message may be taken before
 abbrev pub IsInStepOf : Logs → Position → Position → Type 0
 IsInStepOf logs i j =
-    ((d : Determinant) × IsReceiptAt logs d i)
+    ((a : Entry) × IsAt logs i a × IsArrival a)
     × (i.member ≡ j.member) × (i.number < j.number)
     × ((k : ℕ) → i.number < k → k ≤ j.number → (e : Entry) × IsAt logs (at i.member k) e × IsRecord e)
 
 -- a moment: a consistent cut (with an entry it has all that precede it; Mattern 1988) that divides no step
 pub record IsMoment (logs : Logs) (cut : Cut) : Type 0 where
-  pub consistent : (i j : Position) → Leads logs i j → HasCome cut j → HasCome cut i
+  pub consistent : (i j : Position) → Leads HappenedBefore logs i j → HasCome cut j → HasCome cut i
   pub whole : (i j : Position) → IsInStepOf logs i j → HasCome cut i → HasCome cut j
 
 -- at the moment the member's volatile memory has the determinant
@@ -45,9 +46,13 @@ HoldsAt logs cut d holder = (k : ℕ) × IsAt logs (at holder k) (Hold holder d)
 abbrev pub IsStoredAt : Logs → Cut → Determinant → Type 0
 IsStoredAt logs cut d = (q : ℕ) × (k : ℕ) × IsAt logs (at q k) (Store q d) × HasCome cut (at q k)
 
+-- the receipt that the determinant names happened before the entry
+abbrev pub IsKnownTo : Logs → Determinant → Position → Type 0
+IsKnownTo logs d j = (i : Position) × IsReceiptAt logs d i × Precedes HappenedBefore logs i j
+
 -- the entry depends on the receipt that the determinant names
 abbrev pub DependsOn : Logs → Determinant → Position → Type 0
-DependsOn logs d j = (i : Position) × IsReceiptAt logs d i × Precedes logs i j
+DependsOn logs d j = (i : Position) × IsReceiptAt logs d i × Precedes Dependence logs i j
 
 -- at the moment the member depends on the receipt: some entry of it that has come does
 abbrev pub DependsAt : Logs → Cut → Determinant → ℕ → Type 0

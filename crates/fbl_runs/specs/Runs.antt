@@ -8,6 +8,7 @@ use Rattle.fbl_trace.specs.Rules.{WellFormed}
 use Rattle.fbl_runs.specs.declared.entry.Entry.{Entry}
 use Rattle.fbl_runs.specs.declared.judged.Judged.{Judged}
 use Rattle.fbl_runs.specs.declared.judged.Judged.TheVariants.{AtEachMoment, AtItsEnd}
+use Rattle.fbl_runs.specs.ControlMessages.{AreTold}
 use Rattle.fbl_runs.specs.Entries.{Logs, entry_member, marks}
 use Rattle.fbl_runs.specs.HappenedBefore.{Position}
 use Rattle.fbl_runs.specs.Moments.{Cut, DependsAt, HoldsAt, IsFirstDependent, IsLeastMoment, IsMoment, IsStoredAt, last_cut}
@@ -22,10 +23,11 @@ pub record Run : Type 0 where
 
 -- ---- the rules of a run
 
--- the entries, in some order that obeys the rules of traces; each is one of the group's
+-- the entries, in some order that obeys the rules of traces and of control messages; each is one of the group's
 pub record AreEntries (n : ℕ) (entries : List Entry) : Type 0 where
   pub size : MembersAllowed n
   pub events : WellFormed n (marks entries)
+  pub told : AreTold n entries
   pub members : (i : ℕ) (e : Entry) → slice_get entries i ≡ Some e → entry_member e < n
 
 -- ---- safety

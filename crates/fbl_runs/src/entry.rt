@@ -3,6 +3,7 @@
 ghost use Rattle.std.specs.Prelude.{◌≡◌};
 ghost use Rattle.fbl_runs.specs.Entries.{entry_member, mark_in, receipt_in, recorded_in};
 
+use crate::control::ControlMessage;
 use fbl_trace::{Determinant, Mark, Member};
 use std::fmt;
 
@@ -25,6 +26,10 @@ pub enum Entry {
         /// What is stored.
         determinant: Determinant,
     },
+    /// Its sender sends the control message.
+    Tell(ControlMessage),
+    /// Its receiver takes the control message.
+    Told(ControlMessage),
 }
 
 impl Entry {
@@ -36,6 +41,8 @@ impl Entry {
             Entry::Event(event) => event.member(),
             Entry::Hold { holder, .. } => holder,
             Entry::Store { member, .. } => member,
+            Entry::Tell(message) => message.from,
+            Entry::Told(message) => message.to,
         }
     }
 
@@ -45,7 +52,7 @@ impl Entry {
     {
         match self {
             Entry::Event(event) => Some(event),
-            Entry::Hold { .. } | Entry::Store { .. } => None,
+            Entry::Hold { .. } | Entry::Store { .. } | Entry::Tell(_) | Entry::Told(_) => None,
         }
     }
 
@@ -61,13 +68,13 @@ impl Entry {
         ensures { result ≡ recorded_in self }
     {
         match self {
-            Entry::Event(_) => None,
+            Entry::Event(_) | Entry::Tell(_) | Entry::Told(_) => None,
             Entry::Hold { determinant, .. } | Entry::Store { determinant, .. } => Some(determinant),
         }
     }
 }
 
-/// As a log has it, as in `["hold",1,0,1,1,1]` and `["store",1,0,1,1,1]`.
+/// As a log has it, as in `["hold",1,0,1,1,1]`, `["store",1,0,1,1,1]`, `["tell",0,1,7]` and `["told",1,0,7]`.
 impl fmt::Display for Entry {
     fn fmt<W: fmt::Write>(&self, f: &mut fmt::Formatter<W>) -> fmt::Result {
         match self {
@@ -86,6 +93,8 @@ impl fmt::Display for Entry {
                 let Determinant { from, ssn, to, rsn } = determinant;
                 write!(f, "[\"store\",{member},{from},{ssn},{to},{rsn}]")
             }
+            Entry::Tell(ControlMessage { from, to, id }) => write!(f, "[\"tell\",{from},{to},{id}]"),
+            Entry::Told(ControlMessage { from, to, id }) => write!(f, "[\"told\",{to},{from},{id}]"),
         }
     }
 }

@@ -248,7 +248,7 @@ impl<'a> Index<'a> {
     {
         let count = self.count(member);
         for next in number + 1..count {
-            if self.entry(member, next).event().is_some() {
+            if self.entry(member, next).recorded().is_none() {
                 return next;
             }
         }

@@ -4,10 +4,13 @@ ghost use Rattle.std.specs.Prelude.{◌≡◌, ◌<◌, ◌+◌, ◌≤◌, ◌�
 ghost use Rattle.fbl_dumps.specs.Dumps.{IsDump, RefusesDump, IsDumpBreach};
 ghost use Rattle.fbl_runs.specs.Clocks.{IsAdvance, IsLawful};
 ghost use Rattle.fbl_runs.specs.Entries.{marks};
+ghost use Rattle.fbl_runs.specs.declared.causality.Causality.TheVariants.{HappenedBefore};
 ghost use Rattle.fbl_runs.specs.Lawful.{BreaksAt, IsEventPlace, IsFirstBad, IsKnownAt, ObeysAt, records};
 ghost use Rattle.fbl_runs.specs.Logs.{IsLog, IsLogBreach, RefusesLog, parts_of_log, trace_of};
 
+use crate::causality::Causality;
 use crate::clocks::{Advance, Clocks};
+use crate::control::first_untold;
 use crate::entry::Entry;
 use crate::fault::{LogBreach, RecordFault, RecordRule};
 use crate::index::Index;
@@ -57,9 +60,9 @@ fn trace_refusal(alloc: Global, raw: &RawLog) -> Option<(DumpRefusal, Breach)>
     checked_dump(alloc, trace).err()
 }
 
-/// Whether what the entry at the place says is held or stored, if it says so, is a receipt that precedes it.
+/// Whether what the entry at the place says is held or stored, if it says so, is a receipt that happened before it.
 fn is_known(index: &Index<'_>, entry: &Entry, advance: &Advance) -> bool
-    ensures { (p : ℕ) → IsAdvance index.now p advance.now → slice_get index.now p ≡ Some entry.now
+    ensures { (p : ℕ) → IsAdvance HappenedBefore index.now p advance.now → slice_get index.now p ≡ Some entry.now
         → (result ≡ true) ↔ IsKnownAt index.now p }
 {
     match entry.recorded() {
@@ -76,7 +79,7 @@ fn broken_rule(
     advance: &Advance,
     before: usize,
 ) -> Option<RecordRule>
-    ensures { (p : ℕ) → IsAdvance index.now p advance.now → slice_get index.now p ≡ Some entry.now
+    ensures { (p : ℕ) → IsAdvance HappenedBefore index.now p advance.now → slice_get index.now p ≡ Some entry.now
         → before ≡ length (records (take p index.now))
         → MatchOption result (ObeysAt members index.now p) (BreaksAt members index.now p) }
 {
@@ -103,7 +106,7 @@ fn first_bad(
     ensures { IfOk result (λ r. MatchOption r ((i : ℕ) → ObeysAt members entries.now i) (IsFirstBad members entries.now)) }
 {
     let index = Index::of(alloc, entries)?;
-    let mut clocks = Clocks::new(alloc);
+    let mut clocks = Clocks::new(alloc, Causality::HappenedBefore);
     let mut count = 0;
     for (place, entry) in entries.iter().enumerate() {
         let advance = clocks.add(entries, place)?;
@@ -159,6 +162,14 @@ pub(crate) fn refusal(alloc: Global, raw: &RawLog) -> Option<(DumpRefusal, LogBr
 {
     if let Some((refusal, breach)) = trace_refusal(alloc, raw) {
         return Some(log_breach(raw, refusal, &breach));
+    }
+    match first_untold(alloc, raw.members, raw.entries.as_slice()) {
+        Ok(None) => {}
+        Ok(Some(fault)) => return Some((
+            DumpRefusal::BadEvent(fault.place),
+            LogBreach::Control(fault),
+        )),
+        Err(_) => return Some((DumpRefusal::Memory, LogBreach::Trace(Breach::Memory))),
     }
     match first_bad(alloc, raw.members, raw.entries.as_slice()) {
         Ok(None) => None,

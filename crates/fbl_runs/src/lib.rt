@@ -2,8 +2,10 @@
 //! their entries.
 #![tactic(auto)]
 
+mod causality;
 mod clock;
 mod clocks;
+mod control;
 mod entry;
 mod fault;
 mod index;
@@ -12,10 +14,12 @@ mod lawful;
 mod numbers;
 mod run;
 
+pub use causality::Causality;
 pub use clock::Clock;
 pub use clocks::{Advance, Clocks};
+pub use control::{ControlMessage, ControlMessages};
 pub use entry::Entry;
-pub use fault::{LogBreach, RecordFault, RecordRule};
+pub use fault::{ControlFault, ControlRule, LogBreach, RecordFault, RecordRule};
 pub use index::{Index, Records};
 pub use judged::Judged;
 pub use lawful::{event_place, marks_of};

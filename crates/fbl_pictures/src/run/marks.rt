@@ -8,7 +8,7 @@ ghost use Rattle.fbl_pictures.specs.RunShapes.{AreGlyphs, IsEventKind, IsGlyphOf
 use crate::run::members::Lines;
 use fbl_history::{Glyph, GlyphKind, ReceiptKind};
 use fbl_judge::Pasts;
-use fbl_runs::{Clock, Entry};
+use fbl_runs::{Clock, ControlMessage, Entry};
 use fbl_trace::{Determinant, Mark, MemberSet};
 use std::alloc::{AllocError, Global};
 
@@ -93,6 +93,8 @@ impl Receipts<'_> {
             Entry::Event(event) => self.event_kind(has_come, event),
             Entry::Hold { determinant, .. } => GlyphKind::Hold(determinant),
             Entry::Store { determinant, .. } => GlyphKind::Store(determinant),
+            Entry::Tell(ControlMessage { to, id, .. }) => GlyphKind::Tell { to, id },
+            Entry::Told(ControlMessage { from, id, .. }) => GlyphKind::Told { from, id },
         }
     }
 

@@ -26,6 +26,8 @@ pub(crate) fn glyph_sign(kind: GlyphKind) -> Sign {
         },
         GlyphKind::Hold(_) => Sign::Hold,
         GlyphKind::Store(_) => Sign::Store,
+        GlyphKind::Tell { .. } => Sign::Tell,
+        GlyphKind::Told { .. } => Sign::Told,
         GlyphKind::Strike => Sign::Strike,
         GlyphKind::Recovery { .. } => Sign::Recovery,
         GlyphKind::Checkpoint => Sign::Checkpoint,
@@ -53,6 +55,8 @@ fn kind_text(
         } => held_text(alloc, at, &determinant, kind, holders),
         GlyphKind::Hold(determinant) => hold_text(alloc, at, member, &determinant),
         GlyphKind::Store(determinant) => store_text(alloc, at, member, &determinant),
+        GlyphKind::Tell { to, id } => tell_text(alloc, at, member, to, id),
+        GlyphKind::Told { from, id } => told_text(alloc, at, member, from, id),
         GlyphKind::Strike => strike_text(alloc, at, member),
         GlyphKind::Recovery { receipts } => recovery_text(alloc, at, member, receipts),
         GlyphKind::Checkpoint => checkpoint_text(alloc, at, member),
@@ -226,6 +230,34 @@ fn store_text(
         "<rect class='store' x='{x}' y='{y}' width='8' height='8'>\
          <title>member {member} stores receipt {rsn} of member {to}</title></rect>\n\
          {numbers}"
+    )
+}
+
+fn tell_text(
+    alloc: Global,
+    at: Point,
+    from: Member,
+    to: Member,
+    id: u32,
+) -> Result<String, AllocError> {
+    let Point { x, y } = at.left(4).up(4);
+    let (from, to) = (from.number(), to.number());
+    format!(in alloc;
+        "<path class='tell' d='M{x} {y}l8 4l-8 4'><title>member {from} tells {to}, number {id}</title></path>\n"
+    )
+}
+
+fn told_text(
+    alloc: Global,
+    at: Point,
+    to: Member,
+    from: Member,
+    id: u32,
+) -> Result<String, AllocError> {
+    let Point { x, y } = at.right(4).up(4);
+    let (from, to) = (from.number(), to.number());
+    format!(in alloc;
+        "<path class='told' d='M{x} {y}l-8 4l8 4'><title>member {to} is told by {from}, number {id}</title></path>\n"
     )
 }
 

@@ -28,6 +28,8 @@ pub(crate) enum Sign {
     Moment,
     Hold,
     Store,
+    Tell,
+    Told,
 }
 
 /// The signs in the order in which legends have them, each with its mark and what it means.
@@ -111,6 +113,14 @@ const SIGNS: &[(Sign, &str)] = &[
     (
         Sign::Store,
         "<rect class='store' x='6' y='-8' width='8' height='8'/><text class='note' x='36' y='0'>store of this receipt, from here on</text>",
+    ),
+    (
+        Sign::Tell,
+        "<path class='tell' d='M6 -8l8 4l-8 4'/><text class='note' x='36' y='0'>tell: a control message is sent</text>",
+    ),
+    (
+        Sign::Told,
+        "<path class='told' d='M14 -8l-8 4l8 4'/><text class='note' x='36' y='0'>told: a control message is taken</text>",
     ),
 ];
 

@@ -32,11 +32,12 @@ pub(crate) const LOOK: &str = "<style>
 .fbl .recovery{fill:#fff;stroke:#00795a;stroke-width:2.5}
 .fbl .checkpoint,.fbl .store{fill:#222}
 .fbl .hold{fill:none;stroke:#0072b2;stroke-width:2}
+.fbl .tell,.fbl .told{fill:none;stroke:#444;stroke-width:1.5}
 .fbl .moment{fill:none;stroke:#222;stroke-width:1.5;stroke-dasharray:9 3 2 3}
 .fbl .to-come text{fill:#767676}
 .fbl .to-come .send,.fbl .receipt.to-come,.fbl .to-come .hold{fill:#fff;stroke:#949494;stroke-width:1.5}
 .fbl .to-come .store{fill:#949494}
-.fbl .to-come .message{stroke:#949494}
+.fbl .to-come .message,.fbl .to-come .tell,.fbl .to-come .told{stroke:#949494}
 @media(prefers-color-scheme:dark){
 .fbl .back{fill:#161616}
 .fbl text{fill:#eee}
@@ -55,11 +56,12 @@ pub(crate) const LOOK: &str = "<style>
 .fbl .recovery{fill:#161616;stroke:#3fbf98}
 .fbl .checkpoint,.fbl .store{fill:#eee}
 .fbl .hold{stroke:#56b4e9}
+.fbl .tell,.fbl .told{stroke:#bbb}
 .fbl .moment{stroke:#eee}
 .fbl .to-come text{fill:#8a8a8a}
 .fbl .to-come .send,.fbl .receipt.to-come,.fbl .to-come .hold{fill:#161616;stroke:#6e6e6e}
 .fbl .to-come .store{fill:#6e6e6e}
-.fbl .to-come .message{stroke:#6e6e6e}
+.fbl .to-come .message,.fbl .to-come .tell,.fbl .to-come .told{stroke:#6e6e6e}
 }
 </style>
 <defs>

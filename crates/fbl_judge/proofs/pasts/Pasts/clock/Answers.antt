@@ -10,14 +10,14 @@ stands c =
     let indexed : c.self.inside.index ≡ c.args.self.now.entries = c.self.invariant.index ∙ ap (λ (log : RunParts). log.entries) c.self.view_is in
     subst (λ (es : List Entry). StandsAt es c.place.result (at c.args.member (c.args.count - 1))) indexed c.place.ensures
 
-pub advance-requires : goal.advance-requires
-advance-requires c = (let is = stands (goal.at.advance-requires c).After-place in slice_get_within c.args.self.now.entries c.place.result is.0 is.1)
+pub known-requires : goal.known-requires
+known-requires c = (let is = stands (goal.at.known-requires c).After-place in slice_get_within c.args.self.now.entries c.place.result is.0 is.1)
 
 pub returns : goal.returns
 returns c =
     let es = c.args.self.now.entries in
-    let advance = c.advance.result.now in
+    let advance = c.known.result.now in
     let count : c.args.count - 1 + 1 ≡ c.args.count = grind (arith, nat_tests, c.if-count-eq0.false) in
-    let there = advance_at es c.place.result (at c.args.member (c.args.count - 1)) advance c.advance.ensures (stands (goal.at.returns c).After-place) in
-    subst (λ (k : ℕ). IsClock (log_of es) c.args.member k (cut_of advance.with)) count
-    (subst (λ (i : Position). IsClock (log_of es) i.member (i.number + 1) (cut_of advance.with)) there c.advance.ensures.with)
+    let there = advance_at es c.place.result (at c.args.member (c.args.count - 1)) advance c.known.ensures (stands (goal.at.returns c).After-place) in
+    subst (λ (k : ℕ). IsClock c.args.causality (log_of es) c.args.member k (cut_of advance.with)) count
+    (subst (λ (i : Position). IsClock c.args.causality (log_of es) i.member (i.number + 1) (cut_of advance.with)) there c.known.ensures.with)

@@ -1,4 +1,4 @@
-use Rattle.fbl_judge.proofs.Common.{◌≡◌, ◌∙◌, ap, subst, ℕ, List, Entry, Event, Some, Option, None, log_of, at, IsAt, IsReceiptAt, slice_get, receipt_of, Determinant, IsFirstDependent, Precedes}
+use Rattle.fbl_judge.proofs.Common.{Dependence, ◌≡◌, ◌∙◌, ap, subst, ℕ, List, Entry, Event, Some, Option, None, log_of, at, IsAt, IsReceiptAt, slice_get, receipt_of, Determinant, IsFirstDependent, Precedes}
 use Rattle.std.proofs.Common.{MatchOption}
 use Rattle.fbl_runs.specs.Logs.{IsRun, RunParts}
 use Rattle.fbl_judge.specs.Pasts.{IsFirstAfter}
@@ -20,7 +20,7 @@ returns-in_err-number c =
     none i.number (subst (λ (m : ℕ). IsAt (log_of es) (at m i.number) (Event (receipt_of d))) (received_own es d i here) here)))
 
 found : (run : RunParts) (d : Determinant) (k member : ℕ) → IsRun run → IsReceiptAt (log_of run.entries) d (at d.to k) → (o : Option ℕ)
-    → MatchOption o ((l : ℕ) → ¬ (Precedes (log_of run.entries) (at d.to k) (at member l))) (λ l. IsFirstAfter (log_of run.entries) (at d.to k) (at member l))
+    → MatchOption o ((l : ℕ) → ¬ (Precedes Dependence (log_of run.entries) (at d.to k) (at member l))) (λ l. IsFirstAfter (log_of run.entries) (at d.to k) (at member l))
     → MatchOption o (¬ (DependsSome run d member)) (λ l. IsFirstDependent (log_of run.entries) d (at member l))
 found run d k member rules receipt None none = λ depends. none depends.0 ((depends_iff run rules.lawful rules.strike d (at d.to k) (at member depends.0) receipt).0 depends.1)
 found run d k member rules receipt (Some l) first = first_dependent run rules.lawful rules.strike d (at d.to k) (at member l) receipt first

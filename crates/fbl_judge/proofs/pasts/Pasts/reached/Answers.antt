@@ -1,4 +1,4 @@
-use Rattle.fbl_judge.proofs.Common.{arith, ℕ, ◌≡◌, ◌∙◌, inl, inr, true, false, cases_lt, sym, subst, log_of, refl, at}
+use Rattle.fbl_judge.proofs.Common.{Dependence, arith, ℕ, ◌≡◌, ◌∙◌, inl, inr, true, false, cases_lt, sym, subst, log_of, refl, at}
 use Rattle.std.proofs.lemmas.List.{get_or_past}
 use Rattle.fbl_runs.specs.Clocks.{PrecedesSome, cut_of}
 use Rattle.fbl_runs.proofs.TableLaws.{found_more, found_none}
@@ -7,15 +7,15 @@ use Rattle.fbl_judge.proofs.pasts.Pasts.reached.Goals.{then-precedes, else-prece
 
 pub loop-number_of_member-init : goal.loop-number_of_member-init
 loop-number_of_member-init c =
-    found_none (λ q. PrecedesSome (log_of c.args.self.now.entries) (at c.args.source c.args.number) q (cut_of c.args.moment.now q)) c.empty-reached.result c.empty-reached.ensures
+    found_none (λ q. PrecedesSome Dependence (log_of c.args.self.now.entries) (at c.args.source c.args.number) q (cut_of c.args.moment.now q)) c.empty-reached.result c.empty-reached.ensures
 
 pub loop-number_of_member-preserved : goal.loop-number_of_member-preserved
 loop-number_of_member-preserved c =
-    let P : ℕ → Type 0 = λ q. PrecedesSome (log_of c.args.self.now.entries) (at c.args.source c.args.number) q (cut_of c.args.moment.now q) in
+    let P : ℕ → Type 0 = λ q. PrecedesSome Dependence (log_of c.args.self.now.entries) (at c.args.source c.args.number) q (cut_of c.args.moment.now q) in
     let count : c.count.result ≡ cut_of c.args.moment.now c.at-member.result = c.count.ensures in
-    let to_cut = λ (h : PrecedesSome (log_of c.args.self.now.entries) (at c.args.source c.args.number) c.at-member.result c.count.result).
-    subst (λ (n : ℕ). PrecedesSome (log_of c.args.self.now.entries) (at c.args.source c.args.number) c.at-member.result n) count h in
-    let from_cut = λ (h : P c.at-member.result). subst (λ (n : ℕ). PrecedesSome (log_of c.args.self.now.entries) (at c.args.source c.args.number) c.at-member.result n) (sym count) h in
+    let to_cut = λ (h : PrecedesSome Dependence (log_of c.args.self.now.entries) (at c.args.source c.args.number) c.at-member.result c.count.result).
+    subst (λ (n : ℕ). PrecedesSome Dependence (log_of c.args.self.now.entries) (at c.args.source c.args.number) c.at-member.result n) count h in
+    let from_cut = λ (h : P c.at-member.result). subst (λ (n : ℕ). PrecedesSome Dependence (log_of c.args.self.now.entries) (at c.args.source c.args.number) c.at-member.result n) (sym count) h in
     elim c.if-precedes.branch [
       | then-precedes w ↦ found_more P c.loop-number_of_member.reached c.if-precedes.reached c.loop-number_of_member.number_of_member c.at-member.result true
           c.at-member.ensures (λ _. to_cut (c.precedes.ensures.0 w.if-precedes.true), λ _. refl) (w.reached-is ∙ w.with-reached.ensures) c.loop-number_of_member.invariant

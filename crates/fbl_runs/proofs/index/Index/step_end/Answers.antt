@@ -1,29 +1,30 @@
-use Rattle.fbl_runs.proofs.Common.{arith, ℕ, ◌≡◌, ◌<◌, ◌∙◌, Option, Some, None, true, false, sym, subst, log_of, slice_get, slice_get_within, mark_in, Mark, Entry, IsRecord}
+use Rattle.fbl_runs.proofs.Common.{arith, ℕ, ◌≡◌, ◌<◌, ◌∙◌, Option, Some, None, true, false, not, ap, sym, subst, log_of, slice_get, slice_get_within, Determinant, Entry, IsRecord}
 use Rattle.std.proofs.Common.{below_more}
 use Rattle.std.specs.Option.{is_some}
+use Rattle.fbl_runs.specs.Entries.{recorded_in}
 use Rattle.fbl_runs.proofs.index.Index.step_end.Goals as goal
 
-no_mark : (e : Entry) (o : Option Mark) → o ≡ mark_in e → is_some o ≡ false → IsRecord e
-no_mark e None is none = sym is
-no_mark e (Some m) is none = cc
+a_record : (e : Entry) (o : Option Determinant) → o ≡ recorded_in e → is_some o ≡ true → IsRecord e
+a_record e None is some = cc
+a_record e (Some d) is some = (d, sym is)
 
-a_mark : (e : Entry) (o : Option Mark) → o ≡ mark_in e → is_some o ≡ true → ¬ (IsRecord e)
-a_mark e None is some record' = cc
-a_mark e (Some m) is some record' = (let no : Some m ≡ None = is ∙ record' in cc)
+no_record : (e : Entry) (o : Option Determinant) → o ≡ recorded_in e → is_some o ≡ false → ¬ (IsRecord e)
+no_record e None is none record' = (let no : None ≡ Some record'.0 = is ∙ record'.1 in cc)
+no_record e (Some d) is none record' = cc
 
 pub loop-next-preserved : goal.loop-next-preserved
 loop-next-preserved c k after below = below_more (λ (k : ℕ). c.args.number < k → (e : Entry) × (slice_get (log_of c.args.self.now c.args.member) k ≡ Some e) × IsRecord e) c.loop-next.next
     (λ k before after. c.loop-next.invariant k after before)
-    (λ after. (c.entry.result.now, c.entry.ensures, no_mark c.entry.result.now c.event.result c.event.ensures (sym c.is_some.ensures ∙ c.if-is_some.false))) k
+    (λ after. (c.entry.result.now, c.entry.ensures, a_record c.entry.result.now c.recorded.result c.recorded.ensures (c.is_none.ensures ∙ ap not c.if-is_none.false))) k
     below after
 
-pub returns-then-is_some : goal.returns-then-is_some
-returns-then-is_some c = record {
+pub returns-then-is_none : goal.returns-then-is_none
+returns-then-is_none c = record {
   after = omega arith;
   records = c.loop-next.invariant;
   last = λ e there.
       let same : c.entry.result.now ≡ e = (let s : Some c.entry.result.now ≡ Some e = sym c.entry.ensures ∙ there in cc) in
-      subst (λ (x : Entry). ¬ (IsRecord x)) same (a_mark c.entry.result.now c.event.result c.event.ensures (sym c.is_some.ensures ∙ c.if-is_some.true));
+      subst (λ (x : Entry). ¬ (IsRecord x)) same (no_record c.entry.result.now c.recorded.result c.recorded.ensures (c.is_none.ensures ∙ ap not c.if-is_none.true));
 }
 
 pub returns : goal.returns

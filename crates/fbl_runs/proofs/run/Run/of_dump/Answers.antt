@@ -1,7 +1,5 @@
-use Rattle.fbl_runs.proofs.Common.{◌≡◌, ap, sym, subst, ◌∙◌, List, Entry, ◌++◌}
-use Rattle.std.proofs.Common.{map}
-use Rattle.fbl_runs.specs.declared.entry.Entry.TheVariants.{Event}
-use Rattle.fbl_runs.specs.Logs.{IsRun, RunParts, hold_of, parts_of, run_of_dump}
+use Rattle.fbl_runs.proofs.Common.{◌≡◌, sym, subst}
+use Rattle.fbl_runs.specs.Logs.{IsRun, run_of_dump}
 use Rattle.fbl_runs.proofs.RunLaws.{is_run}
 use Rattle.fbl_runs.proofs.run.Run.of_dump.Goals as goal
 
