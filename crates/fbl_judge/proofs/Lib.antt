@@ -4,6 +4,7 @@ pub mod SafeAlways
 pub mod NoOrphans
 pub mod PastLaws
 pub mod UnsafeLaws
+pub mod Untold
 pub mod OrderLaws
 pub mod Audits
 pub mod PathLaws

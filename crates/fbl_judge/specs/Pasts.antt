@@ -1,10 +1,12 @@
 -- What the pasts of a run's entries say of them.
-use Rattle.std.specs.Prelude.{ℕ, ◌≡◌, ◌<◌, List, length}
+use Rattle.std.specs.Prelude.{ℕ, ◌≡◌, ◌<◌, Bool, true, false, List, length, Option, Some, None}
+use Rattle.std.specs.List.{list_any}
 use Rattle.fbl_trace.specs.declared.trace.Determinant.{Determinant}
 use Rattle.fbl_runs.specs.declared.causality.Causality.TheVariants.{Dependence, HappenedBefore}
 use Rattle.fbl_runs.specs.declared.clock.Clock.{Clock}
 use Rattle.fbl_runs.specs.declared.clocks.Advance.{Advance}
 use Rattle.fbl_runs.specs.declared.entry.Entry.{Entry}
+use Rattle.fbl_runs.specs.declared.entry.Entry.TheVariants.{Told}
 use Rattle.fbl_runs.specs.Clocks.{AreAdvances, IsNoClock, cut_of}
 use Rattle.fbl_runs.specs.Entries.{Logs, log_of}
 use Rattle.fbl_runs.specs.HappenedBefore.{Position, Precedes, at}
@@ -20,12 +22,22 @@ pub record IsFirstAfter (logs : Logs) (i j : Position) : Type 0 where
 abbrev pub IsLeastMomentOfReceipt : Logs → Position → Cut → Type 0
 IsLeastMomentOfReceipt logs j cut = (r : Determinant) → IsReceiptAt logs r j → IsLeastMoment logs j cut
 
+-- whether the entry's member is told a control message
+abbrev pub is_told : Entry → Bool
+is_told (Told m) = true
+is_told e = false
+
+-- it is known on what each entry depends, or that is what happened before it, since no member is told a control message
+abbrev pub AreDependences : List Entry → Option (List Advance) → Type 0
+AreDependences entries (Some advances) = AreAdvances Dependence entries (length entries) advances
+AreDependences entries None = list_any is_told entries ≡ false
+
 -- the run obeys its rules, the index is of its entries, two clocks are those of nothing and of all, and of each entry it is known what
 -- happened before it and on what it depends
-pub record AreOf (run : RunParts) (indexed : List Entry) (empty full : Clock) (befores dependences : List Advance) : Type 0 where
+pub record AreOf (run : RunParts) (indexed : List Entry) (empty full : Clock) (befores : List Advance) (dependences : Option (List Advance)) : Type 0 where
   pub rules : IsRun run
   pub index : indexed ≡ run.entries
   pub none : IsNoClock empty
   pub last : (q : ℕ) → cut_of full q ≡ length (log_of run.entries q)
   pub before : AreAdvances HappenedBefore run.entries (length run.entries) befores
-  pub depends : AreAdvances Dependence run.entries (length run.entries) dependences
+  pub depends : AreDependences run.entries dependences

@@ -1,6 +1,7 @@
 //! The pasts of a run's entries: which entries precede which.
 
-ghost use Rattle.std.specs.Prelude.{◌≡◌, ◌<◌, ◌+◌, ◌≤◌, ◌↔◌, ℕ, Some, true, IfOk, MatchOption, length, slice_get};
+ghost use Rattle.std.specs.Prelude.{◌≡◌, ◌<◌, ◌+◌, ◌≤◌, ◌↔◌, ℕ, Some, true, IfOk, MatchOption, length, option_map, slice_get};
+ghost use Rattle.std.specs.List.{list_any};
 ghost use Rattle.std.specs.FinSet as set;
 ghost use Rattle.fbl_runs.specs.Clocks.{AreAdvances, IsAdvance, IsClock, IsLawful, PrecedesSome, StandsAt, cut_of};
 ghost use Rattle.fbl_runs.specs.Entries.{log_of};
@@ -9,7 +10,7 @@ ghost use Rattle.fbl_runs.specs.Moments.{DependsAt, IsFirstDependent};
 ghost use Rattle.fbl_runs.specs.declared.causality.Causality.TheVariants.{Dependence, HappenedBefore};
 ghost use Rattle.fbl_runs.specs.declared.entry.Entry.TheVariants.{Event};
 ghost use Rattle.fbl_trace.specs.Events.{receipt_of};
-ghost use Rattle.fbl_judge.specs.Pasts.{IsFirstAfter, IsLeastMomentOfReceipt};
+ghost use Rattle.fbl_judge.specs.Pasts.{AreDependences, IsFirstAfter, IsLeastMomentOfReceipt, is_told};
 ghost use Rattle.fbl_judge.specs.Paths.{ArePathEnds, DependsSome, IsDependentPlace};
 ghost use Rattle.fbl_runs.specs.Logs.{IsRun};
 
@@ -29,8 +30,9 @@ pub struct Pasts<'a> {
     last: Clock,
     /// For each entry, at its place, what happened before it.
     before: Vec<Advance>,
-    /// For each entry, at its place, on what it depends.
-    depends: Vec<Advance>,
+    /// For each entry, at its place, on what it depends: none are kept where no member is told a control message, since it then depends on
+    /// what happened before it.
+    depends: Option<Vec<Advance>>,
 }
 
 impl<'a> Model for Pasts<'a> {
@@ -48,7 +50,26 @@ impl<'a> Model for Pasts<'a> {
 
     ghost view = { λ p. p.run.now };
 
-    ghost invariant = { λ p. AreOf p.run.now p.index p.none p.last p.before.items p.depends.items };
+    ghost use Rattle.std.specs.Prelude.{option_map};
+
+    ghost invariant = { λ p. AreOf p.run.now p.index p.none p.last p.before.items (option_map (λ v. v.items) p.depends) };
+}
+
+/// Whether the entry's member is told a control message.
+fn is_told(entry: &Entry) -> bool
+    ensures { result ≡ is_told entry.now }
+{
+    match *entry {
+        Entry::Told(_) => true,
+        _ => false,
+    }
+}
+
+/// Whether some member is told a control message.
+fn is_any_told(entries: &[Entry]) -> bool
+    ensures { result ≡ list_any is_told entries.now }
+{
+    entries.iter().any(|entry| is_told(entry))
 }
 
 /// What a pass over the entries knows of each.
@@ -68,6 +89,17 @@ fn advances_of(
     Ok(advances)
 }
 
+/// On what each of the entries depends, unless that is what happened before it, since no member is told a control message.
+fn dependences_of(alloc: Global, entries: &[Entry]) -> Result<Option<Vec<Advance>>, AllocError>
+    requires { IsLawful entries.now }
+    ensures { IfOk result (λ depends. AreDependences entries.now (option_map (λ v. v.items) depends)) }
+{
+    if !is_any_told(entries) {
+        return Ok(None);
+    }
+    Ok(Some(advances_of(alloc, entries, Causality::Dependence)?))
+}
+
 impl<'a> Pasts<'a> {
     /// The pasts of the run's entries. The time taken is that of the entries times the members. `Err` comes only where there is no memory
     /// for them.
@@ -76,7 +108,7 @@ impl<'a> Pasts<'a> {
     {
         let entries = run.entries();
         let before = advances_of(alloc, entries, Causality::HappenedBefore)?;
-        let depends = advances_of(alloc, entries, Causality::Dependence)?;
+        let depends = dependences_of(alloc, entries)?;
         let index = Index::of(alloc, entries)?;
         let last = index.last();
         Ok(Pasts {
@@ -112,7 +144,10 @@ impl<'a> Pasts<'a> {
     {
         match causality {
             Causality::HappenedBefore => &self.before[place],
-            Causality::Dependence => &self.depends[place],
+            Causality::Dependence => match &self.depends {
+                Some(depends) => &depends[place],
+                None => &self.before[place],
+            },
         }
     }
 
@@ -146,7 +181,9 @@ impl<'a> Pasts<'a> {
         if count == 0 {
             return &self.none;
         }
-        &self.known(causality, self.index.place(member, count - 1)).with
+        &self
+            .known(causality, self.index.place(member, count - 1))
+            .with
     }
 
     /// Whether one of the member's first entries, this many, depends on the source's entry with the number.
@@ -154,7 +191,10 @@ impl<'a> Pasts<'a> {
         requires { count ≤ length (log_of self.now.entries member) }
         ensures { (result ≡ true) ↔ PrecedesSome Dependence (log_of self.now.entries) (at source number) member count }
     {
-        number < self.clock(Causality::Dependence, member, count).count(source)
+        number
+            < self
+                .clock(Causality::Dependence, member, count)
+                .count(source)
     }
 
     /// How many of the member's entries stand before the first that depends on the source's entry with the number: all where none does.

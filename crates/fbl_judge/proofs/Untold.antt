@@ -1,0 +1,42 @@
+-- Where no member is told a control message, what happened before an entry is just that on which it depends.
+use Rattle.fbl_judge.proofs.Common.{ℕ, zero, suc, false, ◌≡◌, inl, inr, List, [], ◌∷◌, Some, slice_get, ap, ◌∙◌, arith, Dependence, HappenedBefore, Entry, log_of, Position, Precedes, at}
+use Rattle.std.specs.List.{list_any}
+use Rattle.fbl_runs.specs.declared.clocks.Advance.{Advance}
+use Rattle.fbl_runs.specs.declared.control.ControlMessage.{ControlMessage}
+use Rattle.fbl_runs.specs.declared.entry.Entry.TheVariants.{Told}
+use Rattle.fbl_runs.specs.Clocks.{IsAdvance}
+use Rattle.fbl_runs.specs.HappenedBefore.{Leads, itself, step}
+use Rattle.fbl_runs.proofs.Listing.{locate_all}
+use Rattle.fbl_judge.specs.Pasts.{is_told}
+
+module _ (entries : List Entry) (none : list_any is_told entries ≡ false) where
+  untold : (es : List Entry) → list_any is_told es ≡ false → (i : ℕ) (m : ControlMessage) → ¬ (slice_get es i ≡ Some (Told m))
+  untold [] none i m there = absurd cc
+  untold (e ∷ es) none zero m there = (let is : e ≡ Told m = cc in let told = ap is_told is in absurd (grind (arith, none, told)))
+  untold (e ∷ es) none (suc i) m there = untold es (grind (arith, none)) i m there
+
+  leads : (i j : Position) → Leads HappenedBefore (log_of entries) i j → Leads Dependence (log_of entries) i j
+  leads i j (a, b, at_i, at_j, inl own) = (a, b, at_i, at_j, inl own)
+  leads i j (a, b, at_i, at_j, inr (inl carries)) = (a, b, at_i, at_j, inr carries)
+  leads i j (a, b, at_i, at_j, inr (inr tells)) =
+      let there = locate_all entries j.member j.number b at_j in
+      absurd (untold entries none there.0 tells.0 (there.2 ∙ ap Some tells.2))
+
+  depends : (i j : Position) → Precedes HappenedBefore (log_of entries) i j → Precedes Dependence (log_of entries) i j
+  depends i j (itself at_i) = itself at_i
+  depends i j (step {j = k} before last) = step (depends i k before) (leads k j last)
+
+  happened : (i j : Position) → Precedes Dependence (log_of entries) i j → Precedes HappenedBefore (log_of entries) i j
+  happened i j (itself at_i) = itself at_i
+  happened i j (step {j = k} before (a, b, at_k, at_j, inl own)) = step (happened i k before) (a, b, at_k, at_j, inl own)
+  happened i j (step {j = k} before (a, b, at_k, at_j, inr carries)) = step (happened i k before) (a, b, at_k, at_j, inr (inl carries))
+
+  pub untold_advance : (p : ℕ) (advance : Advance) → IsAdvance HappenedBefore entries p advance → IsAdvance Dependence entries p advance
+  untold_advance p advance is = record {
+    member = is.member;
+    number = is.number;
+    with = record {
+      all = λ i some. is.with.all i (some.0, some.1, happened i (at advance.member some.0) some.2);
+      only = λ i come. (let some = is.with.only i come in (some.0, some.1, depends i (at advance.member some.0) some.2));
+    };
+  }
