@@ -31,8 +31,8 @@ fn look_up(group: &Group<Shard>, key: u8) -> u64
     ensures value { (m : ℕ) → m < group.now.config.members
         → slice_index (record_of group.now m).state key
         ≡ (if m == key_owner group.now.config.members key then result else 0) }
-    ensures commands { let owner = key_owner group.now.config.members key in IsUp
-        (knowledge group.now) owner
+    ensures commands { let owner = key_owner group.now.config.members key in
+        IsUp (knowledge group.now) owner
         → result ≡ made_of key (received_notes group.now.trace owner) }
     ensures most { result ≤ amount_brought group.now.config }
 {

@@ -48,12 +48,13 @@ fn read_bytes<R: io::Read>(alloc: Global, reader: &mut R) -> Result<Vec<u8>, Run
     Ok(input)
 }
 
-/// What the reader has, or why it cannot be had, as the fault of an input of this kind.
+/// What the reader has, up to the longest input, or why it cannot be had, as the fault of an input of this kind.
 pub fn read_input<R: io::Read>(
     alloc: Global,
     kind: InputKind,
     reader: &mut R,
 ) -> Result<Vec<u8>, InputFault>
+    ensures short { IfOk result (λ v. length v.items ≤ longest) }
     ensures whole { IfOk result (λ v. IfSome (R.remaining reader.old) (λ input. v.items ≡ input)) }
     ensures unread { IfErr result (λ fault. (fault.kind ≡ kind) × IsUnread (R.remaining reader.old) fault.fault) }
 {

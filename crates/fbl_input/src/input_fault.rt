@@ -18,7 +18,8 @@ pub struct InputFault {
     pub fault: RunFault,
     /// Which rule is broken, where the fault is that one is.
     pub breach: Option<LogBreach>,
-    /// The bytes in which the fault was found: none where they could not be read, are too many or there was no memory for them.
+    /// The bytes in which the fault was found, of lines the JSON text for which they stand: none where they could not be read, are too
+    /// many or there was no memory for them.
     pub input: Vec<u8>,
 }
 

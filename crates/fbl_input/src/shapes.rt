@@ -6,7 +6,7 @@ ghost use Rattle.std.specs.BTreeMap.{keys};
 ghost use Rattle.serde_json.specs.Find.{as_object};
 ghost use Rattle.serde_json.specs.View.{view, members_view};
 ghost use Rattle.fbl_input.specs.Items.{unknown_key};
-ghost use Rattle.fbl_input.specs.Shapes.{Gives, all_shaped, as_list, count_shape, field, is_key_of, is_text, list_of, member_shape, number_within, or_fault, set_shape, value_of_input};
+ghost use Rattle.fbl_input.specs.Shapes.{Gives, all_shaped, as_list, count_shape, field, is_key_of, is_text, json_of, list_of, member_shape, number_within, or_fault, set_shape, value_of_input};
 ghost use Rattle.fbl_input.specs.declared.fault.RunFault.TheVariants.{NotObject, UnknownKey};
 
 use crate::fault::RunFault;
@@ -207,6 +207,17 @@ pub fn no_other_key(kind: InputKind, value: &Value) -> Result<(), RunFault>
     }
 }
 
+/// The JSON that the bytes spell, if they do. `Err` comes only where there is no memory for the value.
+pub fn json_in(alloc: Global, bytes: &[u8]) -> Result<Option<Value>, AllocError>
+    ensures { IfOk result (λ value. option_map view value ≡ json_of bytes.now) }
+{
+    match Value::from_slice(alloc, bytes) {
+        Ok(value) => Ok(Some(value)),
+        Err(e) if e.is_memory() => Err(AllocError),
+        Err(_) => Ok(None),
+    }
+}
+
 /// The JSON that an input is: `TooLong` past 1,048,576 bytes, and else `NotJson` where the bytes spell none. `Memory` comes
 /// only where there is none for the value.
 pub fn value_in(alloc: Global, input: &[u8]) -> Result<Value, RunFault>
@@ -215,9 +226,5 @@ pub fn value_in(alloc: Global, input: &[u8]) -> Result<Value, RunFault>
     if input.len() > LONGEST {
         return Err(RunFault::TooLong);
     }
-    match Value::from_slice(alloc, input) {
-        Ok(value) => Ok(value),
-        Err(e) if e.is_memory() => Err(RunFault::Memory),
-        Err(_) => Err(RunFault::NotJson),
-    }
+    json_in(alloc, input)?.ok_or(RunFault::NotJson)
 }

@@ -50,7 +50,10 @@ const MERGE_EXAMPLE: &str =
 holds what, and who is struck, is taken from all of them. Which order is found makes no difference to an audit or a check, which
 merge several files themselves:
 
-  fblrun check member-0.json member-1.json member-2.json"#;
+  fblrun check member-0.json member-1.json member-2.json
+
+A log, a dump of version 2, may also be lines, as a process can write them: the object without its events, and on each further
+line an event, or a list of events."#;
 
 /// What `audit` does.
 const AUDIT: &str =

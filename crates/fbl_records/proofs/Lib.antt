@@ -1,4 +1,5 @@
 pub mod Common
+pub mod EventLines
 pub mod Newlines
 pub mod Records
 pub mod Values

@@ -1,5 +1,5 @@
 -- The value of a log, and how it is read back.
-use Rattle.fbl_records.proofs.Common.{IsWritable, ◌≡◌, ◌≤◌, refl, ap, sym, arith, false, Some, Ok, All, member_list, member_shape, depth, has_float, number_data}
+use Rattle.fbl_records.proofs.Common.{IsWritable, ◌≡◌, refl, ap, sym, arith, Some, Ok, All, member_list, member_shape, number_data}
 use Rattle.fbl_input.specs.Items.{entry_shape}
 use Rattle.fbl_runs.specs.Logs.{IsRun, RunParts}
 use Rattle.fbl_runs.specs.declared.judged.Judged.TheVariants.{AtEachMoment}

@@ -1,9 +1,11 @@
 -- The fault of an input that records a run, where what it gives is refused.
-use Rattle.std.proofs.Common.{◌≡◌, ℕ, ◌∙◌, ◌⊎◌, ap, inl, inr, refl, sym, subst, List, Ok, Err, Result, Option, Some, None, IfSome, Bool, true, false}
+use Rattle.std.proofs.Common.{◌≡◌, ◌<◌, ◌≤◌, ℕ, ◌∙◌, ◌⊎◌, ap, inl, inr, refl, sym, subst, List, Ok, Err, Result, Option, Some, None, IfSome, Bool, true, false}
 use Rattle.std.specs.Prelude.{is_some, option_and_then, if◌then◌else◌}
 use Rattle.serde_json.specs.Find.{get}
-use Rattle.fbl_input.proofs.Unread.{too_long}
-use Rattle.fbl_input.specs.Faults.{HasInput, IsFaultOf, IsFirstFault, IsUnread}
+use Rattle.std.specs.Prelude.{cond, length, nat_lt}
+use Rattle.std.proofs.lemmas.Bool.{le-ltb, lt-ltb}
+use Rattle.fbl_input.specs.Shapes.{Fails, json_of, longest, or_fault, value_of_input}
+use Rattle.fbl_input.specs.Faults.{HasInput, IsFirstFault, IsUnread}
 use Rattle.fbl_runs.specs.declared.fault.LogBreach.{LogBreach}
 use Rattle.fbl_input.specs.declared.fault.RunFault.TheVariants as faults
 use Rattle.fbl_input.specs.declared.key.Key.TheVariants as keys
@@ -17,9 +19,11 @@ use Rattle.fbl_input.specs.Faults.{dump_fault}
 use Rattle.fbl_runs.specs.declared.fault.LogBreach.TheVariants.{Trace}
 use Rattle.fbl_trace.specs.declared.fault.Breach.{Breach}
 use Rattle.fbl_runs.specs.Logs.{IsLogBreach, RefusesLog, RunParts}
-use Rattle.fbl_records.proofs.Common.{Data, InputFault, InputKind, Parts, RunFault, name_of, parts_of_data, parts_of_input, value_of_input, ◌>>=◌}
+use Rattle.fbl_records.proofs.Common.{Data, InputFault, InputKind, Parts, RunFault, name_of, parts_of_data, parts_of_input, ◌>>=◌}
 use Rattle.fbl_records.specs.Dumps.{IsNoDump, BreaksParts, RefusesParts}
-use Rattle.fbl_records.specs.Logs.{HasKind, IsNotChecked, IsNotRecorded, IsRefusal, BreaksRecorded, RefusesNone, RefusesRecorded, kind_of, log_of_data, log_version, recorded_as, recorded_kind, recorded_of_data, recorded_of_input}
+use Rattle.fbl_records.specs.Logs.{HasKind, IsNotChecked, IsNotRecorded, IsRefusal, BreaksRecorded, RefusesNone, RefusesRecorded, kind_of, log_of_data, recorded_as, recorded_kind, recorded_of_data, recorded_of_input, value_meant}
+use Rattle.fbl_records.specs.EventLines.{is_whole, json_text, lines_text, log_version}
+use Rattle.fbl_records.proofs.EventLines.{meant_as_it_is, own_text}
 use Rattle.fbl_records.specs.declared.reader.Checked.{Checked}
 use Rattle.fbl_records.specs.declared.reader.Checked.TheVariants as parts
 
@@ -40,10 +44,10 @@ by_version : (has_version : Bool) (d : Data) (found : Checked) → recorded_as (
 by_version true d found is = of_log (log_of_data d) found is
 by_version false d found is = of_dump (parts_of_data d) found is
 
-kind_is : (input : List ℕ) (found : Checked) → recorded_of_input input ≡ Ok found → (d : Data) → value_of_input input ≡ Ok d → kind_of found ≡ recorded_kind d
+kind_is : (input : List ℕ) (found : Checked) → recorded_of_input input ≡ Ok found → (d : Data) → value_meant input ≡ Ok d → kind_of found ≡ recorded_kind d
 kind_is input found is d spelled = by_version (is_some (option_and_then log_version (get (name_of keys.Version) d))) d found (ap (λ v. v >>= recorded_of_data) (sym spelled) ∙ is)
 
-has_kind : (e : RunFault) (input : List ℕ) (kind : InputKind) → ((d : Data) → value_of_input input ≡ Ok d → kind ≡ recorded_kind d) → HasKind e input kind
+has_kind : (e : RunFault) (input : List ℕ) (kind : InputKind) → ((d : Data) → value_meant input ≡ Ok d → kind ≡ recorded_kind d) → HasKind e input kind
 has_kind faults.Read input kind is = tt
 has_kind faults.Memory input kind is = tt
 has_kind e input kind is = is
@@ -72,14 +76,14 @@ log_refusal log dump.Memory breach bytes refuses why = record { kind = refl; has
 log_refusal log e breach bytes refuses why = record { kind = refl; has = refl; refused = inr refuses; why = why }
 
 -- a refusal of what an input records is its first fault
-pub refused : (input : List ℕ) (found : Checked) (bytes : List ℕ) (fault : InputFault) → recorded_of_input input ≡ Ok found → bytes ≡ input
+pub refused : (input : List ℕ) (found : Checked) (bytes : List ℕ) (fault : InputFault) → recorded_of_input input ≡ Ok found → bytes ≡ json_text input
     → IsRefusal found bytes fault → IsNotChecked input fault
 refused input found bytes fault is same refusal = (
   has_kind fault.fault input fault.kind (λ d spelled. refusal.kind ∙ kind_is input found is d spelled),
   record {
     first = by_refusal refusal.refused;
     breach = λ a i. (let other : found ≡ a = cc in subst (λ x. BreaksRecorded x fault.fault fault.breach) other refusal.why);
-    bytes = has_bytes fault.fault fault.input.items input (refusal.has ∙ same);
+    bytes = has_bytes fault.fault fault.input.items (json_text input) (refusal.has ∙ same);
   },
 )
   where
@@ -121,13 +125,41 @@ pub any_memory : (found : Checked) (breach : Option LogBreach) → BreaksRecorde
 any_memory (parts.Dump dump) breach = (tt, tt)
 any_memory (parts.Log log) breach = (tt, tt)
 
-no_value : (input : List ℕ) (e : RunFault) (kind : InputKind) → IsUnread (Some input) e → HasKind e input kind
-no_value input faults.Read kind is = tt
-no_value input faults.Memory kind is = tt
-no_value input faults.TooLong kind is = λ d spelled. (let long = too_long input is in absurd cc)
-no_value input e kind is = absurd is
+long_input : (input : List ℕ) → longest < length input → value_meant input ≡ Err faults.TooLong
+long_input input is = ap (λ b. cond b (Err faults.TooLong) (or_fault faults.NotJson (json_of (json_text input)))) (lt-ltb longest (length input) is)
 
-pub unread_kind : (known : Option (List ℕ)) (fault : InputFault) → IsUnread known fault.fault
-    → IfSome known (λ input. IsFaultOf (recorded_of_input input) RefusesNone BreaksRecorded input fault) → IfSome known (λ input. IsNotRecorded input fault)
-unread_kind None fault is h = tt
-unread_kind (Some input) fault is h = (no_value input fault.fault fault.kind is, h)
+pub short_input : (input : List ℕ) → length input ≤ longest → value_meant input ≡ or_fault faults.NotJson (json_of (json_text input))
+short_input input is = ap (λ b. cond b (Err faults.TooLong) (or_fault faults.NotJson (json_of (json_text input)))) (le-ltb longest (length input) is)
+
+pub as_it_is : (input : List ℕ) → (is_whole (json_of input) ≡ true) ⊎ (lines_text input ≡ None) → recorded_of_input input ≡ (value_of_input input >>= recorded_of_data)
+as_it_is input is = ap (λ t. cond (nat_lt longest (length input)) (Err faults.TooLong) (or_fault faults.NotJson (json_of t)) >>= recorded_of_data) (meant_as_it_is input is)
+
+-- what a JSON text records, if it is more than the first line of a log, is what its value does
+pub text_records : (text : List ℕ) (d : Data) → length text ≤ longest → is_whole (Some d) ≡ true → json_of text ≡ Some d → recorded_of_input text ≡ recorded_of_data d
+text_records text d short whole is =
+    ap (λ v. v >>= recorded_of_data) (short_input text short ∙ ap (λ t. or_fault faults.NotJson (json_of t)) (own_text text (ap is_whole is ∙ whole)) ∙ ap (or_fault faults.NotJson) is)
+
+unread_input : (input : List ℕ) (fault : InputFault) (e : RunFault) → fault.fault ≡ e → IsUnread (Some input) e → IsNotRecorded input fault
+unread_input input fault faults.Read same is = (rw same tt, record { first = rw same tt; breach = λ a e. rw same (any_memory a fault.breach).0; bytes = rw same tt })
+unread_input input fault faults.Memory same is = (rw same tt, record { first = rw same tt; breach = λ a e. rw same (any_memory a fault.breach).1; bytes = rw same tt })
+unread_input input fault faults.TooLong same is =
+    let none : value_meant input ≡ Err faults.TooLong = long_input input is in
+    let long : recorded_of_input input ≡ Err faults.TooLong = ap (λ v. v >>= recorded_of_data) none in
+    (rw same (λ d spelled. absurd cc), record { first = rw same (inl long); breach = λ a e. absurd cc; bytes = rw same tt })
+unread_input input fault e same is = absurd is
+
+-- that an input could not be had is its first fault
+pub unread : (known : Option (List ℕ)) (fault : InputFault) → IsUnread known fault.fault → IfSome known (λ input. IsNotRecorded input fault)
+unread None fault is = tt
+unread (Some input) fault is = unread_input input fault fault.fault refl is
+
+-- ---- inputs that have not the form
+
+-- the fault of the form of the value that an input means
+pub misread : (input : List ℕ) (kind : InputKind) (e : RunFault) (bytes : Vec ℕ Global) → Fails e (recorded_of_input input)
+    → ((d : Data) → value_meant input ≡ Ok d → kind ≡ recorded_kind d) → bytes.items ≡ json_text input
+    → IsNotRecorded input (record { kind = kind; fault = e; breach = None; input = bytes })
+misread input kind faults.Read bytes fails is same = (tt, record { first = tt; breach = λ a e. (any_memory a None).0; bytes = tt })
+misread input kind faults.Memory bytes fails is same = (tt, record { first = tt; breach = λ a e. (any_memory a None).1; bytes = tt })
+misread input kind faults.TooLong bytes fails is same = (is, record { first = inl fails; breach = λ a e. absurd cc; bytes = tt })
+misread input kind e bytes fails is same = (is, record { first = inl fails; breach = λ a e. absurd cc; bytes = same })

@@ -1,5 +1,5 @@
 -- What an input records of a run, a dump or a log, or its first fault.
-use Rattle.std.specs.Prelude.{◌≡◌, ℕ, ◌⊎◌, List, Option, Some, None, is_some, option_and_then, Result, Ok, Err, if◌then◌else◌}
+use Rattle.std.specs.Prelude.{◌≡◌, ℕ, ◌⊎◌, List, true, Option, Some, None, is_some, option_and_then, Result, Ok, Err, length, nat_lt, if◌then◌else◌}
 use Rattle.serde_json.specs.Data.{Data}
 use Rattle.serde_json.specs.Find.{as_object, get}
 use Rattle.fbl_dumps.specs.declared.refusal.DumpRefusal.TheVariants as dump
@@ -13,7 +13,7 @@ use Rattle.fbl_input.specs.declared.kind.InputKind.TheVariants as kinds
 use Rattle.fbl_input.specs.Faults.{IsFaultOf}
 use Rattle.fbl_runs.specs.declared.fault.LogBreach.{LogBreach}
 use Rattle.fbl_input.specs.Items.{entry_shape, unknown_key}
-use Rattle.fbl_input.specs.Shapes.{◌>>=◌, or_fault, byte_shape, field, list_of, name_of, number_within, set_shape, value_of_input}
+use Rattle.fbl_input.specs.Shapes.{◌>>=◌, or_fault, byte_shape, field, json_of, list_of, longest, name_of, set_shape, value_of_input}
 use Rattle.fbl_runs.specs.Logs.{IsLog, IsLogBreach, RunParts, RefusesLog, parts_of_log}
 use Rattle.fbl_runs.specs.declared.judged.Judged.TheVariants.{AtEachMoment}
 use Rattle.fbl_records.specs.declared.reader.Checked.{Checked}
@@ -21,13 +21,14 @@ use Rattle.fbl_records.specs.declared.reader.Checked.TheVariants as parts
 use Rattle.fbl_records.specs.declared.reader.Recorded.{Recorded}
 use Rattle.fbl_records.specs.declared.reader.Recorded.TheVariants as raws
 use Rattle.fbl_records.specs.declared.reader.RecordedInput.{RecordedInput}
+use Rattle.fbl_records.specs.EventLines.{is_whole, json_text, lines_text, log_version}
 use Rattle.fbl_records.specs.Dumps.{BreaksParts, RefusesParts, parts_of_data}
 
 -- ---- what an input gives
 
--- the version of a log
-abbrev pub log_version : Data → Option ℕ
-log_version = number_within 2 2
+-- the value that an input means, or its first fault
+abbrev pub value_meant : List ℕ → Result Data RunFault
+value_meant input = if nat_lt longest (length input) then Err faults.TooLong else or_fault faults.NotJson (json_of (json_text input))
 
 -- the parts of a log that a value gives, or its first fault
 unfoldable pub log_of_data : Data → Result RunParts RunFault
@@ -54,7 +55,11 @@ recorded_of_data d = recorded_as (recorded_kind d) d
 
 -- the parts of what an input records of a run, or its first fault
 abbrev pub recorded_of_input : List ℕ → Result Checked RunFault
-recorded_of_input input = value_of_input input >>= recorded_of_data
+recorded_of_input input = value_meant input >>= recorded_of_data
+
+-- an input that is a JSON text, and more than the first line of a log, or that has not the lines of a log, is read as it is
+abbrev pub OtherInputsLaw : Type 0
+OtherInputsLaw = (input : List ℕ) → (is_whole (json_of input) ≡ true) ⊎ (lines_text input ≡ None) → recorded_of_input input ≡ (value_of_input input >>= recorded_of_data)
 
 -- ---- what a reader says of it
 
@@ -63,9 +68,9 @@ abbrev pub recorded_parts : Recorded → Checked
 recorded_parts (raws.Dump raw) = parts.Dump (parts_of raw)
 recorded_parts (raws.Log raw) = parts.Log (parts_of_log raw)
 
--- the input gives these parts, and has these bytes
+-- the input gives these parts, and means the text with these bytes
 abbrev pub IsRecordedOf : List ℕ → RecordedInput → Type 0
-IsRecordedOf input found = (recorded_of_input input ≡ Ok (recorded_parts found.recorded)) × (found.bytes.items ≡ input)
+IsRecordedOf input found = (recorded_of_input input ≡ Ok (recorded_parts found.recorded)) × (found.bytes.items ≡ json_text input)
 
 -- the parts obey the rules of their kind
 abbrev pub ObeysRules : Checked → Type 0
@@ -113,15 +118,15 @@ pub record IsRefusal (found : Checked) (bytes : List ℕ) (fault : InputFault) :
   pub refused : (fault.fault ≡ faults.Memory) ⊎ RefusesRecorded found fault.fault
   pub why : BreaksRecorded found fault.fault fault.breach
 
--- the kind is that of the value that the input is, where the fault is not one of reading or of memory
+-- the kind is that of the value that the input means, where the fault is not one of reading or of memory
 abbrev pub HasKind : RunFault → List ℕ → InputKind → Type 0
 HasKind faults.Read input kind = Unit {0}
 HasKind faults.Memory input kind = Unit {0}
-HasKind fault input kind = (d : Data) → value_of_input input ≡ Ok d → kind ≡ recorded_kind d
+HasKind fault input kind = (d : Data) → value_meant input ≡ Ok d → kind ≡ recorded_kind d
 
--- the fault of a reader, where this is how what it gives may be refused, is so
+-- the fault of a reader, where this is how what it gives may be refused, is so, and was found in the text that the input means
 abbrev pub IsFaultIn : (Checked → RunFault → Type 0) → List ℕ → InputFault → Type 0
-IsFaultIn Refuses input fault = HasKind fault.fault input fault.kind × IsFaultOf (recorded_of_input input) Refuses BreaksRecorded input fault
+IsFaultIn Refuses input fault = HasKind fault.fault input fault.kind × IsFaultOf (recorded_of_input input) Refuses BreaksRecorded (json_text input) fault
 
 -- the fault of a reader of what has the form of a dump or of a log is so
 abbrev pub IsNotRecorded : List ℕ → InputFault → Type 0

@@ -4,7 +4,10 @@
 
 mod audit_text;
 mod check_text;
+mod event_lines;
+pub mod laws;
 mod lines;
+mod log_version;
 mod reader;
 mod reason_text;
 

@@ -1,21 +1,20 @@
 //! Recorded runs as JSON: dumps, and logs, which are dumps of version 2.
 
-ghost use Rattle.std.specs.Prelude.{◌≡◌, ℕ, List, Ok, option_and_then, IfOk, IfErr, IfSome};
-ghost use Rattle.serde_json.specs.Find.{get};
+ghost use Rattle.std.specs.Prelude.{◌≡◌, ◌≤◌, ℕ, List, length, IfOk, IfErr, IfSome};
 ghost use Rattle.serde_json.specs.View.{view};
 ghost use Rattle.fbl_dumps.specs.Dumps.{IsDump, parts_of};
-ghost use Rattle.fbl_input.specs.Shapes.{Fails, Gives, name_of};
-ghost use Rattle.fbl_input.specs.declared.key.Key.TheVariants.{Version};
+ghost use Rattle.fbl_input.specs.Shapes.{Gives, longest};
 ghost use Rattle.fbl_runs.specs.Logs.{IsLog, parts_of_log};
 ghost use Rattle.fbl_records.specs.Dumps.{IsDumpOf, IsNoDump, parts_of_data, parts_of_input};
-ghost use Rattle.fbl_records.specs.Logs.{HasKind, IsCheckedOf, IsNotChecked, IsNotRecorded, IsRecordedOf, IsRefusal, ObeysRules, log_of_data, log_version, recorded_kind, recorded_of_data, recorded_of_input, recorded_parts};
+ghost use Rattle.fbl_records.specs.Logs.{IsCheckedOf, IsNotChecked, IsNotRecorded, IsRecordedOf, IsRefusal, ObeysRules, log_of_data, recorded_kind, recorded_of_data, recorded_parts};
 ghost use Rattle.fbl_records.specs.declared.reader.Checked.TheVariants as parts;
 
+use crate::event_lines::{JsonText, json_text};
+use crate::log_version::{LogVersionShape, log_version_in};
 use fbl_dumps::{Dump, RawDump, checked_dump};
 use fbl_input::items::{EntryShape, EventShape, PairShape};
 use fbl_input::shapes::{
-    ByteShape, JsonShape, SetShape, no_other_key, number_in, object_in, value_field, value_in,
-    values_field,
+    ByteShape, SetShape, no_other_key, object_in, value_field, value_in, values_field,
 };
 use fbl_input::{InputFault, InputKind, Key, RunFault, read_input};
 use fbl_runs::{Entry, LogBreach, RawLog, Run, checked_log};
@@ -38,7 +37,7 @@ pub enum Recorded {
 pub struct RecordedInput {
     /// What it records.
     pub recorded: Recorded,
-    /// The bytes of the input.
+    /// The bytes of the JSON text that the input means: its own, or that for which its lines stand.
     pub bytes: Vec<u8>,
 }
 
@@ -72,20 +71,6 @@ fn raw_dump_of(alloc: Global, value: &Value) -> Result<RawDump, RunFault>
     })
 }
 
-/// The version of a log: the number 2.
-struct LogVersionShape;
-
-impl JsonShape<u8> for LogVersionShape {
-    ghost use Rattle.fbl_records.specs.Logs.{log_version};
-
-    ghost shape = { log_version };
-
-    fn in_value(value: &Value) -> Option<u8> {
-        let number = number_in(value, 2, 2)?;
-        Some(number as u8)
-    }
-}
-
 /// The log that a value gives, its rules not yet checked.
 #[tactic(auto, unfolding(crate::specs::Logs::log_of_data))]
 fn raw_log_of(alloc: Global, value: &Value) -> Result<RawLog, RunFault>
@@ -104,13 +89,6 @@ fn raw_log_of(alloc: Global, value: &Value) -> Result<RawLog, RunFault>
         entries,
         strike,
     })
-}
-
-/// The version of a log, if the value has it.
-fn log_version_in(value: &Value) -> Option<u8>
-    ensures { result ≡ option_and_then log_version (get (name_of Version) (view value.now)) }
-{
-    LogVersionShape::in_value(value.get(Key::Version.name())?)
 }
 
 /// What the value is read as: a log where its version is 2, and else a dump.
@@ -188,31 +166,34 @@ pub fn read_dump<R: Read>(alloc: Global, reader: &mut R) -> Result<Dump, InputFa
     }
 }
 
-/// What the bytes spell as a record of a run, or what they are read as and the first fault of their form.
-fn recorded_in(alloc: Global, input: &[u8]) -> Result<Recorded, (InputKind, RunFault)>
-    ensures parts { IfOk result (λ found. recorded_of_input input.now ≡ Ok (recorded_parts found)) }
-    ensures fault { IfErr result (λ e. Fails e.1 (recorded_of_input input.now) × HasKind e.1 input.now e.0) }
+/// What the input records of a run, or the first fault of its form.
+fn recorded_in(alloc: Global, input: Vec<u8>) -> Result<RecordedInput, InputFault>
+    requires { length input.items ≤ longest }
+    ensures parts { IfOk result (IsRecordedOf input.items) }
+    ensures fault { IfErr result (IsNotRecorded input.items) }
 {
-    match value_in(alloc, input) {
-        Ok(value) => match recorded_of(alloc, &value) {
-            Ok(recorded) => Ok(recorded),
-            Err(fault) => Err((kind_of(&value), fault)),
-        },
-        Err(fault) => Err((InputKind::Dump, fault)),
+    let Ok(JsonText { text, value }) = json_text(alloc, input) else {
+        return Err(InputFault::new(InputKind::Dump, RunFault::Memory, Vec::new(alloc)));
+    };
+    let Some(value) = value else {
+        return Err(InputFault::new(InputKind::Dump, RunFault::NotJson, text));
+    };
+    match recorded_of(alloc, &value) {
+        Ok(recorded) => Ok(RecordedInput {
+            recorded,
+            bytes: text,
+        }),
+        Err(fault) => Err(InputFault::new(kind_of(&value), fault, text)),
     }
 }
 
-/// What the reader has, as one JSON object in the form of a log where its `version` is 2, and else in the form of a dump, or the
-/// first fault of that form.
+/// What the reader has, as one JSON object in the form of a log where its `version` is 2, and else in the form of a dump; or the lines of
+/// a log. Or the first fault of that form.
 pub fn read_recorded<R: Read>(alloc: Global, reader: &mut R) -> Result<RecordedInput, InputFault>
     ensures parts { IfOk result (λ found. IfSome (R.remaining reader.old) (λ input. IsRecordedOf input found)) }
     ensures fault { IfErr result (λ fault. IfSome (R.remaining reader.old) (λ input. IsNotRecorded input fault)) }
 {
-    let bytes = read_input(alloc, InputKind::Dump, reader)?;
-    match recorded_in(alloc, bytes.as_slice()) {
-        Ok(recorded) => Ok(RecordedInput { recorded, bytes }),
-        Err((kind, fault)) => Err(InputFault::new(kind, fault, bytes)),
-    }
+    recorded_in(alloc, read_input(alloc, InputKind::Dump, reader)?)
 }
 
 /// What the input records, once its rules are checked, or the first fault.
@@ -228,7 +209,7 @@ pub fn checked_input(alloc: Global, input: RecordedInput) -> Result<Checked, Inp
     }
 }
 
-/// What the reader has, as one JSON object, a dump or a log, or the first fault of the input.
+/// What the reader has, as one JSON object, a dump or a log, or as the lines of a log; or the first fault of the input.
 pub fn read_checked<R: Read>(alloc: Global, reader: &mut R) -> Result<Checked, InputFault>
     ensures checked { IfOk result (λ found. IfSome (R.remaining reader.old) (λ input. IsCheckedOf input found)) }
     ensures fault { IfErr result (λ fault. IfSome (R.remaining reader.old) (λ input. IsNotChecked input fault)) }

@@ -78,6 +78,7 @@ impl<'a> Stumbling<'a> {
 
 impl<'a> Streams for Stumbling<'a> {
     ghost use Rattle.std.specs.Prelude.{⊤, None};
+    ghost use Rattle.fbl_program.specs.Statuses.{IsSettled};
 
     type Reader = UnsteadyReader<'a>;
 
@@ -102,7 +103,9 @@ impl<'a> Streams for Stumbling<'a> {
         Ok(Named::new(writer, None))
     }
 
-    fn settle(&self, _name: &str, writer: Named<'_, UnsteadyWriter>, status: u8) -> u8 {
+    fn settle(&self, _name: &str, writer: Named<'_, UnsteadyWriter>, status: u8) -> u8
+        ensures { IsSettled status result }
+    {
         let writer = writer.stream;
         let held = writer.held.as_slice();
         let is_front = self.of.text.as_bytes().starts_with(held);

@@ -1,7 +1,7 @@
 //! A dump and a log as texts, and what a dump's text is read as.
 
 use fbl_base::RawDump;
-use fbl_records::{Recorded, read_recorded};
+use fbl_records::{Recorded, RecordedInput, read_recorded};
 use std::alloc::{AllocError, Global};
 
 /// A message that went once round three members, of whom one may be lost, in a dump without a pair that a run leaves: its first receipt
@@ -16,7 +16,11 @@ pub(crate) const LATE: &str =
 /// The text's dump, whose rules are not checked.
 pub(crate) fn dump(alloc: Global, text: &str) -> Result<RawDump, AllocError> {
     let read = read_recorded(alloc, &mut text.as_bytes());
-    match read.ok().ok_or(AllocError)?.recorded {
+    let RecordedInput {
+        recorded,
+        bytes: _bytes,
+    } = read.ok().ok_or(AllocError)?;
+    match recorded {
         Recorded::Dump(raw) => Ok(raw),
         Recorded::Log(_) => Err(AllocError),
     }

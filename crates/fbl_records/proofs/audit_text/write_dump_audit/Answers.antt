@@ -1,4 +1,4 @@
-use Rattle.fbl_records.proofs.Common.{◌≡◌, ◌∙◌, ap, IsAuditText, PutsOut, audit_lines, lost_determinants, puts_none, puts_right}
+use Rattle.fbl_records.proofs.Common.{◌∙◌, ap, IsAuditText, audit_lines, puts_none, puts_right}
 use Rattle.fbl_records.proofs.audit_text.write_dump_audit.Goals as goal
 
 pub returns-in_err-lost : goal.returns-in_err-lost

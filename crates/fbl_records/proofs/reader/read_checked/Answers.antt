@@ -1,4 +1,4 @@
-use Rattle.fbl_records.specs.Logs.{IsNotChecked, IsNotRecorded, IsRecordedOf}
+use Rattle.fbl_records.specs.Logs.{IsNotChecked, IsRecordedOf}
 use Rattle.fbl_records.proofs.Records.{form_fault}
 use Rattle.std.proofs.Common.{IfSome}
 use Rattle.std.proofs.lemmas.Option.{IfSome_then}
