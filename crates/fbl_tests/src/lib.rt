@@ -6,6 +6,8 @@
 #[cfg(test)]
 mod audits;
 #[cfg(test)]
+mod configurations;
+#[cfg(test)]
 mod group;
 #[cfg(test)]
 mod members;
