@@ -26,7 +26,6 @@ marks-own q (Store member d ∷ es) =
       | true ↦ rest
       | false ↦ rest
     ]
-
 marks-own q (Tell t ∷ es) =
     let rest = marks-own q es in
     elim (t.from == q) as (λ b. marks (cond b (Tell t ∷ own entry_member q es) (own entry_member q es)) ≡ own member_of q (marks es)) [ true ↦ rest | false ↦ rest ]

@@ -54,11 +54,7 @@ fn pair_numbers(member: Member, determinant: Determinant) -> [u32; 5]
 fn control_numbers(own: Member, other: Member, id: u32) -> [u32; 3]
     ensures { result ≡ own ∷ other ∷ id ∷ [] }
 {
-    [
-        u32::from(own.number()),
-        u32::from(other.number()),
-        id,
-    ]
+    [u32::from(own.number()), u32::from(other.number()), id]
 }
 
 /// A send or a receipt as a list.

@@ -171,8 +171,8 @@ module _ (c : Causality) (n : ℕ) (entries : List Entry) (obeys : WellFormed n 
         (clock.0, IsBrought-tell n entries told t.from (seen entries sent.0 t.from) t clock.0 at_tell clock.1)
   brings p (Event (Send from ssn to)) clocks here =
       (λ q. 0, IsBrought-none c (log_of entries) (Event (Send from ssn to)) (passes_none c (Event (Send from ssn to)) (λ a c. no_send c.1 (let e = c.3 in cc) c.0 c.4) (λ m is. cc))) where
-    no_send : (r : Mark) → Send from ssn to ≡ r → (s : Mark) → ¬ (send_of r ≡ Some s)
-    no_send r is s takes = (let none : None ≡ Some s = ap send_of is ∙ takes in cc)
+        no_send : (r : Mark) → Send from ssn to ≡ r → (s : Mark) → ¬ (send_of r ≡ Some s)
+        no_send r is s takes = (let none : None ≡ Some s = ap send_of is ∙ takes in cc)
   brings p (Event (Receipt to rsn from ssn)) clocks here =
       let s = Send from ssn to in
       let r = Receipt to rsn from ssn in

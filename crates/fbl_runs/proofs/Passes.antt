@@ -215,7 +215,7 @@ module _ (c : Causality) (n : ℕ) (entries : List Entry) (obeys : WellFormed n 
             let x = has.sends k from ssn to before is in
             let kept = kept_other same_message (sent_clock old.sent) (sent_in e) with message
             (λ s some same. seen_other k from (Event (Send from ssn to)) (λ a b. once n entries obeys a b (Send from ssn to)) before is
-                (sends_one e s some ∙ ap (λ y. Event (send_named y)) (same_message-true s message same))) in
+            (sends_one e s some ∙ ap (λ y. Event (send_named y)) (same_message-true s message same))) in
             (x.0, sends message ∙ kept ∙ x.1, x.2)
         | inr past ↦
             let this = with_this k from (Event (Send from ssn to)) within past is in

@@ -113,7 +113,8 @@ impl Clocks {
         requires lawful { IsLawful entries.now }
         requires seen { HasSeen self.now.causality entries.now place self.now }
         requires within { place < length entries.now }
-        ensures { (e : _) → slice_get entries.now place ≡ Some e → IsBrought self.now.causality (log_of entries.now) e (cut_of result) }
+        ensures { (e : _) → slice_get entries.now place ≡ Some e
+            → IsBrought self.now.causality (log_of entries.now) e (cut_of result) }
     {
         let entry = &entries[place];
         match message_heard(self.causality, entry) {
@@ -133,9 +134,18 @@ impl Clocks {
 
     /// Keeps the clock of the entry, if it is a send or a tell.
     fn keep(&mut self, entry: &Entry, with: Clock) -> Result<(), AllocError>
-        ensures sent { OnOk result ((k : _) → sent_clock self.new.sent k ≡ kept_after same_message (sent_clock self.old.sent) (sent_in entry.now) with k) }
-        ensures tells { OnOk result ((k : _) → tell_clock self.new.tells k ≡ kept_after same_control (tell_clock self.old.tells) (message_told_by entry.now) with k) }
-        ensures rest { OnOk result ((self.new.causality ≡ self.old.causality) × (self.new.latest ≡ self.old.latest) × (self.new.numbers ≡ self.old.numbers)) }
+        ensures sent { OnOk result
+            ((k : _)
+            → sent_clock self.new.sent k
+            ≡ kept_after same_message (sent_clock self.old.sent) (sent_in entry.now) with k) }
+        ensures tells { OnOk result
+            ((k : _)
+            → tell_clock self.new.tells k
+            ≡ kept_after same_control (tell_clock self.old.tells)
+            (message_told_by entry.now) with k) }
+        ensures rest { OnOk result
+            ((self.new.causality ≡ self.old.causality) × (self.new.latest ≡ self.old.latest)
+            × (self.new.numbers ≡ self.old.numbers)) }
     {
         if let Some(message) = message_sent(entry) {
             self.sent.insert(message, with)?;

@@ -81,7 +81,9 @@ impl ControlMessages {
 
     /// The first rule that a tell of the message, the next entry, breaks in a group of `n`.
     fn broken_tell(&self, n: u8, message: ControlMessage) -> Option<ControlRule>
-        ensures { (before : _) → HasTold before self.now → MatchOption result (MayBeTold n before (Tell message)) (BreaksControl n before (Tell message)) }
+        ensures { (before : _) → HasTold before self.now
+            → MatchOption result (MayBeTold n before (Tell message))
+            (BreaksControl n before (Tell message)) }
     {
         let broken = broken_end(n, message);
         if broken.is_some() {
@@ -95,7 +97,9 @@ impl ControlMessages {
 
     /// The first rule that is broken if the message is told, by the next entry.
     fn broken_told(&self, message: ControlMessage) -> Option<ControlRule>
-        ensures { (n : ℕ) (before : _) → HasTold before self.now → MatchOption result (MayBeTold n before (Told message)) (BreaksControl n before (Told message)) }
+        ensures { (n : ℕ) (before : _) → HasTold before self.now
+            → MatchOption result (MayBeTold n before (Told message))
+            (BreaksControl n before (Told message)) }
     {
         if !self.tells.contains(&message) {
             return Some(ControlRule::NotTold);
@@ -108,7 +112,8 @@ impl ControlMessages {
 
     /// The first rule that the entry, the next one, breaks in a group of `n`.
     pub fn broken_rule(&self, n: u8, entry: &Entry) -> Option<ControlRule>
-        ensures { (before : _) → HasTold before self.now → MatchOption result (MayBeTold n before entry.now) (BreaksControl n before entry.now) }
+        ensures { (before : _) → HasTold before self.now
+            → MatchOption result (MayBeTold n before entry.now) (BreaksControl n before entry.now) }
     {
         match *entry {
             Entry::Tell(message) => self.broken_tell(n, message),

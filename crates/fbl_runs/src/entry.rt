@@ -93,8 +93,14 @@ impl fmt::Display for Entry {
                 let Determinant { from, ssn, to, rsn } = determinant;
                 write!(f, "[\"store\",{member},{from},{ssn},{to},{rsn}]")
             }
-            Entry::Tell(ControlMessage { from, to, id }) => write!(f, "[\"tell\",{from},{to},{id}]"),
-            Entry::Told(ControlMessage { from, to, id }) => write!(f, "[\"told\",{to},{from},{id}]"),
+            Entry::Tell(ControlMessage { from, to, id }) => write!(
+                f,
+                "[\"tell\",{from},{to},{id}]"
+            ),
+            Entry::Told(ControlMessage { from, to, id }) => write!(
+                f,
+                "[\"told\",{to},{from},{id}]"
+            ),
         }
     }
 }
