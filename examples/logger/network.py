@@ -1,54 +1,47 @@
-"""The connections of a member to the others, over TCP on the loopback. A frame is a line of JSON, and frames come in order on
-a connection. A thread for each connection puts what it reads into one inbox, with the sender and the sender's life."""
+"""A member's connections over TCP on the loopback. A frame is a line of JSON; frames come in order on a connection, each after
+a delay. A thread for each connection puts what it reads into one inbox, with its sender and the sender's life."""
 import json
 import queue
+import random
 import socket
 import threading
+import time
 
 
 class Network:
-    def __init__(self, listener, ports, control):
-        self.ports, self.connections, self.inbox = ports, {}, queue.Queue()
+    def __init__(self, number, lives, listener, ports, delay):
+        self.number, self.lives, self.ports, self.delay = number, lives, ports, delay
+        self.connections, self.inbox = {}, queue.Queue()
         self.start(self.accept, listener)
-        self.start(self.read_control, control)
 
     def start(self, work, *given):
         threading.Thread(target=work, args=given, daemon=True).start()
 
     def accept(self, listener):
         while True:
-            connection, _ = listener.accept()
-            self.start(self.read, connection, None, None)
+            self.start(self.read, listener.accept()[0])
 
-    def connect(self, to, life, hello):
-        """Connects to a member that is in this life."""
-        connection = self.connections[to] = socket.create_connection(("127.0.0.1", self.ports[to]))
-        self.send(to, hello)
-        self.start(self.read, connection, to, life)
+    def connect(self, others, down):
+        """Connects to these. The first frame says who was down, and in which lives they come back."""
+        for other in others:
+            self.connections[other] = socket.create_connection(("127.0.0.1", self.ports[other]))
+            self.send(other, "hello", of=(self.number, self.lives[self.number]), down=[(fallen, self.lives[fallen]) for fallen in down])
+            self.start(self.read, self.connections[other], other, self.lives[other])
 
-    def send(self, to, frame):
-        """Sends a frame, if there is a connection. What a member misses while it is down stands in its senders' logs."""
+    def send(self, to, kind, **frame):
+        """Sends a frame, if there is a connection. What a member misses stands in the logs of its senders."""
         try:
-            self.connections[to].sendall(json.dumps(frame).encode() + b"\n")
-        except (KeyError, OSError):
+            self.connections[to].sendall(json.dumps({"kind": kind, **frame}).encode() + b"\n")
+        except (KeyError, OSError):     # the other end was killed
             pass
 
-    def read(self, connection, sender, life):
-        """Reads to the end. The first frame of a member that has connected says who it is."""
+    def read(self, connection, sender=None, life=0):
+        """Reads to the end. A hello says whose connection it is; that of the starter has none, and no delays."""
         connection.setsockopt(socket.IPPROTO_TCP, socket.TCP_NODELAY, 1)
         try:
-            for line in connection.makefile("rb"):
-                if line.endswith(b"\n"):
-                    frame = json.loads(line)
-                    sender, life = (frame["from"], frame["life"]) if sender is None else (sender, life)
-                    self.inbox.put((sender, life, frame, connection))
-        except OSError:
+            for frame in map(json.loads, connection.makefile("rb")):
+                sender, life = frame.get("of", (sender, life))
+                time.sleep(0 if sender is None else random.uniform(0, 2 * self.delay))
+                self.inbox.put((sender, life, frame, connection))
+        except (OSError, ValueError):   # the other end was killed, perhaps in the middle of a line
             pass
-
-    def read_control(self, control):
-        """What the group's starter says."""
-        try:
-            while True:
-                self.inbox.put((None, 0, control.recv(), None))
-        except (EOFError, OSError):
-            self.inbox.put((None, 0, {"kind": "end"}, None))
