@@ -1,15 +1,13 @@
-"""The log that one life of a member writes for `fblrun check`: an object on the first line, and then a step on each line.
-What a member does at once is one line and one write: a receipt, what its message brought, and the sends that follow. The line
-is in the file before a message of it leaves. So a kill tears at most the last line, and what anybody received is logged.
-A determinant is (sender, number of the send, receiver, number of the receipt)."""
+"""The log that one life of a member writes for `fblrun check`: an object on the first line, and then a step on each line: a
+receipt, what its message brought, and the sends that follow. A step is one write, before a message of it leaves: a kill tears
+at most the last line. A determinant is (sender, number of the send, receiver, number of the receipt)."""
 import json
 import os
 
 
 class Log:
     def __init__(self, path, member, members, f):
-        self.path, self.member, self.file, self.step = path, member, None, []
-        self.header = {"version": 2, "members": members, "f": f, "strike": []}
+        self.path, self.member, self.members, self.f, self.file, self.step = path, member, members, f, None, []
 
     def send(self, number, to):
         """The member sends its message of this number. A message that is sent again is no new send."""
@@ -37,7 +35,8 @@ class Log:
 
     def write(self):
         """Ends the step. The first step makes the file: a life that never came back has none."""
-        text = "".join(json.dumps(line) + "\n" for line in ([self.step] if self.file else [self.header, self.step]))
+        header = {"version": 2, "members": self.members, "f": self.f, "strike": []}
+        text = "".join(json.dumps(line) + "\n" for line in ([self.step] if self.file else [header, self.step]))
         self.file = self.file or os.open(self.path, os.O_WRONLY | os.O_CREAT | os.O_EXCL, 0o644)
         os.write(self.file, text.encode())
         self.step = []

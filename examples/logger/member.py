@@ -1,7 +1,5 @@
-"""One member: it receives payments, pays others, and logs causally (family-based logging with the parameter f). A message
-carries each determinant of its sender's table that at most f members are known to hold, and its receiver holds them before
-it sends anything. So each receipt's determinant is held by more than f members, or by all that depend on the receipt."""
-import os
+"""One member: it receives payments, pays others, and logs causally (family-based logging with the parameter f): a message
+carries each determinant that at most f members are known to hold, and its receiver holds them before it sends anything."""
 import random
 import signal
 
@@ -19,8 +17,7 @@ class Member:
         self.log = Log(options.folder / f"member-{number}-life-{lives[number]}.log", number, options.members, options.f)
         self.account, self.received, self.tells = Account(number, options.members, options.seed), 0, 1000000 * lives[number]
         self.taken = [0] * options.members      # the number of the last message from each member
-        self.table, self.carried = {}, {}       # the known holders of determinants; what messages carried, by receiver and number
-        self.sends = []                         # of each send its number, its receiver and the payment
+        self.table, self.sends = {}, []         # of each determinant the known holders; of each send the number, receiver and payment
         self.note_sends([self.account.pay(part, HOPS) for part in range(FIRST_PAYMENTS)])
         self.is_ready, self.waiting, self.answers, self.contents = False, [], {}, {}
         self.crash_at = next((receipt for down, receipt in options.crash[:1] if down[0] == number and not lives[number]), None)
@@ -29,7 +26,7 @@ class Member:
         """The first life. Its first payments are in the log before anybody can crash."""
         self.log_step(self.sends)
         self.network.connect(range(self.number), [])
-        self.wait_until(self.is_connected)
+        self.wait_until(lambda: len(self.network.connections) == len(self.lives))    # the others, and the starter
         all_begin.wait()
         for send in self.sends:
             self.transmit(*send)
@@ -40,9 +37,6 @@ class Member:
         for waited in self.waiting:
             self.handle(*waited)
         self.wait_until(lambda: False)
-
-    def is_connected(self):
-        return all(other in self.network.connections for other in range(self.options.members) if other != self.number)
 
     def wait_until(self, has_come):
         while not has_come():
@@ -71,9 +65,7 @@ class Member:
             self.receive(sender, life, frame["number"], frame["payment"], frame["carried"])
         elif "tell" in frame:
             self.log.told(sender, frame["tell"])
-            for determinant in self.carried.pop((sender, frame.get("acknowledged")), []):
-                self.table[determinant].add(sender)
-            self.learn(frame.get("table", []))
+            self.learn(frame["table"])
             self.log.write()
 
     def receive(self, sender, life, number, payment, carried):
@@ -87,11 +79,11 @@ class Member:
         for send in sends[:1] if is_last else sends:
             self.transmit(*send)
         if is_last:
-            os.kill(os.getpid(), signal.SIGKILL)
+            signal.raise_signal(signal.SIGKILL)
         if self.bug == "optimistic":
             self.learn(own)
         if self.options.acknowledge and carried:
-            self.tell(sender, "acknowledgement", acknowledged=number)
+            self.tell(sender, "acknowledgement", table=[(determinant, [self.number]) for determinant, _ in carried])
 
     def apply(self, sender, number, payment):
         """What a receipt makes of the account, and the sends that come of it: the same when it is replayed."""
@@ -125,8 +117,7 @@ class Member:
         carried = self.entries(self.options.f - (self.bug == "stable-at-f"))
         carried = carried[:-1] if self.bug == "incomplete-piggyback" and number % 5 == 0 else carried
         self.network.send(to, "message", number=number, payment=payment, carried=carried)
-        self.carried[to, number] = [determinant for determinant, _ in carried]
-        for determinant in self.carried[to, number] if self.bug == "premature-stability" else []:
+        for determinant, _ in carried if self.bug == "premature-stability" else []:
             self.table[determinant].add(to)
 
     def tell(self, to, kind, **frame):
@@ -137,10 +128,10 @@ class Member:
         self.network.send(to, kind, tell=self.tells, **frame)
 
 
-def main(number, lives, down, options, listener, ports, all_begin):
+def main(number, lives, down, options, listeners, all_begin):
     """A life of a member: its first one, or the one after a crash in which these were down."""
     signal.alarm(10)    # seconds, after which a life is ended
     random.seed(f"{options.seed} {number} {lives}")
-    member = Member(number, lives, options, Network(number, lives, listener, ports, options.delay / 1000))
+    member = Member(number, lives, options, Network(number, lives, listeners, options.delay / 1000))
     recovery.recover(member, down) if down else member.begin(all_begin)
     member.run()

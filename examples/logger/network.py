@@ -1,4 +1,4 @@
-"""A member's connections over TCP on the loopback. A frame is a line of JSON; frames come in order on a connection, each after
+"""A member's connections over TCP on the loopback. A frame is a line of JSON; frames come in order on a connection, messages after
 a delay. A thread for each connection puts what it reads into one inbox, with its sender and the sender's life."""
 import json
 import queue
@@ -9,24 +9,21 @@ import time
 
 
 class Network:
-    def __init__(self, number, lives, listener, ports, delay):
-        self.number, self.lives, self.ports, self.delay = number, lives, ports, delay
-        self.connections, self.inbox = {}, queue.Queue()
-        self.start(self.accept, listener)
+    def __init__(self, number, lives, listeners, delay):
+        self.number, self.lives, self.listeners, self.delay, self.connections = number, lives, listeners, delay, {}
+        self.inbox = queue.Queue()
+        threading.Thread(target=self.accept, daemon=True).start()
 
-    def start(self, work, *given):
-        threading.Thread(target=work, args=given, daemon=True).start()
-
-    def accept(self, listener):
+    def accept(self):
         while True:
-            self.start(self.read, listener.accept()[0])
+            threading.Thread(target=self.read, args=self.listeners[self.number].accept()[:1], daemon=True).start()
 
     def connect(self, others, down):
         """Connects to these. The first frame says who was down, and in which lives they come back."""
         for other in others:
-            self.connections[other] = socket.create_connection(("127.0.0.1", self.ports[other]))
+            self.connections[other] = socket.create_connection(self.listeners[other].getsockname())
             self.send(other, "hello", of=(self.number, self.lives[self.number]), down=[(fallen, self.lives[fallen]) for fallen in down])
-            self.start(self.read, self.connections[other], other, self.lives[other])
+            threading.Thread(target=self.read, args=(self.connections[other], other, self.lives[other]), daemon=True).start()
 
     def send(self, to, kind, **frame):
         """Sends a frame, if there is a connection. What a member misses stands in the logs of its senders."""
@@ -36,12 +33,12 @@ class Network:
             pass
 
     def read(self, connection, sender=None, life=0):
-        """Reads to the end. A hello says whose connection it is; that of the starter has none, and no delays."""
+        """Reads to the end. A hello says whose connection it is; that of the starter has none."""
         connection.setsockopt(socket.IPPROTO_TCP, socket.TCP_NODELAY, 1)
         try:
             for frame in map(json.loads, connection.makefile("rb")):
                 sender, life = frame.get("of", (sender, life))
-                time.sleep(0 if sender is None else random.uniform(0, 2 * self.delay))
+                time.sleep(random.uniform(0, 2 * self.delay) if frame["kind"] == "message" else 0)
                 self.inbox.put((sender, life, frame, connection))
         except (OSError, ValueError):   # the other end was killed, perhaps in the middle of a line
             pass

@@ -1,6 +1,5 @@
-"""How a member comes back. The survivors answer its hello: what they hold, what they have taken of it, and what they sent it.
-It replays its receipts in the order of its determinants that they hold, holds what they hold, and sends again what they have
-not taken. Members that were down together give each other the contents that they send in their replays."""
+"""How a member comes back: it gathers what the survivors hold and what they sent it, replays its receipts in the order of its
+determinants, and sends again what was not received. Members that were down together give each other what their replays send."""
 
 
 def meet(member, sender, down, connection):
@@ -28,7 +27,7 @@ def recover(member, down):
     others = [other for other in range(len(member.lives)) if other != member.number]
     survivors = [other for other in others if other not in down]
     member.network.connect([other for other in others if other in survivors or other < member.number], down)
-    member.wait_until(lambda: len(member.answers) == len(survivors) and member.is_connected())
+    member.wait_until(lambda: len(member.answers) == len(survivors) and len(member.network.connections) == len(member.lives))
     gathered = [entry for survivor in survivors for entry in member.answers[survivor]["table"]]
     for number, to, payment in replay(member, gathered):
         if to in down:

@@ -18,19 +18,17 @@ BUGS = ("stable-at-f", "not-logged", "optimistic", "incomplete-piggyback", "prem
 
 class Group:
     def __init__(self, options):
-        self.options, self.lives, self.processes, self.orders = options, [0] * options.members, {}, {}
-        self.listeners = [socket.create_server(("127.0.0.1", 0)) for _ in self.lives]
-        self.all_begin = multiprocessing.Barrier(options.members)
+        self.options, self.all_begin, self.lives = options, multiprocessing.Barrier(options.members), [0] * options.members
+        self.listeners, self.processes, self.orders = [socket.create_server(("127.0.0.1", 0)) for _ in self.lives], {}, {}
         for number in range(options.members):
             self.start(number, [])
 
     def start(self, number, down):
         """Starts a life of a member as a process of its own, which ends with this one, and connects to it."""
-        ports = [listener.getsockname()[1] for listener in self.listeners]
-        given = (number, list(self.lives), down, self.options, self.listeners[number], ports, self.all_begin)
+        given = (number, list(self.lives), down, self.options, self.listeners, self.all_begin)
         self.processes[number] = multiprocessing.Process(target=member.main, args=given, daemon=True)
         self.processes[number].start()
-        self.orders[number] = socket.create_connection(("127.0.0.1", ports[number])).makefile("rw")
+        self.orders[number] = socket.create_connection(self.listeners[number].getsockname()).makefile("rw")
 
     def ask(self, number, crash_at):
         """How far a member is; None if it has ended."""
@@ -84,7 +82,7 @@ def main():
     words.add_argument("--bug", choices=BUGS, help="a planted bug, which README.md describes")
     words.add_argument("--acknowledge", action="store_true", help="a receiver says that it holds what a message carried")
     words.add_argument("--seed", type=int, default=1, help="of payments and delays")
-    words.add_argument("--delay", type=float, default=3, help="milliseconds that a message takes on the average")
+    words.add_argument("--delay", type=float, default=20, help="milliseconds that a message takes on the average")
     options = words.parse_args()
     options.folder.mkdir(parents=True, exist_ok=True)
     for path in options.folder.glob("member-*.log"):
