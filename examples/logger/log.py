@@ -35,8 +35,7 @@ class Log:
 
     def write(self):
         """Ends the step. The first step makes the file: a life that never came back has none."""
-        header = {"version": 2, "members": self.members, "f": self.f, "strike": []}
-        text = "".join(json.dumps(line) + "\n" for line in ([self.step] if self.file else [header, self.step]))
+        header = [] if self.file else [{"version": 2, "members": self.members, "f": self.f, "strike": []}]
         self.file = self.file or os.open(self.path, os.O_WRONLY | os.O_CREAT | os.O_EXCL, 0o644)
-        os.write(self.file, text.encode())
+        os.write(self.file, "".join(json.dumps(line) + "\n" for line in header + [self.step]).encode())
         self.step = []

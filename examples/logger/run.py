@@ -84,6 +84,8 @@ def main():
     words.add_argument("--seed", type=int, default=1, help="of payments and delays")
     words.add_argument("--delay", type=float, default=20, help="milliseconds that a message takes on the average")
     options = words.parse_args()
+    if max([options.f, *(max(down) for down, _ in options.crash)]) >= options.members:
+        words.error("f and the members that crash are less than the number of members")
     options.folder.mkdir(parents=True, exist_ok=True)
     for path in options.folder.glob("member-*.log"):
         path.unlink()
