@@ -19,23 +19,24 @@ class Member:
         self.taken = [0] * options.members      # the number of the last message from each member
         self.table, self.sends = {}, []         # of each determinant the known holders; of each send the number, receiver and payment
         self.note_sends([self.account.pay(part, HOPS) for part in range(FIRST_PAYMENTS)])
-        self.is_ready, self.waiting, self.answers, self.contents = False, [], {}, {}
-        self.crash_at = next((receipt for down, receipt in options.crash[:1] if down[0] == number and not lives[number]), None)
+        self.is_ready, self.are_all_ready, self.receives, self.crash_at = False, False, False, None
+        self.waiting, self.answers, self.contents = [], {}, {}
 
-    def begin(self, all_begin):
+    def begin(self):
         """The first life. Its first payments are in the log before anybody can crash."""
         self.log_step(self.sends)
         self.network.connect(range(self.number), [])
         self.wait_until(lambda: len(self.network.connections) == len(self.lives))    # the others, and the starter
-        all_begin.wait()
+        self.is_ready = True
+        self.wait_until(lambda: self.are_all_ready)
         for send in self.sends:
             self.transmit(*send)
 
     def run(self):
         """Handles what has waited, and then what comes."""
-        self.is_ready = True
+        self.is_ready = self.receives = True
         for waited in self.waiting:
-            self.handle(*waited)
+            self.take_frame(*waited)
         self.wait_until(lambda: False)
 
     def wait_until(self, has_come):
@@ -43,9 +44,9 @@ class Member:
             self.take_frame(*self.network.inbox.get())
 
     def take_frame(self, sender, life, frame, connection):
-        """A frame of the starter, of a recovery, or to be handled by a member that is ready. Lives that have ended are not heard."""
+        """A frame of the starter, of a recovery, or to be handled by a member that receives. Lives that have ended are not heard."""
         if frame["kind"] == "order":
-            self.crash_at, self.network.connections[None] = frame["crash_at"] or self.crash_at, connection
+            self.network.connections[None], self.crash_at, self.are_all_ready = connection, frame["crash_at"], frame["are_all_ready"]
             self.network.send(None, "state", ready=self.is_ready, sent=len(self.sends), received=self.received, balance=self.account.balance)
         elif life < self.lives[sender] and self.bug != "old-incarnation":
             return
@@ -53,10 +54,10 @@ class Member:
             recovery.meet(self, sender, dict(frame["down"]), connection)
         elif frame["kind"] == "answer":
             self.answers[sender] = frame
-        elif self.is_ready:
+        elif self.receives:
             self.handle(sender, life, frame)
         else:
-            self.waiting.append((sender, life, frame))
+            self.waiting.append((sender, life, frame, connection))
             self.contents[sender, frame.get("number")] = frame.get("payment")
 
     def handle(self, sender, life, frame):
@@ -128,10 +129,10 @@ class Member:
         self.network.send(to, kind, tell=self.tells, **frame)
 
 
-def main(number, lives, down, options, listeners, all_begin):
+def main(number, lives, down, options, listeners):
     """A life of a member: its first one, or the one after a crash in which these were down."""
     signal.alarm(10)    # seconds, after which a life is ended
     random.seed(f"{options.seed} {number} {lives}")
     member = Member(number, lives, options, Network(number, lives, listeners, options.delay / 1000))
-    recovery.recover(member, down) if down else member.begin(all_begin)
+    recovery.recover(member, down) if down else member.begin()
     member.run()

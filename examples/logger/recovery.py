@@ -47,9 +47,7 @@ def replay(member, gathered):
     order = []
     while len(order) + 1 in receipts:
         order.append(receipts[len(order) + 1])
-    if member.bug == "replay-order":
-        place = next((place for place in range(len(order) - 1) if order[place][0] != order[place + 1][0]), 0)
-        order[place:place + 2] = reversed(order[place:place + 2])
+    order = sorted(order) if member.bug == "replay-order" else order
     yield from member.sends[:]
     for message in order:
         member.wait_until(lambda: message in member.contents)

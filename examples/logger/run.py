@@ -18,22 +18,22 @@ BUGS = ("stable-at-f", "not-logged", "optimistic", "incomplete-piggyback", "prem
 
 class Group:
     def __init__(self, options):
-        self.options, self.all_begin, self.lives = options, multiprocessing.Barrier(options.members), [0] * options.members
-        self.listeners, self.processes, self.orders = [socket.create_server(("127.0.0.1", 0)) for _ in self.lives], {}, {}
+        self.options, self.lives, self.processes, self.orders = options, [0] * options.members, {}, {}
+        self.listeners = [socket.create_server(("127.0.0.1", 0)) for _ in self.lives]
         for number in range(options.members):
             self.start(number, [])
 
     def start(self, number, down):
         """Starts a life of a member as a process of its own, which ends with this one, and connects to it."""
-        given = (number, list(self.lives), down, self.options, self.listeners, self.all_begin)
+        given = (number, list(self.lives), down, self.options, self.listeners)
         self.processes[number] = multiprocessing.Process(target=member.main, args=given, daemon=True)
         self.processes[number].start()
         self.orders[number] = socket.create_connection(self.listeners[number].getsockname()).makefile("rw")
 
-    def ask(self, number, crash_at):
+    def ask(self, number, **order):
         """How far a member is; None if it has ended."""
         try:
-            print(json.dumps({"kind": "order", "crash_at": crash_at}), file=self.orders[number], flush=True)
+            print(json.dumps({"kind": "order", **order}), file=self.orders[number], flush=True)
             return json.loads(self.orders[number].readline() or "null")
         except OSError:
             return None
@@ -55,7 +55,8 @@ class Group:
         crashes, states, since, are_ready = self.options.crash, [], 0, False
         while True:
             down, receipt = crashes[0] if crashes and are_ready else ([], None)
-            before, states = states, [self.ask(number, receipt if [number] == down[:1] else None) for number in range(len(self.lives))]
+            before, states = states, [self.ask(number, are_all_ready=are_ready, crash_at=receipt if [number] == down[:1] else None)
+                                      for number in range(len(self.lives))]
             are_ready = all(state and state["ready"] for state in states)
             since = since if states == before else time.monotonic()
             if None in states:
