@@ -26,7 +26,7 @@ class Network:
             threading.Thread(target=self.read, args=(self.connections[other], other, self.lives[other]), daemon=True).start()
 
     def send(self, to, kind, **frame):
-        """Sends a frame, if there is a connection. What a member misses stands in the logs of its senders."""
+        """Sends a frame, if there is a connection. What a member misses while it is down is sent again when it is back."""
         try:
             self.connections[to].sendall(json.dumps({"kind": kind, **frame}).encode() + b"\n")
         except (KeyError, OSError):     # the other end was killed

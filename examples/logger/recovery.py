@@ -3,8 +3,8 @@ determinants, and sends again what was not received. Members that were down toge
 
 
 def meet(member, sender, down, connection):
-    """A member has connected. A survivor hears no more the ended lives of any that were down, and then answers: it receives
-    nothing later that those who come back do not know."""
+    """A member has connected. A survivor first drops what the ended lives of all that were down have sent, and then answers: it
+    never receives a message later that depends on a receipt which they do not know."""
     for other, life in down.items():
         if member.lives[other] < life:
             member.lives[other] = life

@@ -63,7 +63,7 @@ class Group:
                 self.restart(crashes.pop(0)[0] if crashes else [states.index(None)])
             elif are_ready and states == before:
                 sent, received, total = (sum(state[key] for state in states) for key in ("sent", "received", "balance"))
-                if sent == received or time.monotonic() > since + 1.5:
+                if sent == received or time.monotonic() > since + 1.5 + self.options.delay / 500:
                     return sent, received, total
             time.sleep(0.01)
 
