@@ -4,8 +4,8 @@ use Rattle.fbl_trace.proofs.Gets.{take-more}
 use Rattle.std.specs.List.{AllZip}
 use Rattle.std.specs.Prelude.{slice_get, take}
 use Rattle.clap.specs.Words.{Text}
-use Rattle.fbl_records.specs.declared.reader.Recorded.{Recorded}
-use Rattle.fbl_records.specs.declared.reader.Recorded.TheVariants as raws
+use Rattle.fbl_records.specs.declared.reader.RawRecording.{RawRecording}
+use Rattle.fbl_records.specs.declared.reader.RawRecording.TheVariants as raws
 use Rattle.fbl_program.specs.declared.merge.Together.{Together}
 use Rattle.fbl_program.specs.declared.merge.Together.TheVariants.{Dumps, Logs}
 use Rattle.fbl_program.specs.Jobs.{IsUnrecorded, Known, NotTogether, RecordTogether, Records}
@@ -55,10 +55,10 @@ map_more f xs x found is = ap (λ all. all ++ f x ∷ []) is ∙ sym (map-append
 
 -- ---- files that are read in turn
 
-module _ (input : Text → Known) (names : List (Bor Text)) (i : ℕ) (name : Bor Text) (at : slice_get names i ≡ Some name) (found : List Recorded)
+module _ (input : Text → Known) (names : List (Bor Text)) (i : ℕ) (name : Bor Text) (at : slice_get names i ≡ Some name) (found : List RawRecording)
     (so_far : AllZip Records (map input (map (λ n. n.now) (take i names))) found) where
   -- one more records something
-  pub read_more : (more : Recorded) → Records (input name.now) more → AllZip Records (map input (map (λ n. n.now) (take (i + 1) names))) (found ++ more ∷ [])
+  pub read_more : (more : RawRecording) → Records (input name.now) more → AllZip Records (map input (map (λ n. n.now) (take (i + 1) names))) (found ++ more ∷ [])
   read_more more records =
       let next : i + 1 ≡ suc i = omega arith in
       rw (next, known_more (λ (n : Bor Text). n.now) input names i name at) (zip_more Records _ found (input name.now) more so_far records)
@@ -101,16 +101,16 @@ pushed (Err e) new more old fine is = absurd (true≢false fine)
 -- ---- versions
 
 -- there are so many dumps, and the next one is a log, or the reverse
-abbrev IsOther : Together → Recorded → ℕ → Type 0
+abbrev IsOther : Together → RawRecording → ℕ → Type 0
 IsOther (Dumps dumps) (raws.Log raw) n = (n ≡ length dumps.items) × (0 < length dumps.items)
 IsOther (Logs logs) (raws.Dump raw) n = n ≡ length logs.items
 IsOther together next n = ⊥
 
-all_same : {A : Type 0} (f : A → Recorded) (b : Bool) (xs : List A) → ((x : A) → is_log (f x) ≡ b) → map is_log (map f xs) ≡ map (λ _. b) (map f xs)
+all_same : {A : Type 0} (f : A → RawRecording) (b : Bool) (xs : List A) → ((x : A) → is_log (f x) ≡ b) → map is_log (map f xs) ≡ map (λ _. b) (map f xs)
 all_same f b [] is = refl
 all_same f b (x ∷ xs) is = rw (is x, all_same f b xs is) refl
 
-pub other_version : (together : Together) (next : Recorded) (n : ℕ) → IsOther together next n → (found rest : List Recorded) → AreTogether found together → IsOtherVersion (found ++ next ∷ rest) (is_log next) n
+pub other_version : (together : Together) (next : RawRecording) (n : ℕ) → IsOther together next n → (found rest : List RawRecording) → AreTogether found together → IsOtherVersion (found ++ next ∷ rest) (is_log next) n
 other_version (Dumps dumps) (raws.Log raw) n other found rest are = record {
   before = found;
   other = raws.Log raw;
@@ -147,7 +147,7 @@ some_together input (n ∷ ns) (Dumps dumps) some (r ∷ rs, zip, is) = not_empt
 some_together input (n ∷ ns) (Logs logs) some (found, zip, is) = is.0
 
 -- so is what one file records
-pub one_together : (recorded : Recorded) (together : Together) → AreTogether (recorded ∷ []) together → 0 < count_of together
+pub one_together : (recorded : RawRecording) (together : Together) → AreTogether (recorded ∷ []) together → 0 < count_of together
 one_together recorded (Dumps dumps) is = not_empty raws.Dump dumps.items recorded [] is
 one_together recorded (Logs logs) is = is.0
 

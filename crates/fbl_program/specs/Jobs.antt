@@ -5,7 +5,7 @@ use Rattle.std.specs.Str.{bytes_eq}
 use Rattle.clap.specs.Words.{Text}
 use Rattle.fbl_input.specs.declared.input_fault.InputFault.{InputFault}
 use Rattle.fbl_records.specs.Logs.{IsNotRecorded, recorded_of_input, recorded_parts}
-use Rattle.fbl_records.specs.declared.reader.Recorded.{Recorded}
+use Rattle.fbl_records.specs.declared.reader.RawRecording.{RawRecording}
 use Rattle.fbl_program.specs.declared.command_line.Misuse.{Misuse}
 use Rattle.fbl_program.specs.declared.job.Job.{Job}
 use Rattle.fbl_program.specs.declared.job.RunTask.{RunTask}
@@ -25,7 +25,7 @@ Known = Option (List ℕ)
 -- ---- what files record of a run
 
 -- the file records this
-abbrev pub Records : Known → Recorded → Type 0
+abbrev pub Records : Known → RawRecording → Type 0
 Records file found = IfSome file (λ input. recorded_of_input input ≡ Ok (recorded_parts found))
 
 -- the file can't be read, or has a fault, with this exit status
@@ -34,13 +34,13 @@ IsUnrecorded file status = IsChannelStatus status ⊎ IfSome file (λ input. (fa
 
 -- the files record dumps, or logs: these, in their order
 abbrev pub RecordTogether : List Known → Together → Type 0
-RecordTogether files together = (found : List Recorded) × AllZip Records files found × AreTogether found together
+RecordTogether files together = (found : List RawRecording) × AllZip Records files found × AreTogether found together
 
 -- the first of the files that records nothing, or what they record has two versions, or memory ran out: this is the exit status
 abbrev pub NotTogether : List Known → ℕ → Type 0
 NotTogether files status =
-    ((before : List Known) × (file : Known) × (rest : List Known) × (found : List Recorded) × (files ≡ before ++ file ∷ rest) × AllZip Records before found × IsUnrecorded file status)
-    ⊎ ((found : List Recorded) × (fault : MergeFault) × AllZip Records files found × RefusesVersions found fault × (status ≡ merge_status fault))
+    ((before : List Known) × (file : Known) × (rest : List Known) × (found : List RawRecording) × (files ≡ before ++ file ∷ rest) × AllZip Records before found × IsUnrecorded file status)
+    ⊎ ((found : List RawRecording) × (fault : MergeFault) × AllZip Records files found × RefusesVersions found fault × (status ≡ merge_status fault))
 
 -- ---- jobs
 

@@ -12,38 +12,38 @@ use Rattle.fbl_order.specs.Answers.{AnswersAlike, DumpsAnswerAlike}
 use Rattle.fbl_order.specs.Orders.{AreHeard, ArePlaces, IsOrder, IsOrderOfEntries, as_entries, with_entries, with_events}
 use Rattle.fbl_runs.specs.Entries.{marks}
 use Rattle.fbl_runs.specs.Logs.{IsLog, RunParts}
-use Rattle.fbl_records.specs.declared.reader.Checked.{Checked}
-use Rattle.fbl_records.specs.declared.reader.Checked.TheVariants as checked
-use Rattle.fbl_records.specs.declared.reader.Recorded.{Recorded}
-use Rattle.fbl_records.specs.declared.reader.Recorded.TheVariants as raws
+use Rattle.fbl_records.specs.declared.reader.Recording.{Recording}
+use Rattle.fbl_records.specs.declared.reader.Recording.TheVariants as checked
+use Rattle.fbl_records.specs.declared.reader.RawRecording.{RawRecording}
+use Rattle.fbl_records.specs.declared.reader.RawRecording.TheVariants as raws
 use Rattle.fbl_program.specs.declared.merge.MergeFault.{MergeFault}
 use Rattle.fbl_program.specs.declared.merge.MergeFault.TheVariants as faults
 use Rattle.fbl_program.specs.declared.merge.Together.{Together}
 use Rattle.fbl_program.specs.declared.merge.Together.TheVariants.{Dumps, Logs}
 
 -- what was found are these dumps, or these logs, of which there is one, in their order
-abbrev pub AreTogether : List Recorded → Together → Type 0
+abbrev pub AreTogether : List RawRecording → Together → Type 0
 AreTogether found (Dumps dumps) = found ≡ map raws.Dump dumps.items
 AreTogether found (Logs logs) = (0 < length logs.items) × (found ≡ map raws.Log logs.items)
 
 -- whether it is a log
-abbrev pub is_log : Recorded → Bool
+abbrev pub is_log : RawRecording → Bool
 is_log (raws.Dump raw) = false
 is_log (raws.Log raw) = true
 
 -- the one with this number is the first of another version: it is a log, and those before it are dumps, or the reverse
-pub record IsOtherVersion (found : List Recorded) (log : Bool) (part : ℕ) : Type 0 where
-  pub before : List Recorded
-  pub other : Recorded
+pub record IsOtherVersion (found : List RawRecording) (log : Bool) (part : ℕ) : Type 0 where
+  pub before : List RawRecording
+  pub other : RawRecording
   pub is : is_log other ≡ log
-  pub rest : List Recorded
+  pub rest : List RawRecording
   pub found_is : found ≡ before ++ other ∷ rest
   pub some : 0 < part
   pub place : length before ≡ part
   pub differ : map is_log before ≡ map (λ _. not log) before
 
 -- they have two versions; or memory ran out
-abbrev pub RefusesVersions : List Recorded → MergeFault → Type 0
+abbrev pub RefusesVersions : List RawRecording → MergeFault → Type 0
 RefusesVersions found (faults.LogAmongDumps part) = IsOtherVersion found true part
 RefusesVersions found (faults.DumpAmongLogs part) = IsOtherVersion found false part
 RefusesVersions found (faults.Files files.Memory) = Unit {0}
@@ -79,12 +79,12 @@ pub record IsMergedLog (whole log : RunParts) (places : List ℕ) : Type 0 where
   pub answers : AnswersAlike whole log
 
 -- the same of what the files have together
-abbrev pub IsMerged : Together → Checked → List ℕ → Type 0
+abbrev pub IsMerged : Together → Recording → List ℕ → Type 0
 IsMerged (Dumps dumps) (checked.Dump dump) places = (whole : Parts) × IsUnionOfDumps dumps.items whole × IsMergedDump whole dump places
 IsMerged (Logs logs) (checked.Log log) places = (whole : RunParts) × IsUnionOfLogs logs.items whole × IsMergedLog whole log places
 IsMerged together run places = ⊥
 
-abbrev pub IsMergeOf : Together → Ordered Checked → Type 0
+abbrev pub IsMergeOf : Together → Ordered Recording → Type 0
 IsMergeOf together merged = IsMerged together merged.run merged.places.items
 
 -- the files differ; or what they have together has no order, or breaks another rule; or memory ran out

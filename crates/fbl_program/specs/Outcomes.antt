@@ -22,9 +22,9 @@ use Rattle.fbl_records.specs.Lines.{audit_lines}
 use Rattle.fbl_records.specs.LogLines.{log_line}
 use Rattle.fbl_records.specs.Logs.{IsCheckedOf, IsNotChecked, IsNotRecorded, recorded_of_input, recorded_parts}
 use Rattle.fbl_records.specs.Texts.{IsChecked}
-use Rattle.fbl_records.specs.declared.reader.Checked.{Checked}
-use Rattle.fbl_records.specs.declared.reader.Checked.TheVariants as checked
-use Rattle.fbl_records.specs.declared.reader.Recorded.{Recorded}
+use Rattle.fbl_records.specs.declared.reader.Recording.{Recording}
+use Rattle.fbl_records.specs.declared.reader.Recording.TheVariants as checked
+use Rattle.fbl_records.specs.declared.reader.RawRecording.{RawRecording}
 use Rattle.fbl_runs.specs.Logs.{RunParts, run_of_dump}
 use Rattle.fbl_scripts.specs.Scripts.{Outline, IsScriptFault, IsScriptOf, behaviour_word}
 use Rattle.fbl_program.specs.declared.job.Question.{Question}
@@ -63,27 +63,27 @@ IsAnswerTo Check run sources is_well told = (receipts : List UnsafeReceipt) × I
 IsAnswerTo Draw run sources is_well told = IsRunPicture run sources told × (is_well ≡ true)
 
 -- the run of a dump is judged at its end
-abbrev pub run_of : Checked → RunParts
+abbrev pub run_of : Recording → RunParts
 run_of (checked.Dump dump) = run_of_dump dump
 run_of (checked.Log run) = run
 
 -- the dump or the log as a line
-abbrev pub run_line : Checked → List ℕ
+abbrev pub run_line : Recording → List ℕ
 run_line (checked.Dump dump) = dump_line dump
 run_line (checked.Log run) = log_line run
 
 -- what is told where the task is done with the dump or the log
-abbrev pub IsAnswer : RunTask → Checked → Sources → Bool → List ℕ → Type 0
+abbrev pub IsAnswer : RunTask → Recording → Sources → Bool → List ℕ → Type 0
 IsAnswer (Judge question) found sources is_well told = IsAnswerTo question (run_of found) sources is_well told
 IsAnswer Merge found sources is_well told = (told ≡ run_line found) × (is_well ≡ true)
 
 -- what is left in the writer, and the exit status, where this is done with a dump or a log, whose entries stand in these files
-abbrev pub EndsWith : RunTask → Checked → Sources → Option (List ℕ) → Option (List ℕ) → ℕ → Type 0
+abbrev pub EndsWith : RunTask → Recording → Sources → Option (List ℕ) → Option (List ℕ) → ℕ → Type 0
 EndsWith task found sources before after status =
     (done : Result Bool OutputFault) × PutsOut (IsAnswer task found sources) before after done × (status ≡ status_after (run_result done))
 
 -- the same where it is that of one file
-abbrev pub EndsAlone : RunTask → Checked → Option (List ℕ) → Option (List ℕ) → ℕ → Type 0
+abbrev pub EndsAlone : RunTask → Recording → Option (List ℕ) → Option (List ℕ) → ℕ → Type 0
 EndsAlone task found before after status = (sources : Sources) × (sources.places.now ≡ []) × EndsWith task found sources before after status
 
 -- the fault of what files record together is told: nothing is written
@@ -91,7 +91,7 @@ abbrev pub IsRefused : MergeFault → Option (List ℕ) → Option (List ℕ) �
 IsRefused fault before after status = Keeps before after × (status ≡ merge_status fault)
 
 -- these are the files with these names in which the events of the merged run stand
-pub record AreSourcesOf (together : Together) (merged : Ordered Checked) (names : List (List ℕ)) (sources : Sources) : Type 0 where
+pub record AreSourcesOf (together : Together) (merged : Ordered Recording) (names : List (List ℕ)) (sources : Sources) : Type 0 where
   pub names_are : map (λ name. name.now) sources.names.now ≡ names
   pub lengths : sources.lengths.now ≡ lengths_of together
   pub places : sources.places.now ≡ merged.places.items
@@ -99,12 +99,12 @@ pub record AreSourcesOf (together : Together) (merged : Ordered Checked) (names 
 -- what is left in the writer, and the exit status, where this is done with what the files with these names record together, if that is a run
 abbrev pub EndsMerged : RunTask → Together → List (List ℕ) → Option (List ℕ) → Option (List ℕ) → ℕ → Type 0
 EndsMerged task together names before after status =
-    ((merged : Ordered Checked) × IsMergeOf together merged × (sources : Sources) × AreSourcesOf together merged names sources
+    ((merged : Ordered Recording) × IsMergeOf together merged × (sources : Sources) × AreSourcesOf together merged names sources
     × EndsWith task merged.run sources before after status)
     ⊎ ((fault : MergeFault) × RefusesMerge together fault × IsRefused fault before after status)
 
 -- the same of the one dump or log, unless memory runs out
-abbrev pub EndsRecorded : RunTask → Recorded → Option (List ℕ) → Option (List ℕ) → ℕ → Type 0
+abbrev pub EndsRecorded : RunTask → RawRecording → Option (List ℕ) → Option (List ℕ) → ℕ → Type 0
 EndsRecorded task recorded before after status =
     ((together : Together) × AreTogether (recorded ∷ []) together × EndsMerged task together [] before after status)
     ⊎ (Keeps before after × (status ≡ 4))
@@ -119,8 +119,8 @@ abbrev pub EndsTask : Task → List ℕ → Option (List ℕ) → Option (List �
 EndsTask (Script task) input before after status =
     (done : Result Bool RunFault) × OverInput (IsScriptOf input) (IsScriptFault input) (λ s. DoesScript task s before after) before after done × (status ≡ status_after done)
 EndsTask (Run (Judge question)) input before after status =
-    ((found : Checked) × IsCheckedOf input found × EndsAlone (Judge question) found before after status)
+    ((found : Recording) × IsCheckedOf input found × EndsAlone (Judge question) found before after status)
     ⊎ ((fault : InputFault) × IsNotChecked input fault × IsToldOf fault before after status)
 EndsTask (Run Merge) input before after status =
-    ((found : Recorded) × (recorded_of_input input ≡ Ok (recorded_parts found)) × EndsRecorded Merge found before after status)
+    ((found : RawRecording) × (recorded_of_input input ≡ Ok (recorded_parts found)) × EndsRecorded Merge found before after status)
     ⊎ ((fault : InputFault) × IsNotRecorded input fault × IsToldOf fault before after status)

@@ -14,7 +14,7 @@ use crate::status::{INPUT_FAULT, end, fail};
 use crate::streams::{Named, Streams};
 use crate::teller::{refuse_input, refuse_merge};
 use fbl_input::RunFault;
-use fbl_records::{Recorded, read_checked, read_recorded};
+use fbl_records::{RawRecording, read_checked, read_recorded};
 use fbl_scripts::read_script;
 use std::alloc::Global;
 use std::io::{Read, Write};
@@ -95,7 +95,7 @@ fn recorded_at<T: Eprint, S: Streams>(
     streams: &S,
     explain: bool,
     name: &str,
-) -> Result<Recorded, u8>
+) -> Result<RawRecording, u8>
     ensures recorded { IfOk result (Records (S.input streams.now name.now)) }
     ensures refused { IfErr result (IsUnrecorded (S.input streams.now name.now)) }
 {

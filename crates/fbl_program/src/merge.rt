@@ -1,7 +1,7 @@
 //! What several files record of one run, as one: what they have together, with its events in an order that obeys the rules.
 
 ghost use Rattle.std.specs.Prelude.{◌≡◌, ◌<◌, IfErr, IfOk, List, [], ◌∷◌, ◌++◌};
-ghost use Rattle.fbl_records.specs.declared.reader.Recorded.{Recorded};
+ghost use Rattle.fbl_records.specs.declared.reader.RawRecording.{RawRecording};
 ghost use Rattle.fbl_program.specs.Merges.{AreTogether, IsMergeOf, RefusesMerge, RefusesVersions, count_of, merge_status};
 
 use crate::status::{INPUT_FAULT, MEMORY_FAULT};
@@ -9,7 +9,7 @@ use fbl_dumps::{DumpRefusal, RawDump};
 use fbl_order::{
     FilesDiffer, OrderFault, Ordered, order_dump, order_log, union_of_dumps, union_of_logs,
 };
-use fbl_records::{Checked, Recorded};
+use fbl_records::{Recording, RawRecording};
 use fbl_runs::RawLog;
 use std::alloc::{AllocError, AllocFailed, Global};
 use std::convert::From;
@@ -91,16 +91,16 @@ pub(crate) enum Together {
 
 impl Together {
     /// What one file records.
-    pub(crate) fn of(alloc: Global, recorded: Recorded) -> Result<Together, AllocError>
+    pub(crate) fn of(alloc: Global, recorded: RawRecording) -> Result<Together, AllocError>
         ensures { IfOk result (AreTogether (recorded ∷ [])) }
     {
         Ok(match recorded {
-            Recorded::Dump(raw) => {
+            RawRecording::Dump(raw) => {
                 let mut dumps = Vec::new(alloc);
                 dumps.push(raw)?;
                 Together::Dumps(dumps)
             }
-            Recorded::Log(raw) => {
+            RawRecording::Log(raw) => {
                 let mut logs = Vec::new(alloc);
                 logs.push(raw)?;
                 Together::Logs(logs)
@@ -109,29 +109,29 @@ impl Together {
     }
 
     /// These and the next one, where it is of their version.
-    fn with(self, alloc: Global, next: Recorded) -> Result<Together, MergeFault>
-        ensures together { (found : List Recorded) → AreTogether found self → IfOk result (AreTogether (found ++ next ∷ [])) }
-        ensures refused { (found rest : List Recorded) → AreTogether found self
+    fn with(self, alloc: Global, next: RawRecording) -> Result<Together, MergeFault>
+        ensures together { (found : List RawRecording) → AreTogether found self → IfOk result (AreTogether (found ++ next ∷ [])) }
+        ensures refused { (found rest : List RawRecording) → AreTogether found self
             → IfErr result (RefusesVersions (found ++ next ∷ rest)) }
     {
         match (self, next) {
-            (Together::Dumps(dumps), Recorded::Dump(raw)) => {
+            (Together::Dumps(dumps), RawRecording::Dump(raw)) => {
                 let mut dumps = dumps;
                 dumps.push(raw)?;
                 Ok(Together::Dumps(dumps))
             }
-            (Together::Logs(logs), Recorded::Log(raw)) => {
+            (Together::Logs(logs), RawRecording::Log(raw)) => {
                 let mut logs = logs;
                 logs.push(raw)?;
                 Ok(Together::Logs(logs))
             }
-            (Together::Dumps(dumps), Recorded::Log(raw)) => {
+            (Together::Dumps(dumps), RawRecording::Log(raw)) => {
                 if !dumps.is_empty() {
                     return Err(MergeFault::LogAmongDumps(dumps.len()));
                 }
-                Ok(Together::of(alloc, Recorded::Log(raw))?)
+                Ok(Together::of(alloc, RawRecording::Log(raw))?)
             }
-            (Together::Logs(logs), Recorded::Dump(_)) => {
+            (Together::Logs(logs), RawRecording::Dump(_)) => {
                 Err(MergeFault::DumpAmongLogs(logs.len()))
             }
         }
@@ -139,7 +139,7 @@ impl Together {
 }
 
 /// What these files record, where they are of one version.
-pub(crate) fn in_one_version(alloc: Global, files: Vec<Recorded>) -> Result<Together, MergeFault>
+pub(crate) fn in_one_version(alloc: Global, files: Vec<RawRecording>) -> Result<Together, MergeFault>
     ensures together { IfOk result (AreTogether files.items) }
     ensures refused { IfErr result (RefusesVersions files.items) }
 {
@@ -152,7 +152,7 @@ pub(crate) fn in_one_version(alloc: Global, files: Vec<Recorded>) -> Result<Toge
 
 /// What the files have together, its events in an order in which each member's own stand as the files have them, one file's behind
 /// another's.
-pub(crate) fn merge_of(alloc: Global, files: &Together) -> Result<Ordered<Checked>, MergeFault>
+pub(crate) fn merge_of(alloc: Global, files: &Together) -> Result<Ordered<Recording>, MergeFault>
     requires { 0 < count_of files.now }
     ensures merged { IfOk result (IsMergeOf files.now) }
     ensures refused { IfErr result (RefusesMerge files.now) }
@@ -161,13 +161,13 @@ pub(crate) fn merge_of(alloc: Global, files: &Together) -> Result<Ordered<Checke
         Together::Dumps(dumps) => {
             let whole = union_of_dumps(alloc, dumps.as_slice())?;
             let Ordered { run, places } = order_dump(alloc, whole)?;
-            let run = Checked::Dump(run);
+            let run = Recording::Dump(run);
             Ok(Ordered { run, places })
         }
         Together::Logs(logs) => {
             let whole = union_of_logs(alloc, logs.as_slice())?;
             let Ordered { run, places } = order_log(alloc, whole)?;
-            let run = Checked::Log(run);
+            let run = Recording::Log(run);
             Ok(Ordered { run, places })
         }
     }

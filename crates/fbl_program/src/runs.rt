@@ -17,19 +17,19 @@ use fbl_input::shapes::LONGEST;
 use fbl_input::{OutputFault, RunFault, Sources, put};
 use fbl_judge::{Pasts, Reason, UnsafeReceipt, audit_of, loss_reasons, unsafe_reasons};
 use fbl_pictures::write_run_picture;
-use fbl_records::{Checked, Recorded, Why, dump_text, log_text, write_audit, write_check};
+use fbl_records::{Recording, RawRecording, Why, dump_text, log_text, write_audit, write_check};
 use fbl_runs::Run;
 use fbl_trace::Determinant;
 use std::alloc::{AllocError, Global};
 use std::io::Write;
 
 /// The dump or the log as a line.
-fn line_of(alloc: Global, found: &Checked) -> Result<String, AllocError>
+fn line_of(alloc: Global, found: &Recording) -> Result<String, AllocError>
     ensures { IfOk result (λ line. string_bytes line ≡ run_line found.now) }
 {
     match found {
-        Checked::Dump(dump) => dump_text(alloc, dump),
-        Checked::Log(log) => log_text(alloc, log),
+        Recording::Dump(dump) => dump_text(alloc, dump),
+        Recording::Log(log) => log_text(alloc, log),
     }
 }
 
@@ -153,7 +153,7 @@ fn judge<T: Eprint, W: Write>(
     alloc: Global,
     question: Question,
     explain: bool,
-    found: &Checked,
+    found: &Recording,
     sources: &Sources<'_>,
     writer: &mut W,
 ) -> Result<bool, OutputFault>
@@ -161,11 +161,11 @@ fn judge<T: Eprint, W: Write>(
         (W.contents writer.new) result }
 {
     match found {
-        Checked::Dump(dump) => {
+        Recording::Dump(dump) => {
             let run = Run::of_dump(alloc, dump)?;
             judge_run(rt, alloc, question, explain, &run, sources, writer)
         }
-        Checked::Log(run) => judge_run(rt, alloc, question, explain, run, sources, writer),
+        Recording::Log(run) => judge_run(rt, alloc, question, explain, run, sources, writer),
     }
 }
 
@@ -175,7 +175,7 @@ fn do_run<T: Eprint, W: Write>(
     alloc: Global,
     task: RunTask,
     explain: bool,
-    found: &Checked,
+    found: &Recording,
     sources: &Sources<'_>,
     writer: &mut W,
 ) -> Result<bool, OutputFault>
@@ -197,7 +197,7 @@ pub(crate) fn end_run<T: Eprint, W: Write>(
     alloc: Global,
     task: RunTask,
     explain: bool,
-    found: &Checked,
+    found: &Recording,
     sources: &Sources<'_>,
     writer: &mut Named<'_, W>,
 ) -> u8
@@ -252,7 +252,7 @@ pub(crate) fn end_recorded<T: Eprint, W: Write>(
     alloc: Global,
     task: RunTask,
     explain: bool,
-    recorded: Recorded,
+    recorded: RawRecording,
     writer: &mut Named<'_, W>,
 ) -> u8
     ensures { EndsRecorded task recorded (W.contents writer.old.stream) (W.contents writer.new.stream) result }

@@ -6,7 +6,7 @@ use Rattle.fbl_runs.specs.declared.judged.Judged.TheVariants.{AtEachMoment}
 use Rattle.fbl_records.specs.LogLines.{log_data}
 use Rattle.fbl_records.specs.DumpLines.{entry_data}
 use Rattle.fbl_records.specs.Logs.{log_of_data, recorded_of_data}
-use Rattle.fbl_records.specs.declared.reader.Checked.TheVariants.{Log}
+use Rattle.fbl_records.specs.declared.reader.Recording.TheVariants.{Log}
 use Rattle.fbl_records.proofs.DumpValues.{flat_entry}
 use Rattle.fbl_records.proofs.Values.{flat, list_read, number_read, set_read}
 

@@ -24,27 +24,27 @@ use Rattle.fbl_records.specs.Dumps.{IsNoDump, BreaksParts, RefusesParts}
 use Rattle.fbl_records.specs.Logs.{HasKind, IsNotChecked, IsNotRecorded, IsRefusal, BreaksRecorded, RefusesNone, RefusesRecorded, kind_of, log_of_data, recorded_as, recorded_kind, recorded_of_data, recorded_of_input, value_meant}
 use Rattle.fbl_records.specs.EventLines.{is_whole, json_text, lines_text, log_version}
 use Rattle.fbl_records.proofs.EventLines.{meant_as_it_is, own_text}
-use Rattle.fbl_records.specs.declared.reader.Checked.{Checked}
-use Rattle.fbl_records.specs.declared.reader.Checked.TheVariants as parts
+use Rattle.fbl_records.specs.declared.reader.Recording.{Recording}
+use Rattle.fbl_records.specs.declared.reader.Recording.TheVariants as parts
 
 -- ---- the kind
 
-of_log : (r : Result RunParts RunFault) (found : Checked) → (r >>= λ log. Ok (parts.Log log)) ≡ Ok found → kind_of found ≡ kinds.Log
+of_log : (r : Result RunParts RunFault) (found : Recording) → (r >>= λ log. Ok (parts.Log log)) ≡ Ok found → kind_of found ≡ kinds.Log
 of_log (Err e) found is = absurd cc
 of_log (Ok log) (parts.Dump dump) is = absurd cc
 of_log (Ok log) (parts.Log other) is = refl
 
-of_dump : (r : Result Parts RunFault) (found : Checked) → (r >>= λ dump. Ok (parts.Dump dump)) ≡ Ok found → kind_of found ≡ kinds.Dump
+of_dump : (r : Result Parts RunFault) (found : Recording) → (r >>= λ dump. Ok (parts.Dump dump)) ≡ Ok found → kind_of found ≡ kinds.Dump
 of_dump (Err e) found is = absurd cc
 of_dump (Ok dump) (parts.Dump other) is = refl
 of_dump (Ok dump) (parts.Log log) is = absurd cc
 
-by_version : (has_version : Bool) (d : Data) (found : Checked) → recorded_as (if has_version then kinds.Log else kinds.Dump) d ≡ Ok found
+by_version : (has_version : Bool) (d : Data) (found : Recording) → recorded_as (if has_version then kinds.Log else kinds.Dump) d ≡ Ok found
     → kind_of found ≡ (if has_version then kinds.Log else kinds.Dump)
 by_version true d found is = of_log (log_of_data d) found is
 by_version false d found is = of_dump (parts_of_data d) found is
 
-kind_is : (input : List ℕ) (found : Checked) → recorded_of_input input ≡ Ok found → (d : Data) → value_meant input ≡ Ok d → kind_of found ≡ recorded_kind d
+kind_is : (input : List ℕ) (found : Recording) → recorded_of_input input ≡ Ok found → (d : Data) → value_meant input ≡ Ok d → kind_of found ≡ recorded_kind d
 kind_is input found is d spelled = by_version (is_some (option_and_then log_version (get (name_of keys.Version) d))) d found (ap (λ v. v >>= recorded_of_data) (sym spelled) ∙ is)
 
 has_kind : (e : RunFault) (input : List ℕ) (kind : InputKind) → ((d : Data) → value_meant input ≡ Ok d → kind ≡ recorded_kind d) → HasKind e input kind
@@ -76,7 +76,7 @@ log_refusal log dump.Memory breach bytes refuses why = record { kind = refl; has
 log_refusal log e breach bytes refuses why = record { kind = refl; has = refl; refused = inr refuses; why = why }
 
 -- a refusal of what an input records is its first fault
-pub refused : (input : List ℕ) (found : Checked) (bytes : List ℕ) (fault : InputFault) → recorded_of_input input ≡ Ok found → bytes ≡ json_text input
+pub refused : (input : List ℕ) (found : Recording) (bytes : List ℕ) (fault : InputFault) → recorded_of_input input ≡ Ok found → bytes ≡ json_text input
     → IsRefusal found bytes fault → IsNotChecked input fault
 refused input found bytes fault is same refusal = (
   has_kind fault.fault input fault.kind (λ d spelled. refusal.kind ∙ kind_is input found is d spelled),
@@ -109,7 +109,7 @@ dump_refused input dump bytes fault is same refusal = (
 
 -- ---- faults of the form
 
-form_first : (asked : Result Checked RunFault) (e : RunFault) → IsFirstFault asked RefusesNone e → IsFirstFault asked RefusesRecorded e
+form_first : (asked : Result Recording RunFault) (e : RunFault) → IsFirstFault asked RefusesNone e → IsFirstFault asked RefusesRecorded e
 form_first asked faults.Read h = h
 form_first asked faults.Memory h = h
 form_first asked e (inl is) = inl is
@@ -121,7 +121,7 @@ form_fault input fault is = (is.0, record { first = form_first (recorded_of_inpu
 
 -- ---- inputs that could not be had
 
-pub any_memory : (found : Checked) (breach : Option LogBreach) → BreaksRecorded found faults.Read breach × BreaksRecorded found faults.Memory breach
+pub any_memory : (found : Recording) (breach : Option LogBreach) → BreaksRecorded found faults.Read breach × BreaksRecorded found faults.Memory breach
 any_memory (parts.Dump dump) breach = (tt, tt)
 any_memory (parts.Log log) breach = (tt, tt)
 

@@ -16,10 +16,10 @@ use Rattle.fbl_input.specs.Items.{entry_shape, unknown_key}
 use Rattle.fbl_input.specs.Shapes.{◌>>=◌, or_fault, byte_shape, field, json_of, list_of, longest, name_of, set_shape, value_of_input}
 use Rattle.fbl_runs.specs.Logs.{IsLog, IsLogBreach, RunParts, RefusesLog, parts_of_log}
 use Rattle.fbl_runs.specs.declared.judged.Judged.TheVariants.{AtEachMoment}
-use Rattle.fbl_records.specs.declared.reader.Checked.{Checked}
-use Rattle.fbl_records.specs.declared.reader.Checked.TheVariants as parts
-use Rattle.fbl_records.specs.declared.reader.Recorded.{Recorded}
-use Rattle.fbl_records.specs.declared.reader.Recorded.TheVariants as raws
+use Rattle.fbl_records.specs.declared.reader.Recording.{Recording}
+use Rattle.fbl_records.specs.declared.reader.Recording.TheVariants as parts
+use Rattle.fbl_records.specs.declared.reader.RawRecording.{RawRecording}
+use Rattle.fbl_records.specs.declared.reader.RawRecording.TheVariants as raws
 use Rattle.fbl_records.specs.declared.reader.RecordedInput.{RecordedInput}
 use Rattle.fbl_records.specs.EventLines.{is_whole, json_text, lines_text, log_version}
 use Rattle.fbl_records.specs.Dumps.{BreaksParts, RefusesParts, parts_of_data}
@@ -46,15 +46,15 @@ abbrev pub recorded_kind : Data → InputKind
 recorded_kind d = if is_some (option_and_then log_version (get (name_of keys.Version) d)) then kinds.Log else kinds.Dump
 
 -- the parts of what a value of this kind records of a run, or its first fault
-abbrev pub recorded_as : InputKind → Data → Result Checked RunFault
+abbrev pub recorded_as : InputKind → Data → Result Recording RunFault
 recorded_as kinds.Log d = log_of_data d >>= λ log. Ok (parts.Log log)
 recorded_as kind d = parts_of_data d >>= λ dump. Ok (parts.Dump dump)
 
-abbrev pub recorded_of_data : Data → Result Checked RunFault
+abbrev pub recorded_of_data : Data → Result Recording RunFault
 recorded_of_data d = recorded_as (recorded_kind d) d
 
 -- the parts of what an input records of a run, or its first fault
-abbrev pub recorded_of_input : List ℕ → Result Checked RunFault
+abbrev pub recorded_of_input : List ℕ → Result Recording RunFault
 recorded_of_input input = value_meant input >>= recorded_of_data
 
 -- an input that is a JSON text, and more than the first line of a log, or that has not the lines of a log, is read as it is
@@ -64,7 +64,7 @@ OtherInputsLaw = (input : List ℕ) → (is_whole (json_of input) ≡ true) ⊎ 
 -- ---- what a reader says of it
 
 -- the parts, whether or not they obey the rules
-abbrev pub recorded_parts : Recorded → Checked
+abbrev pub recorded_parts : RawRecording → Recording
 recorded_parts (raws.Dump raw) = parts.Dump (parts_of raw)
 recorded_parts (raws.Log raw) = parts.Log (parts_of_log raw)
 
@@ -73,12 +73,12 @@ abbrev pub IsRecordedOf : List ℕ → RecordedInput → Type 0
 IsRecordedOf input found = (recorded_of_input input ≡ Ok (recorded_parts found.recorded)) × (found.bytes.items ≡ json_text input)
 
 -- the parts obey the rules of their kind
-abbrev pub ObeysRules : Checked → Type 0
+abbrev pub ObeysRules : Recording → Type 0
 ObeysRules (parts.Dump dump) = IsDump dump
 ObeysRules (parts.Log log) = IsLog log
 
 -- the input records this of a run, which obeys the rules
-abbrev pub IsCheckedOf : List ℕ → Checked → Type 0
+abbrev pub IsCheckedOf : List ℕ → Recording → Type 0
 IsCheckedOf input found = (recorded_of_input input ≡ Ok found) × ObeysRules found
 
 -- the fault is a refusal of the log
@@ -94,25 +94,25 @@ BreaksLogParts log (faults.Dump e) None = ⊥
 BreaksLogParts log fault breach = Unit {0}
 
 -- the fault is a refusal of what is recorded, and which rule is broken
-abbrev pub RefusesRecorded : Checked → RunFault → Type 0
+abbrev pub RefusesRecorded : Recording → RunFault → Type 0
 RefusesRecorded (parts.Dump dump) e = RefusesParts dump e
 RefusesRecorded (parts.Log log) e = RefusesLogParts log e
 
-abbrev pub BreaksRecorded : Checked → RunFault → Option LogBreach → Type 0
+abbrev pub BreaksRecorded : Recording → RunFault → Option LogBreach → Type 0
 BreaksRecorded (parts.Dump dump) e breach = BreaksParts dump e breach
 BreaksRecorded (parts.Log log) e breach = BreaksLogParts log e breach
 
 -- what has the form that is asked for is not refused
-abbrev pub RefusesNone : Checked → RunFault → Type 0
+abbrev pub RefusesNone : Recording → RunFault → Type 0
 RefusesNone found fault = ⊥
 
 -- the kind of what is recorded
-abbrev pub kind_of : Checked → InputKind
+abbrev pub kind_of : Recording → InputKind
 kind_of (parts.Dump dump) = kinds.Dump
 kind_of (parts.Log log) = kinds.Log
 
 -- the fault is a refusal of what these bytes record, or memory ran out
-pub record IsRefusal (found : Checked) (bytes : List ℕ) (fault : InputFault) : Type 0 where
+pub record IsRefusal (found : Recording) (bytes : List ℕ) (fault : InputFault) : Type 0 where
   pub kind : fault.kind ≡ kind_of found
   pub has : fault.input.items ≡ bytes
   pub refused : (fault.fault ≡ faults.Memory) ⊎ RefusesRecorded found fault.fault
@@ -125,7 +125,7 @@ HasKind faults.Memory input kind = Unit {0}
 HasKind fault input kind = (d : Data) → value_meant input ≡ Ok d → kind ≡ recorded_kind d
 
 -- the fault of a reader, where this is how what it gives may be refused, is so, and was found in the text that the input means
-abbrev pub IsFaultIn : (Checked → RunFault → Type 0) → List ℕ → InputFault → Type 0
+abbrev pub IsFaultIn : (Recording → RunFault → Type 0) → List ℕ → InputFault → Type 0
 IsFaultIn Refuses input fault = HasKind fault.fault input fault.kind × IsFaultOf (recorded_of_input input) Refuses BreaksRecorded (json_text input) fault
 
 -- the fault of a reader of what has the form of a dump or of a log is so

@@ -7,7 +7,7 @@ ghost use Rattle.fbl_input.specs.Shapes.{Gives, longest};
 ghost use Rattle.fbl_runs.specs.Logs.{IsLog, parts_of_log};
 ghost use Rattle.fbl_records.specs.Dumps.{IsDumpOf, IsNoDump, parts_of_data, parts_of_input};
 ghost use Rattle.fbl_records.specs.Logs.{IsCheckedOf, IsNotChecked, IsNotRecorded, IsRecordedOf, IsRefusal, ObeysRules, log_of_data, recorded_kind, recorded_of_data, recorded_parts};
-ghost use Rattle.fbl_records.specs.declared.reader.Checked.TheVariants as parts;
+ghost use Rattle.fbl_records.specs.declared.reader.Recording.TheVariants as parts;
 
 use crate::event_lines::{JsonText, json_text};
 use crate::log_version::{LogVersionShape, log_version_in};
@@ -25,7 +25,7 @@ use std::io::Read;
 
 /// What an input records of a run. It may break the rules of its kind.
 #[derive(Drop)]
-pub enum Recorded {
+pub enum RawRecording {
     /// The run's end.
     Dump(RawDump),
     /// The run.
@@ -36,14 +36,14 @@ pub enum Recorded {
 #[derive(Drop)]
 pub struct RecordedInput {
     /// What it records.
-    pub recorded: Recorded,
+    pub recorded: RawRecording,
     /// The bytes of the JSON text that the input means: its own, or that for which its lines stand.
     pub bytes: Vec<u8>,
 }
 
 /// What an input records of a run, which obeys the rules of its kind.
 #[derive(Drop)]
-pub enum Checked {
+pub enum Recording {
     /// The run's end.
     Dump(Dump),
     /// The run.
@@ -102,12 +102,12 @@ fn kind_of(value: &Value) -> InputKind
 }
 
 /// What the value records of a run, its rules not yet checked.
-fn recorded_of(alloc: Global, value: &Value) -> Result<Recorded, RunFault>
+fn recorded_of(alloc: Global, value: &Value) -> Result<RawRecording, RunFault>
     ensures { Gives recorded_parts result (recorded_of_data (view value.now)) }
 {
     match kind_of(value) {
-        InputKind::Log => raw_log_of(alloc, value).map(Recorded::Log),
-        _ => raw_dump_of(alloc, value).map(Recorded::Dump),
+        InputKind::Log => raw_log_of(alloc, value).map(RawRecording::Log),
+        _ => raw_dump_of(alloc, value).map(RawRecording::Dump),
     }
 }
 
@@ -197,20 +197,20 @@ pub fn read_recorded<R: Read>(alloc: Global, reader: &mut R) -> Result<RecordedI
 }
 
 /// What the input records, once its rules are checked, or the first fault.
-pub fn checked_input(alloc: Global, input: RecordedInput) -> Result<Checked, InputFault>
+pub fn checked_input(alloc: Global, input: RecordedInput) -> Result<Recording, InputFault>
     ensures parts { IfOk result (λ found. found ≡ recorded_parts input.recorded) }
     ensures rules { IfOk result ObeysRules }
     ensures fault { (bytes : List ℕ) → IsRecordedOf bytes input → IfErr result (IsNotChecked bytes) }
 {
     let RecordedInput { recorded, bytes } = input;
     match recorded {
-        Recorded::Dump(raw) => Ok(Checked::Dump(dump_of(alloc, raw, bytes)?)),
-        Recorded::Log(raw) => Ok(Checked::Log(log_of(alloc, raw, bytes)?)),
+        RawRecording::Dump(raw) => Ok(Recording::Dump(dump_of(alloc, raw, bytes)?)),
+        RawRecording::Log(raw) => Ok(Recording::Log(log_of(alloc, raw, bytes)?)),
     }
 }
 
 /// What the reader has, as one JSON object, a dump or a log, or as the lines of a log; or the first fault of the input.
-pub fn read_checked<R: Read>(alloc: Global, reader: &mut R) -> Result<Checked, InputFault>
+pub fn read_checked<R: Read>(alloc: Global, reader: &mut R) -> Result<Recording, InputFault>
     ensures checked { IfOk result (λ found. IfSome (R.remaining reader.old) (λ input. IsCheckedOf input found)) }
     ensures fault { IfErr result (λ fault. IfSome (R.remaining reader.old) (λ input. IsNotChecked input fault)) }
 {

@@ -1,7 +1,7 @@
 //! A dump and a log as texts, and what a dump's text is read as.
 
 use fbl_base::RawDump;
-use fbl_records::{Recorded, RecordedInput, read_recorded};
+use fbl_records::{RawRecording, RecordedInput, read_recorded};
 use std::alloc::{AllocError, Global};
 
 /// A message that went once round three members, of whom one may be lost, in a dump without a pair that a run leaves: its first receipt
@@ -21,7 +21,7 @@ pub(crate) fn dump(alloc: Global, text: &str) -> Result<RawDump, AllocError> {
         bytes: _bytes,
     } = read.ok().ok_or(AllocError)?;
     match recorded {
-        Recorded::Dump(raw) => Ok(raw),
-        Recorded::Log(_) => Err(AllocError),
+        RawRecording::Dump(raw) => Ok(raw),
+        RawRecording::Log(_) => Err(AllocError),
     }
 }

@@ -1,6 +1,6 @@
 use Rattle.std.proofs.lemmas.List.{append-nil, append_assoc, nil_from_length}
 use Rattle.std.specs.Vec.Iter.{into_iter_items}
-use Rattle.fbl_records.specs.declared.reader.Recorded.TheVariants as raws
+use Rattle.fbl_records.specs.declared.reader.RawRecording.TheVariants as raws
 use Rattle.fbl_program.proofs.Common.{◌≡◌, ◌∙◌, ◌∷◌, ◌++◌, [], ap, map, subst, sym}
 use Rattle.fbl_program.proofs.Several.{passed}
 use Rattle.fbl_program.specs.Merges.{AreTogether, RefusesVersions}

@@ -2,7 +2,7 @@ use Rattle.fbl_program.proofs.Common.{◌≡◌, ◌<◌, arith, rules}
 use Rattle.fbl_program.proofs.Several.{other_version}
 use Rattle.std.proofs.Common.{length, vec_len}
 use Rattle.std.proofs.lemmas.Bool.Decides.{nat_tests}
-use Rattle.fbl_records.specs.declared.reader.Recorded.TheVariants as raws
+use Rattle.fbl_records.specs.declared.reader.RawRecording.TheVariants as raws
 use Rattle.fbl_program.specs.declared.merge.Together.TheVariants.{Dumps, Logs}
 use Rattle.fbl_program.proofs.merge.Together.with.Goals as goal
 
