@@ -22,7 +22,7 @@ pub use Rattle.fbl_input.specs.declared.fault.RunFault.{RunFault}
 pub use Rattle.fbl_input.specs.declared.fault.RunFault.TheVariants.{NotJson}
 pub use Rattle.fbl_input.specs.Faults.{HasInput, IsFaultOf, IsFirstFault, IsUnread, OverInput, PutsOut, run_result}
 pub use Rattle.fbl_input.specs.declared.input_fault.InputFault.{InputFault}
-pub use Rattle.fbl_input.specs.declared.kind.InputKind.{InputKind}
+pub use Rattle.fbl_input.specs.declared.input_kind.InputKind.{InputKind}
 pub use Rattle.fbl_input.specs.declared.output.OutputFault.{OutputFault}
 pub use Rattle.json.proofs.Numbered.{HasNumbers-at, HasNumbers-get}
 pub use Rattle.json.specs.Json.{Json}

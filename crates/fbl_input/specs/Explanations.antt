@@ -15,8 +15,8 @@ use Rattle.fbl_input.specs.declared.key.Key.{Key}
 use Rattle.fbl_input.specs.declared.key.Key.TheVariants as keys
 use Rattle.fbl_input.specs.declared.fault.RunFault.{RunFault}
 use Rattle.fbl_input.specs.declared.fault.RunFault.TheVariants as faults
-use Rattle.fbl_input.specs.declared.kind.InputKind.{InputKind}
-use Rattle.fbl_input.specs.declared.kind.InputKind.TheVariants as kinds
+use Rattle.fbl_input.specs.declared.input_kind.InputKind.{InputKind}
+use Rattle.fbl_input.specs.declared.input_kind.InputKind.TheVariants as kinds
 use Rattle.fbl_input.specs.declared.input_fault.InputFault.{InputFault}
 use Rattle.fbl_input.specs.declared.explanation.Detail.{Detail}
 use Rattle.fbl_input.specs.declared.explanation.Detail.TheVariants as details

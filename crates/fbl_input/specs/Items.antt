@@ -13,8 +13,8 @@ use Rattle.fbl_runs.specs.declared.entry.Entry.{Entry}
 use Rattle.fbl_runs.specs.declared.entry.Entry.TheVariants.{Event, Hold, Store, Tell, Told}
 use Rattle.fbl_input.specs.declared.key.Key.{Key}
 use Rattle.fbl_input.specs.declared.key.Key.TheVariants as keys
-use Rattle.fbl_input.specs.declared.kind.InputKind.{InputKind}
-use Rattle.fbl_input.specs.declared.kind.InputKind.TheVariants as kinds
+use Rattle.fbl_input.specs.declared.input_kind.InputKind.{InputKind}
+use Rattle.fbl_input.specs.declared.input_kind.InputKind.TheVariants as kinds
 use Rattle.fbl_input.specs.Shapes.{as_list, byte_shape, count_shape, is_text, member_shape, name_of, other_key}
 
 -- `[from, to, value, hops]`

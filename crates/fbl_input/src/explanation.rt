@@ -13,10 +13,10 @@ use crate::fault::RunFault;
 use crate::input_fault::InputFault;
 use crate::items::bad_place;
 use crate::key::Key;
-use crate::kind::InputKind;
+use crate::input_kind::InputKind;
 use crate::not_json::Stop;
 use crate::shapes::unknown_key_in;
-use crate::shown::ShownText;
+use crate::excerpt::Excerpt;
 use json::Scratch;
 use serde_json::{Error as JsonError, Value};
 use std::alloc::{AllocError, Global};
@@ -273,10 +273,10 @@ fn write_missing<W: fmt::Write>(
 }
 
 /// What is found somewhere, if it could be read again.
-fn shown(found: &Option<String>) -> ShownText<'_> {
+fn excerpt_of(found: &Option<String>) -> Excerpt<'_> {
     match found {
-        Some(text) => ShownText(text.as_str()),
-        None => ShownText("another value"),
+        Some(text) => Excerpt(text.as_str()),
+        None => Excerpt("another value"),
     }
 }
 
@@ -286,7 +286,7 @@ fn write_wrong<W: fmt::Write>(
     kind: InputKind,
     key: Key,
     place: Option<usize>,
-    found: ShownText<'_>,
+    found: Excerpt<'_>,
 ) -> fmt::Result {
     match place {
         Some(place) => {
@@ -322,12 +322,12 @@ impl fmt::Display for Explanation<'_> {
                 "the input must be one JSON object, and is no JSON: {error}{stop}"
             ),
             Detail::NotObject(found) => {
-                let found = shown(found);
+                let found = excerpt_of(found);
                 write!(f, "the input must be one JSON object, and is {found}")
             }
             Detail::Missing { key, unknown } => write_missing(f, kind, *key, unknown.as_ref()),
             Detail::Wrong { key, place, found } => {
-                write_wrong(f, kind, *key, *place, shown(found))
+                write_wrong(f, kind, *key, *place, excerpt_of(found))
             }
             Detail::TooManyCommands => f.write_str(
                 "command 1024 is one too many: there may be 1024, numbered from 0",
@@ -337,7 +337,7 @@ impl fmt::Display for Explanation<'_> {
                 wanted,
                 found,
             } => {
-                let found = shown(found);
+                let found = excerpt_of(found);
                 write!(f, "command {place} is {found}, and must be {wanted}")
             }
             Detail::Unknown(name) => write!(f, "the key {name:?} is unknown: {kind}"),

@@ -6,7 +6,7 @@ ghost use Rattle.fbl_input.specs.Shapes.{longest};
 
 use crate::fault::RunFault;
 use crate::input_fault::InputFault;
-use crate::kind::InputKind;
+use crate::input_kind::InputKind;
 use crate::shapes::LONGEST;
 use std::alloc::Global;
 use std::io::{self, ErrorKind};

@@ -3,7 +3,7 @@
 ghost use Rattle.std.specs.Prelude.{◌≡◌, None};
 
 use crate::fault::RunFault;
-use crate::kind::InputKind;
+use crate::input_kind::InputKind;
 use fbl_runs::LogBreach;
 use std::fmt;
 use thiserror::Error;

@@ -3,18 +3,18 @@
 #![tactic(auto)]
 
 mod command_form;
+mod excerpt;
 mod explanation;
 mod fault;
 mod input;
 mod input_fault;
+mod input_kind;
 pub mod items;
 mod key;
-mod kind;
 mod not_json;
 mod output;
-mod sets;
+mod printed_set;
 pub mod shapes;
-mod shown;
 mod sources;
 
 pub use command_form::{CommandForm, MOST_COMMANDS, Version, VersionShape, form_named};
@@ -22,8 +22,8 @@ pub use explanation::Explanation;
 pub use fault::RunFault;
 pub use input::read_input;
 pub use input_fault::InputFault;
+pub use input_kind::InputKind;
 pub use key::Key;
-pub use kind::InputKind;
 pub use output::{OutputFault, put};
-pub use sets::{push_set, set_text};
+pub use printed_set::{push_set, set_text};
 pub use sources::{InFile, Sources, Spot, spot_text};

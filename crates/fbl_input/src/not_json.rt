@@ -1,6 +1,6 @@
 //! What is wrong with a text that is no JSON.
 
-use crate::shown::ShownText;
+use crate::excerpt::Excerpt;
 use json::{Reader, Scratch, Token};
 use serde_json::Error as JsonError;
 use std::alloc::{AllocError, Global};
@@ -145,7 +145,7 @@ impl fmt::Display for Stop {
             Stop::ListEnd => f.write_str(": ] stands behind a comma, and a value is wanted"),
             Stop::ObjectEnd => f.write_str(": } stands behind a comma, and a key is wanted"),
             Stop::GreatNumber(number) => {
-                let number = ShownText(number.as_str());
+                let number = Excerpt(number.as_str());
                 write!(
                     f,
                     ": before it stands {number}, and a number may not be so great"

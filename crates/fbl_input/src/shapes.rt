@@ -11,7 +11,7 @@ ghost use Rattle.fbl_input.specs.declared.fault.RunFault.TheVariants.{NotObject,
 
 use crate::fault::RunFault;
 use crate::key::Key;
-use crate::kind::InputKind;
+use crate::input_kind::InputKind;
 use fbl_trace::{Member, MemberSet};
 use serde_json::{Map, Value};
 use std::alloc::{AllocError, Global};

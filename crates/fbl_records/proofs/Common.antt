@@ -26,7 +26,7 @@ pub use Rattle.fbl_input.proofs.Outputs.{puts_front, puts_none, puts_right, puts
 pub use Rattle.fbl_input.specs.Shapes.{all_shaped, count_shape, field, json_of, list_of, longest, member_shape, name_of, number_within, or_fault, set_shape, value_of_input, ◌>>=◌}
 pub use Rattle.fbl_input.specs.declared.fault.RunFault.{RunFault}
 pub use Rattle.fbl_input.specs.declared.input_fault.InputFault.{InputFault}
-pub use Rattle.fbl_input.specs.declared.kind.InputKind.{InputKind}
+pub use Rattle.fbl_input.specs.declared.input_kind.InputKind.{InputKind}
 pub use Rattle.serde_json.proofs.Views.{view-Array}
 pub use Rattle.serde_json.specs.Data.{Data, array, depth, items_depth}
 pub use Rattle.serde_json.specs.Read.{max_depth, of_json, read}

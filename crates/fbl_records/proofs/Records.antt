@@ -9,7 +9,7 @@ use Rattle.fbl_input.specs.Faults.{HasInput, IsFirstFault, IsUnread}
 use Rattle.fbl_runs.specs.declared.fault.LogBreach.{LogBreach}
 use Rattle.fbl_input.specs.declared.fault.RunFault.TheVariants as faults
 use Rattle.fbl_input.specs.declared.key.Key.TheVariants as keys
-use Rattle.fbl_input.specs.declared.kind.InputKind.TheVariants as kinds
+use Rattle.fbl_input.specs.declared.input_kind.InputKind.TheVariants as kinds
 use Rattle.std.specs.Prelude.{Vec}
 use Rattle.std.specs.declared.alloc.Global.{Global}
 use Rattle.fbl_dumps.specs.Dumps.{IsDumpBreach, RefusesDump}

@@ -25,7 +25,7 @@ use Rattle.fbl_scripts.specs.declared.script.Command.TheVariants.{Deliver, State
 use Rattle.fbl_scripts.specs.declared.script.Script.{Script}
 use Rattle.fbl_scripts.specs.declared.script_reader.Request.{Request}
 use Rattle.fbl_input.specs.declared.input_fault.InputFault.{InputFault}
-use Rattle.fbl_input.specs.declared.kind.InputKind.TheVariants as kinds
+use Rattle.fbl_input.specs.declared.input_kind.InputKind.TheVariants as kinds
 use Rattle.fbl_input.specs.Items.{start_shape, unknown_key}
 use Rattle.fbl_input.specs.Faults.{IsFaultOf, IsFirstFault}
 use Rattle.fbl_input.specs.Shapes.{◌>>=◌, or_fault, number_within, byte_shape, count_shape, member_shape, as_list, is_text, list_of, set_shape, name_of, field, field_or, value_of_input}

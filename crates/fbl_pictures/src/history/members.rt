@@ -16,7 +16,7 @@ fn came_back(member: Member, replays: &[Replay]) -> bool
 }
 
 /// Whether a member is down after a column, where it was down before it or not.
-fn after(member: Member, was_down: bool, column: &Column) -> bool
+fn is_down_after(member: Member, was_down: bool, column: &Column) -> bool
     ensures { result ≡ is_down_after member was_down column.now }
 {
     match column {
@@ -33,8 +33,8 @@ fn push_line(shapes: &mut Vec<Shape>, member: Member, columns: &[Column]) -> Res
     let mut is_down = false;
     let mut start = None;
     for (place, column) in columns.iter().enumerate() {
-        let is_down_after = after(member, is_down, column);
-        if is_down_after != is_down {
+        let is_down_next = is_down_after(member, is_down, column);
+        if is_down_next != is_down {
             let kind = line_kind(is_down);
             shapes.push(Shape::Line {
                 member,
@@ -43,7 +43,7 @@ fn push_line(shapes: &mut Vec<Shape>, member: Member, columns: &[Column]) -> Res
                 kind,
             })?;
             start = Some(place);
-            is_down = is_down_after;
+            is_down = is_down_next;
         }
     }
     let end = columns.len();

@@ -24,7 +24,7 @@ pub(crate) struct Receipts<'a> {
 }
 
 /// The kind of a receipt that these members hold.
-fn judged(f: u8, struck: MemberSet, is_stored: bool, holders: MemberSet) -> ReceiptKind
+fn judged_kind(f: u8, struck: MemberSet, is_stored: bool, holders: MemberSet) -> ReceiptKind
     ensures { result ≡ judged_kind f struck is_stored holders }
 {
     if is_stored {
@@ -40,7 +40,7 @@ fn judged(f: u8, struck: MemberSet, is_stored: bool, holders: MemberSet) -> Rece
 
 impl Receipts<'_> {
     /// The kind of glyph of a receipt that has come.
-    fn held(&self, determinant: Determinant) -> GlyphKind
+    fn held_kind(&self, determinant: Determinant) -> GlyphKind
         ensures { IsHeld self.now.pasts.now (cut_of self.now.clock.now) self.now.lines.now.struck determinant result }
     {
         let f = self.pasts.run().f();
@@ -49,7 +49,7 @@ impl Receipts<'_> {
         let holders = records.holders(self.clock);
         GlyphKind::Held {
             determinant,
-            kind: judged(f, self.lines.struck, is_stored, holders),
+            kind: judged_kind(f, self.lines.struck, is_stored, holders),
             holders,
         }
     }
@@ -60,7 +60,7 @@ impl Receipts<'_> {
             (cut_of self.now.clock.now) self.now.lines.now.struck has_come determinant result }
     {
         if has_come {
-            return self.held(determinant);
+            return self.held_kind(determinant);
         }
         GlyphKind::Held {
             determinant,
@@ -86,7 +86,7 @@ impl Receipts<'_> {
     }
 
     /// The kind of glyph of an entry, which has come or not.
-    fn kind(&self, has_come: bool, entry: Entry) -> GlyphKind
+    fn entry_kind(&self, has_come: bool, entry: Entry) -> GlyphKind
         ensures { IsKind self.now.pasts.now (cut_of self.now.clock.now) self.now.lines.now.struck has_come entry result }
     {
         match entry {
@@ -113,7 +113,7 @@ impl Receipts<'_> {
     {
         let member = entry.member();
         let has_come = self.lines.moment.has_come(place, member);
-        let kind = self.kind(has_come, *entry);
+        let kind = self.entry_kind(has_come, *entry);
         glyphs.push(Glyph {
             column: place,
             member,

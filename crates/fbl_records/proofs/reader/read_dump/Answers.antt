@@ -1,7 +1,7 @@
 use Rattle.fbl_records.proofs.Common.{◌≡◌, refl, sym, IfSome, None, Ok, parts_of, parts_of_data, parts_of_input}
 use Rattle.std.proofs.lemmas.Option.{IfSome_then}
 use Rattle.std.proofs.lemmas.Result.{IfErr-weaker}
-use Rattle.fbl_input.specs.declared.kind.InputKind.TheVariants.{Dump}
+use Rattle.fbl_input.specs.declared.input_kind.InputKind.TheVariants.{Dump}
 use Rattle.fbl_input.proofs.Unread.{is_passed, misread, of_bytes, refused_known, unread}
 use Rattle.fbl_records.proofs.Records.{dump_refused}
 use Rattle.fbl_records.specs.Dumps.{BreaksParts, IsNoDump, RefusesParts}

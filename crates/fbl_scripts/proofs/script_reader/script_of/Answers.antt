@@ -7,7 +7,7 @@ use Rattle.fbl_trace.specs.Steps.{has_few_hops}
 use Rattle.fbl_trace.specs.declared.config.ConfigRefusal.{ConfigRefusal}
 use Rattle.fbl_trace.specs.declared.config.ConfigRefusal.TheVariants.{Memory}
 use Rattle.fbl_input.specs.Faults.{config_fault}
-use Rattle.fbl_input.specs.declared.kind.InputKind.TheVariants.{Script}
+use Rattle.fbl_input.specs.declared.input_kind.InputKind.TheVariants.{Script}
 use Rattle.fbl_runs.specs.declared.fault.LogBreach.TheVariants.{Trace}
 use Rattle.fbl_scripts.proofs.script_reader.script_of.Goals as goal
 

@@ -1,10 +1,10 @@
-//! The front of a text.
+//! Excerpts of texts.
 
 use std::fmt;
 use std::fmt::Write;
 
-/// How many characters of a value are shown.
-const LONGEST_SHOWN: usize = 60;
+/// How many characters of a text an excerpt has.
+const LONGEST: usize = 60;
 
 /// Passes on so many characters, then dots, and no more.
 #[derive(Drop)]
@@ -33,13 +33,13 @@ impl<W: Write> Write for Cut<'_, W> {
 
 /// The first 60 characters of a text, with dots where there are more.
 #[derive(Clone, Copy)]
-pub(crate) struct ShownText<'a>(pub(crate) &'a str);
+pub(crate) struct Excerpt<'a>(pub(crate) &'a str);
 
-impl fmt::Display for ShownText<'_> {
+impl fmt::Display for Excerpt<'_> {
     fn fmt<W: Write>(&self, f: &mut fmt::Formatter<W>) -> fmt::Result {
         let mut cut = Cut {
             writer: f,
-            left: LONGEST_SHOWN,
+            left: LONGEST,
             is_cut: false,
         };
         cut.write_str(self.0)

@@ -2,6 +2,7 @@
 
 ghost use Rattle.std.specs.Prelude.{◌≡◌};
 
+use crate::items::{ENTRIES_WANTED, ENTRY_WANTED, EVENT_WANTED, EVENTS_WANTED};
 use crate::key::Key;
 use thiserror::Error;
 
@@ -59,10 +60,8 @@ impl InputKind {
             (Key::Limit, _) => "a number 1 to 8192",
             (Key::Start, _) => "a list of starts [from, to, value, hops]",
             (Key::Commands, _) => "a list of commands",
-            (Key::Events, InputKind::Log) =>
-                "a list of events [\"send\", from, number, to], [\"receipt\", to, number, from, number of the send], [\"hold\", holder, from, number of the send, to, number of the receipt], [\"store\", member, from, number of the send, to, number of the receipt], [\"tell\", from, to, id] and [\"told\", to, from, id]",
-            (Key::Events, _) =>
-                "a list of events [\"send\", from, number, to] and [\"receipt\", to, number, from, number of the send]",
+            (Key::Events, InputKind::Log) => ENTRIES_WANTED,
+            (Key::Events, _) => EVENTS_WANTED,
             (Key::Held, _) =>
                 "a list of pairs [holder, from, number of the send, to, number of the receipt]",
             (Key::Strike, _) => "a list of members 0 to 15",
@@ -76,14 +75,8 @@ impl InputKind {
                 "start",
                 "[from, to, value, hops]: members 0 to 15, value 0 to 4294967295, hops 0 to 15",
             ),
-            (Key::Events, InputKind::Log) => (
-                "event",
-                "[\"send\", from, number, to], [\"receipt\", to, number, from, number of the send], [\"hold\", holder, from, number of the send, to, number of the receipt], [\"store\", member, from, number of the send, to, number of the receipt], [\"tell\", from, to, id] or [\"told\", to, from, id]: members 0 to 15, numbers 0 to 4294967295",
-            ),
-            (Key::Events, _) => (
-                "event",
-                "[\"send\", from, number, to] or [\"receipt\", to, number, from, number of the send]: members 0 to 15, numbers 0 to 4294967295",
-            ),
+            (Key::Events, InputKind::Log) => ("event", ENTRY_WANTED),
+            (Key::Events, _) => ("event", EVENT_WANTED),
             (Key::Held, _) => (
                 "held pair",
                 "[holder, from, number of the send, to, number of the receipt]: members 0 to 15, numbers 0 to 4294967295",

@@ -3,7 +3,7 @@ use Rattle.fbl_history.specs.declared.shape.GlyphKind.TheVariants.{Held}
 use Rattle.fbl_runs.specs.Indexes.{AreRecords}
 use Rattle.fbl_runs.specs.Logs.{RunParts}
 use Rattle.fbl_pictures.specs.RunShapes.{judged_kind}
-use Rattle.fbl_pictures.proofs.run.marks.Receipts.held.Goals as goal
+use Rattle.fbl_pictures.proofs.run.marks.Receipts.held_kind.Goals as goal
 
 pub returns : goal.returns
 returns c =
@@ -18,5 +18,5 @@ returns c =
       hold = c.holders-holders.ensures (log_of es) d are;
       stored = stored;
       store = c.is_stored-is_stored.ensures (log_of es) d are;
-      is = λ i. Held d ((c.judged.ensures ∙ (λ j. judged_kind (f j) c.args.self.now.lines.now.struck stored holders)) i) holders;
+      is = λ i. Held d ((c.judged_kind.ensures ∙ (λ j. judged_kind (f j) c.args.self.now.lines.now.struck stored holders)) i) holders;
     }
