@@ -9,14 +9,14 @@ ghost use Rattle.fbl_input.specs.Explanations.{IsCommandDetail, IsDetail, IsDeta
 ghost use Rattle.fbl_input.specs.Items.{unknown_key};
 
 use crate::command_form::{MOST_COMMANDS, Wanted};
+use crate::excerpt::Excerpt;
 use crate::fault::RunFault;
 use crate::input_fault::InputFault;
+use crate::input_kind::InputKind;
 use crate::items::bad_place;
 use crate::key::Key;
-use crate::input_kind::InputKind;
 use crate::not_json::Stop;
 use crate::shapes::unknown_key_in;
-use crate::excerpt::Excerpt;
 use json::Scratch;
 use serde_json::{Error as JsonError, Value};
 use std::alloc::{AllocError, Global};

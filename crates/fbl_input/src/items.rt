@@ -5,8 +5,8 @@ ghost use Rattle.std.specs.List.{position};
 ghost use Rattle.serde_json.specs.View.{view};
 ghost use Rattle.fbl_input.specs.Items.{bad_place, control_named, entry_named, is_item, pair_from, receipt_from, send_from, start_from, tell_from, told_from};
 
-use crate::key::Key;
 use crate::input_kind::InputKind;
+use crate::key::Key;
 use crate::shapes::{ByteShape, JsonShape, count_in, is_named, list_in, member_in};
 use fbl_runs::{ControlMessage, Entry};
 use fbl_trace::{Determinant, Mark, Member, Note, Start};
@@ -168,13 +168,15 @@ fn entry_named(name: &Value, list: &[Value]) -> Option<Entry>
 }
 
 /// What a list of entries has to be, in words for a person.
-pub(crate) const ENTRIES_WANTED: &str = "a list of events [\"send\", from, number, to], [\"receipt\", to, number, from, number of the send], \
+pub(crate) const ENTRIES_WANTED: &str =
+    "a list of events [\"send\", from, number, to], [\"receipt\", to, number, from, number of the send], \
     [\"hold\", holder, from, number of the send, to, number of the receipt], \
     [\"store\", member, from, number of the send, to, number of the receipt], \
     [\"tell\", from, to, id] and [\"told\", to, from, id]";
 
 /// What each of them has to be.
-pub(crate) const ENTRY_WANTED: &str = "[\"send\", from, number, to], [\"receipt\", to, number, from, number of the send], \
+pub(crate) const ENTRY_WANTED: &str =
+    "[\"send\", from, number, to], [\"receipt\", to, number, from, number of the send], \
     [\"hold\", holder, from, number of the send, to, number of the receipt], \
     [\"store\", member, from, number of the send, to, number of the receipt], \
     [\"tell\", from, to, id] or [\"told\", to, from, id]: members 0 to 15, numbers 0 to 4294967295";
@@ -200,7 +202,8 @@ pub(crate) const EVENTS_WANTED: &str = "a list of events [\"send\", from, number
     [\"receipt\", to, number, from, number of the send]";
 
 /// What each of them has to be.
-pub(crate) const EVENT_WANTED: &str = "[\"send\", from, number, to] or [\"receipt\", to, number, from, number of the send]: \
+pub(crate) const EVENT_WANTED: &str =
+    "[\"send\", from, number, to] or [\"receipt\", to, number, from, number of the send]: \
     members 0 to 15, numbers 0 to 4294967295";
 
 /// A send or a receipt.

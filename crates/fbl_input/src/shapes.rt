@@ -10,8 +10,8 @@ ghost use Rattle.fbl_input.specs.Shapes.{Gives, all_shaped, as_list, count_shape
 ghost use Rattle.fbl_input.specs.declared.fault.RunFault.TheVariants.{NotObject, UnknownKey};
 
 use crate::fault::RunFault;
-use crate::key::Key;
 use crate::input_kind::InputKind;
+use crate::key::Key;
 use fbl_trace::{Member, MemberSet};
 use serde_json::{Map, Value};
 use std::alloc::{AllocError, Global};

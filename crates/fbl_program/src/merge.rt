@@ -9,7 +9,7 @@ use fbl_dumps::{DumpRefusal, RawDump};
 use fbl_order::{
     FilesDiffer, OrderFault, Ordered, order_dump, order_log, union_of_dumps, union_of_logs,
 };
-use fbl_records::{Recording, RawRecording};
+use fbl_records::{RawRecording, Recording};
 use fbl_runs::RawLog;
 use std::alloc::{AllocError, AllocFailed, Global};
 use std::convert::From;
@@ -139,7 +139,10 @@ impl Together {
 }
 
 /// What these files record, where they are of one version.
-pub(crate) fn in_one_version(alloc: Global, files: Vec<RawRecording>) -> Result<Together, MergeFault>
+pub(crate) fn in_one_version(
+    alloc: Global,
+    files: Vec<RawRecording>,
+) -> Result<Together, MergeFault>
     ensures together { IfOk result (AreTogether files.items) }
     ensures refused { IfErr result (RefusesVersions files.items) }
 {

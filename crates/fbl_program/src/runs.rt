@@ -17,7 +17,7 @@ use fbl_input::shapes::LONGEST;
 use fbl_input::{OutputFault, RunFault, Sources, put};
 use fbl_judge::{Pasts, Reason, UnsafeReceipt, audit_of, loss_reasons, unsafe_reasons};
 use fbl_pictures::write_run_picture;
-use fbl_records::{Recording, RawRecording, Why, dump_text, log_text, write_audit, write_check};
+use fbl_records::{RawRecording, Recording, Why, dump_text, log_text, write_audit, write_check};
 use fbl_runs::Run;
 use fbl_trace::Determinant;
 use std::alloc::{AllocError, Global};

@@ -15,6 +15,6 @@ pub use audit_text::{audit, write_audit};
 pub use check_text::write_check;
 pub use lines::{dump_text, log_text};
 pub use reader::{
-    Recording, RawRecording, RecordedInput, checked_input, read_checked, read_dump, read_recorded,
+    RawRecording, RecordedInput, Recording, checked_input, read_checked, read_dump, read_recorded,
 };
 pub use reason_text::Why;
