@@ -1,7 +1,7 @@
--- Events of which each waits for the next one.
+-- Entries of which each waits for the next one.
 use Rattle.fbl_order.proofs.Common.{ℕ, List, [], ◌∷◌, ◌++◌, ◌+◌, ◌-◌, ◌≡◌, ◌≢◌, ◌<◌, ◌≤◌, ◌⊎◌, ◌∙◌, Some, drop, refl, sym, ap, inl, inr, arith, rules}
 use Rattle.fbl_order.proofs.Common.{length, length-append, slice_get, slice_get-get_or, slice_get_within, get_or, subst}
-use Rattle.fbl_order.proofs.Common.{Entry, Mark, At-below, At-front, At-push, AreLinked, IsNextAt, IsStuck, Merge, StandsIn, StartsAt, Stuck}
+use Rattle.fbl_order.proofs.Common.{Entry, placed_of, At-below, At-front, At-push, AreLinked, IsNextAt, IsStuck, Merge, StandsIn, StartsAt, Stuck}
 use Rattle.fbl_trace.proofs.Gets.{At-seam, map-At}
 use Rattle.std.proofs.Common.{eqb, map}
 use Rattle.std.proofs.lemmas.Bool.{eqb-true}
@@ -13,17 +13,17 @@ use Rattle.std.proofs.lemmas.Map.Made.{IsDistinct-from_AllPairs}
 use Rattle.std.proofs.lemmas.Map.Steps.{length-le_from_distinct_below}
 use Rattle.fbl_order.specs.Faults.{ClosesAt, IsEndOfChain}
 use Rattle.fbl_order.specs.declared.fault.Obstacle.{Obstacle}
-use Rattle.fbl_order.specs.declared.fault.Obstacle.TheVariants.{Rule, NeverSent, Received, Waits}
+use Rattle.fbl_order.specs.declared.fault.Obstacle.TheVariants.{Control, Rule, NeverSent, Received, Waits}
 
--- the chain so far, and the place for which its last event waits, where none of the chain stands
+-- the chain so far, and the place for which its last entry waits, where none of the chain stands
 pub record IsWalk (n : ℕ) (entries : List Entry) (merge : Merge) (first : ℕ) (chain : List Stuck) (place : ℕ) : Type 0 where
-  pub linked : AreLinked n entries merge.run.items chain
+  pub linked : AreLinked n entries (placed_of entries merge) chain
   pub begins : ((chain ≡ []) × (place ≡ first)) ⊎ StartsAt chain first
   pub last : (s : Stuck) → slice_get chain (length chain - 1) ≡ Some s → s.obstacle ≡ Waits place
   pub next : IsNextAt entries merge place
   pub apart : ¬ (StandsIn chain place)
 
--- before the first event
+-- before the first entry
 pub begun_walk : (n : ℕ) (entries : List Entry) (merge : Merge) (first : ℕ) → IsNextAt entries merge first
     → IsWalk n entries merge first [] first
 begun_walk n entries merge first next = record {
@@ -35,7 +35,7 @@ begun_walk n entries merge first next = record {
 }
 
 -- there are no more of them than entries
-pub few_linked : (n : ℕ) (entries : List Entry) (run : List Mark) (chain : List Stuck) → AreLinked n entries run chain → length chain ≤ length entries
+pub few_linked : (n : ℕ) (entries run : List Entry) (chain : List Stuck) → AreLinked n entries run chain → length chain ≤ length entries
 few_linked n entries run chain linked = omega (arith, few, length-map chain (λ (s : Stuck). s.place)) where
   few : length (map (λ (s : Stuck). s.place) chain) ≤ length entries
   few = length-le_from_distinct_below (map (λ (s : Stuck). s.place) chain) (length entries) (IsDistinct-from_AllPairs Decides-eqb _ linked.apart) (λ q has.
@@ -48,12 +48,13 @@ few_linked n entries run chain linked = omega (arith, few, length-map chain (λ 
 pub closes-within : (chain : List Stuck) (obstacle : Obstacle) (number : ℕ) → ClosesAt chain obstacle number → number ≤ length chain
 closes-within chain (Waits place) number closes = omega (arith, slice_get_within chain number closes.0 closes.1)
 closes-within chain (Rule rule) number closes = omega (arith, closes)
+closes-within chain (Control rule) number closes = omega (arith, closes)
 closes-within chain (NeverSent s) number closes = omega (arith, closes)
 closes-within chain Received number closes = omega (arith, closes)
 
--- an event behind the chain
+-- an entry behind the chain
 module _ (n : ℕ) (entries : List Entry) (merge : Merge) (first place : ℕ) (chain : List Stuck) (s : Stuck)
-    (walk : IsWalk n entries merge first chain place) (here : s.place ≡ place) (stuck : IsStuck n entries merge.run.items s) where
+    (walk : IsWalk n entries merge first chain place) (here : s.place ≡ place) (stuck : IsStuck n entries (placed_of entries merge) s) where
   follows : (k : ℕ) (a b : Stuck) → slice_get (chain ++ s ∷ []) k ≡ Some a → slice_get (chain ++ s ∷ []) (k + 1) ≡ Some b → a.obstacle ≡ Waits b.place
   follows k a b a_at b_at = elim (At-push chain s k a a_at) [
     | inl old ↦ elim (At-push chain s (k + 1) b b_at) [
@@ -70,7 +71,7 @@ module _ (n : ℕ) (entries : List Entry) (merge : Merge) (first place : ℕ) (c
       let t = map-At (λ (s : Stuck). s.place) chain k _ (slice_get-get_or (map (λ (s : Stuck). s.place) chain) k d below) in
       walk.apart (k, t.0, t.1, t.2 ∙ is ∙ here)
 
-  pub linked : AreLinked n entries merge.run.items (chain ++ s ∷ [])
+  pub linked : AreLinked n entries (placed_of entries merge) (chain ++ s ∷ [])
   linked = record {
     each = λ k a at. elim (At-push chain s k a at) [ inl old ↦ walk.linked.each k a old | inr new ↦ rw (← new.1) stuck ];
     follows = follows;
@@ -103,7 +104,7 @@ module _ (n : ℕ) (entries : List Entry) (merge : Merge) (first place : ℕ) (c
 
   -- it closes the chain
   pub closed : (number : ℕ) → ClosesAt (chain ++ s ∷ []) s.obstacle number
-      → IsEndOfChain n entries merge.run.items first (drop number (chain ++ s ∷ []))
+      → IsEndOfChain n entries (placed_of entries merge) first (drop number (chain ++ s ∷ []))
   closed number closes = record {
     chain = chain ++ s ∷ [];
     linked = linked;

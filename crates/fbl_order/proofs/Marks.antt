@@ -1,7 +1,6 @@
 -- The sends and receipts among entries, and in a member's log.
 use Rattle.fbl_order.proofs.Common.{ℕ, List, Mark, None, Some, [], ◌∷◌, ◌++◌, ◌+◌, ◌<◌, ◌≡◌, ◌==◌, ◌∙◌, true, false, cond, ap, arith, drop, length-append, refl, sym, length, take-append-drop, take, slice_get, filter_map-append}
-use Rattle.fbl_order.proofs.Common.{Entry, Event, Hold, Store, Tell, Told, entry_member, mark_in, marks, member_of, own, Begins, log_of, Has, HasEvent, At-filter_map, filter_map-At, as_entries, items_at}
-use Rattle.fbl_order.proofs.Own.{own-front, own-push}
+use Rattle.fbl_order.proofs.Common.{Entry, Event, Hold, Store, Tell, Told, entry_member, mark_in, marks, member_of, own, Begins, LogsBegin, log_of, as_entries, items_at}
 use Rattle.fbl_runs.proofs.RunLaws.{marks-some}
 use Rattle.fbl_trace.proofs.Common.{cons_option}
 use Rattle.std.proofs.Common.{option_map}
@@ -33,22 +32,6 @@ marks-own q (Told t ∷ es) =
     let rest = marks-own q es in
     elim (t.to == q) as (λ b. marks (cond b (Told t ∷ own entry_member q es) (own entry_member q es)) ≡ own member_of q (marks es)) [ true ↦ rest | false ↦ rest ]
 
--- those of a member in a front begin those in all
-pub log-front : (q k : ℕ) (es : List Entry) → Begins (log_of q (marks (take k es))) (log_of q (marks es))
-log-front q k es =
-    let front = own-front entry_member q k es in
-    let begins : Begins (marks (own entry_member q (take k es))) (marks (own entry_member q es)) = (
-      marks front.0,
-      ap marks front.1
-          ∙ filter_map-append mark_in (own entry_member q (take k es)) front.0,
-    ) in
-    (rw (marks-own q (take k es), marks-own q es) at begins)
-
--- with one of the member's more
-pub log-take : (q k : ℕ) (es : List Entry) (m : Mark) → slice_get es k ≡ Some (Event m) → member_of m ≡ q
-    → log_of q (marks (take (k + 1) es)) ≡ log_of q (marks (take k es)) ++ m ∷ []
-log-take q k es m at mine = ap (log_of q) (marks-some es k (Event m) m at refl) ∙ own-push member_of q (marks (take k es)) m mine
-
 -- those before an event are fewer than all
 pub marks-before : (es : List Entry) (k : ℕ) (m : Mark) → slice_get es k ≡ Some (Event m) → length (marks (take k es)) < length (marks es)
 marks-before es k m at =
@@ -64,11 +47,15 @@ event_is (Store member d) m is = cc
 event_is (Tell t) m is = cc
 event_is (Told t) m is = cc
 
-pub has-event : (es : List Entry) (m : Mark) → HasEvent es m → Has (marks es) m
-has-event es m has = filter_map-At mark_in es has.0 (Event m) m has.1 refl
-
-pub event-has : (es : List Entry) (m : Mark) → Has (marks es) m → HasEvent es m
-event-has es m has = (let e = At-filter_map mark_in es has.0 m has.1 in (e.0, e.2 ∙ ap Some (event_is e.1 m e.3)))
+-- those of a list with the fronts of the members' logs are the fronts of theirs
+pub marks-begin : (s t : List Entry) → LogsBegin s t → (q : ℕ) → Begins (log_of q (marks s)) (log_of q (marks t))
+marks-begin s t logs q =
+    let begins : Begins (marks (own entry_member q s)) (marks (own entry_member q t)) = (
+      marks (logs q).0,
+      ap marks (logs q).1
+          ∙ filter_map-append mark_in (own entry_member q s) (logs q).0,
+    ) in
+    (rw (marks-own q s, marks-own q t) at begins)
 
 -- ---- events as entries
 

@@ -11,67 +11,76 @@ use Rattle.fbl_trace.specs.Breaches.{BreaksEvent}
 use Rattle.fbl_trace.specs.Configs.{BreaksGroup, FAllowed, IsFirstBreach, MembersAllowed}
 use Rattle.fbl_trace.specs.declared.config.GroupRule.TheVariants as group_rule
 use Rattle.fbl_trace.specs.declared.fault.EventFault.{EventFault}
-use Rattle.fbl_trace.specs.Events.{destination_of, member_of, send_of, source_of}
-use Rattle.fbl_trace.specs.Precedence.{Has}
+use Rattle.fbl_trace.specs.Events.{destination_of, source_of}
+use Rattle.fbl_runs.specs.declared.causality.Causality.TheVariants.{HappenedBefore}
 use Rattle.fbl_runs.specs.declared.entry.Entry.{Entry}
-use Rattle.fbl_runs.specs.declared.entry.Entry.TheVariants.{Event}
+use Rattle.fbl_runs.specs.declared.entry.Entry.TheVariants.{Event, Told}
+use Rattle.fbl_runs.specs.declared.fault.ControlRule.TheVariants.{NotTold}
 use Rattle.fbl_runs.specs.declared.fault.LogBreach.{LogBreach}
-use Rattle.fbl_runs.specs.declared.fault.LogBreach.TheVariants.{Control, Record, Trace}
-use Rattle.fbl_runs.specs.Entries.{marks}
+use Rattle.fbl_runs.specs.declared.fault.LogBreach.TheVariants.{Record, Trace}
+use Rattle.fbl_runs.specs.ControlMessages.{BreaksControl, Has}
+use Rattle.fbl_runs.specs.Entries.{Passes, entry_member, log_of, marks}
 use Rattle.fbl_runs.specs.Lawful.{IsEventPlace}
 use Rattle.fbl_runs.specs.Logs.{IsLogBreach, RunParts, RefusesLog}
-use Rattle.fbl_order.specs.Orders.{ArePlaces, CanCome, HasNoOrder, IsFurthest, IsOrder, IsOrderOfEvents, as_entries, log_of, with_entries, with_events}
+use Rattle.fbl_order.specs.Orders.{ArePlaces, CanCome, HasNoOrder, IsFurthest, IsOrder, IsOrderOfEntries, as_entries, with_entries, with_events}
 use Rattle.fbl_order.specs.declared.fault.Obstacle.{Obstacle}
 use Rattle.fbl_order.specs.declared.fault.Obstacle.TheVariants.{Rule, NeverSent, Received, Waits}
+use Rattle.fbl_order.specs.declared.fault.Obstacle.TheVariants as obstacle
 use Rattle.fbl_order.specs.declared.fault.OrderFault.{OrderFault}
 use Rattle.fbl_order.specs.declared.fault.OrderFault.TheVariants.{NoOrder, Refused}
 use Rattle.fbl_order.specs.declared.fault.Stuck.{Stuck}
 
--- the place has the member's first event that is not in the run
-abbrev pub IsFirstAfter : List Entry → List Mark → ℕ → ℕ → Type 0
+-- the place has the member's first entry that is not in the run
+abbrev pub IsFirstAfter : List Entry → List Entry → ℕ → ℕ → Type 0
 IsFirstAfter entries run member place =
-    (e : Mark) × (slice_get entries place ≡ Some (Event e)) × (member_of e ≡ member) × (log_of member run ≡ log_of member (marks (take place entries)))
+    (e : Entry) × (slice_get entries place ≡ Some e) × (entry_member e ≡ member) × (log_of run member ≡ log_of (take place entries) member)
 
--- the message that the event takes is not in flight behind the run, nor is another of its channel
-abbrev pub LacksMessage : ℕ → List Mark → Mark → Type 0
-LacksMessage n run e = BreaksEvent n run e (NothingInFlight (source_of e) (destination_of e))
+-- behind the run there is no message for the entry: none is in flight on the channel of the receipt, or nobody told what its member is told
+abbrev pub LacksMessage : ℕ → List Entry → Entry → Type 0
+LacksMessage n run (Event e) = BreaksEvent n (marks run) e (NothingInFlight (source_of e) (destination_of e))
+LacksMessage n run (Told m) = BreaksControl n run (Told m) NotTold
+LacksMessage n run e = ⊥
 
--- the obstacle keeps the event from coming behind the run
-abbrev pub Hinders : ℕ → List Entry → List Mark → Mark → Obstacle → Type 0
-Hinders n entries run e (Rule rule) = BreaksEvent n run e rule × ((from to : ℕ) → rule ≢ NothingInFlight from to)
-Hinders n entries run e (NeverSent s) = LacksMessage n run e × (send_of e ≡ Some s) × ¬ (Has (marks entries) s)
-Hinders n entries run e Received = LacksMessage n run e × ((s : Mark) × (send_of e ≡ Some s) × Has run s)
+-- the entry takes the message that this one sends, and none is there for it behind the run
+abbrev pub Misses : ℕ → List Entry → Entry → Entry → Type 0
+Misses n run e sent = LacksMessage n run e × Passes HappenedBefore sent e
+
+-- the obstacle keeps the entry from coming behind the run
+abbrev pub Hinders : ℕ → List Entry → List Entry → Entry → Obstacle → Type 0
+Hinders n entries run e (Rule rule) = (m : Mark) × (e ≡ Event m) × BreaksEvent n (marks run) m rule × ((from to : ℕ) → rule ≢ NothingInFlight from to)
+Hinders n entries run e (obstacle.Control rule) = BreaksControl n run e rule × (rule ≢ NotTold)
+Hinders n entries run e (NeverSent sent) = Misses n run e sent × ¬ (Has entries sent)
+Hinders n entries run e Received = (sent : Entry) × Misses n run e sent × Has run sent
 Hinders n entries run e (Waits place) =
-    LacksMessage n run e
-    × ((s : Mark) × (send_of e ≡ Some s) × Has (marks entries) s × ¬ (Has run s) × IsFirstAfter entries run (member_of s) place)
+    (sent : Entry) × Misses n run e sent × Has entries sent × ¬ (Has run sent) × IsFirstAfter entries run (entry_member sent) place
 
--- the run has what the event's member did before it, and the obstacle keeps it from coming next
-pub record IsStuck (n : ℕ) (entries : List Entry) (run : List Mark) (stuck : Stuck) : Type 0 where
-  pub here : slice_get entries stuck.place ≡ Some (Event stuck.event)
-  pub next : log_of (member_of stuck.event) run ≡ log_of (member_of stuck.event) (marks (take stuck.place entries))
-  pub obstacle : Hinders n entries run stuck.event stuck.obstacle
+-- the run has what the entry's member did before it, and the obstacle keeps it from coming next
+pub record IsStuck (n : ℕ) (entries run : List Entry) (stuck : Stuck) : Type 0 where
+  pub here : slice_get entries stuck.place ≡ Some stuck.entry
+  pub next : log_of run (entry_member stuck.entry) ≡ log_of (take stuck.place entries) (entry_member stuck.entry)
+  pub obstacle : Hinders n entries run stuck.entry stuck.obstacle
 
--- one of the events stands at the place
+-- one of the entries stands at the place
 abbrev pub StandsIn : List Stuck → ℕ → Type 0
 StandsIn chain place = (k : ℕ) × (s : Stuck) × (slice_get chain k ≡ Some s) × (s.place ≡ place)
 
--- the first of the events stands at the place
+-- the first of the entries stands at the place
 abbrev pub StartsAt : List Stuck → ℕ → Type 0
 StartsAt chain place = (s : Stuck) × (slice_get chain 0 ≡ Some s) × (s.place ≡ place)
 
--- each of the events waits for the next one
-pub record AreLinked (n : ℕ) (entries : List Entry) (run : List Mark) (chain : List Stuck) : Type 0 where
+-- each of the entries waits for the next one
+pub record AreLinked (n : ℕ) (entries run : List Entry) (chain : List Stuck) : Type 0 where
   pub each : (k : ℕ) (s : Stuck) → slice_get chain k ≡ Some s → IsStuck n entries run s
   pub follows : (k : ℕ) (s t : Stuck) → slice_get chain k ≡ Some s → slice_get chain (k + 1) ≡ Some t → s.obstacle ≡ Waits t.place
   pub apart : AllPairs (λ a b. a ≢ b) (map (λ s. s.place) chain)
 
--- the chain's last event, which has the obstacle, waits for the one with the number; or it has the number, and waits for none
+-- the chain's last entry, which has the obstacle, waits for the one with the number; or it has the number, and waits for none
 abbrev pub ClosesAt : List Stuck → Obstacle → ℕ → Type 0
 ClosesAt chain (Waits place) number = (s : Stuck) × (slice_get chain number ≡ Some s) × (s.place ≡ place)
 ClosesAt chain obstacle number = number ≡ length chain - 1
 
--- the events are what closes the chain that starts at the place: its last event, or a circle
-pub record IsEndOfChain (n : ℕ) (entries : List Entry) (run : List Mark) (first : ℕ) (found : List Stuck) : Type 0 where
+-- the entries are what closes the chain that starts at the place: its last entry, or a circle
+pub record IsEndOfChain (n : ℕ) (entries run : List Entry) (first : ℕ) (found : List Stuck) : Type 0 where
   pub chain : List Stuck
   pub linked : AreLinked n entries run chain
   pub starts : StartsAt chain first
@@ -81,11 +90,11 @@ pub record IsEndOfChain (n : ℕ) (entries : List Entry) (run : List Mark) (firs
   pub closes : ClosesAt chain last.obstacle number
   pub end : found ≡ drop number chain
 
--- no order obeys the rules, since the first of the events that no part of an order has waits in vain, for these in the end
+-- no order obeys the rules, since the first of the entries that no part of an order has waits in vain, for these in the end
 pub record ShowsNoOrder (n : ℕ) (entries : List Entry) (found : List Stuck) : Type 0 where
-  pub none : HasNoOrder n (marks entries)
-  pub run : List Mark
-  pub furthest : IsFurthest n (marks entries) run
+  pub none : HasNoOrder n entries
+  pub run : List Entry
+  pub furthest : IsFurthest n entries run
   pub place : ℕ
   pub first : IsFirstBreach (CanCome n entries) place
   pub waits : IsEndOfChain n entries run place found
@@ -95,11 +104,11 @@ abbrev pub IsOneTooMany : List Entry → EventFault → Type 0
 IsOneTooMany entries fault =
     IsEventPlace entries 8192 fault.place × (slice_get entries fault.place ≡ Some (Event fault.event)) × (fault.rule ≡ TooMany)
 
--- the sends and receipts among the entries have no order, because of these, or since they are too many; or memory ran out
+-- the entries have no order, because of these, or since their sends and receipts are too many; or memory ran out
 abbrev pub RefusesOrder : ℕ → List Entry → OrderFault → Type 0
 RefusesOrder n entries (NoOrder found) = ShowsNoOrder n entries found.items
 RefusesOrder n entries (Refused (BadEvent place) (Trace (breach.Event fault))) =
-    HasNoOrder n (marks entries) × (fault.place ≡ place) × IsOneTooMany entries fault
+    HasNoOrder n entries × (fault.place ≡ place) × IsOneTooMany entries fault
 RefusesOrder n entries (Refused Memory (Trace breach.Memory)) = Unit {0}
 RefusesOrder n entries (Refused _ _) = ⊥
 
@@ -134,19 +143,16 @@ RefusesUnordered dump fault =
 abbrev pub place_given : List ℕ → ℕ → ℕ
 place_given places number = slice_index_or places number number
 
--- the refusal of entries that were given at these places: a control message, a hold or a store that breaks a rule is named where it was
--- given
+-- the refusal of entries that were given at these places: a hold or a store that breaks a rule is named where it was given
 abbrev pub record_given : List ℕ → DumpRefusal → LogBreach → OrderFault
-record_given places refusal (Trace broken) = Refused refusal (Trace broken)
-record_given places refusal (Control fault) =
-    let place = place_given places fault.place in Refused (BadEvent place) (Control (record fault { place = place }))
 record_given places refusal (Record fault) =
     let place = place_given places fault.place in Refused (BadEvent place) (Record (record fault { place = place }))
+record_given places refusal broken = Refused refusal broken
 
 -- the log with its entries in an order is refused
 pub record RefusesLogInOrder (log : RunParts) (fault : OrderFault) : Type 0 where
   pub ordered : List Entry
-  pub order : IsOrderOfEvents log.members log.entries ordered
+  pub order : IsOrderOfEntries log.members log.entries ordered
   pub places : List ℕ
   pub are_places : ArePlaces log.entries ordered places
   pub refusal : DumpRefusal
@@ -155,7 +161,7 @@ pub record RefusesLogInOrder (log : RunParts) (fault : OrderFault) : Type 0 wher
   pub breaks : IsLogBreach (with_entries ordered log) refusal broken
   pub given : fault ≡ record_given places refusal broken
 
--- no group has the numbers; or one has them, and the sends and receipts have no order, or the log is refused with its entries in one
+-- no group has the numbers; or one has them, and the entries have no order, or the log is refused with them in one
 abbrev pub RefusesUnorderedLog : RunParts → OrderFault → Type 0
 RefusesUnorderedLog log fault =
     RefusesGroup log.members log.f fault

@@ -1,15 +1,13 @@
 -- What a merge of the members' logs keeps.
-use Rattle.std.specs.Prelude.{ℕ, ◌≡◌, ◌<◌, ◌⊎◌, List, length, Option, None, Some, slice_get}
+use Rattle.std.specs.Prelude.{ℕ, ◌≡◌, ◌<◌, List, length, Option, Some, slice_get}
 use Rattle.fbl_trace.specs.declared.trace.Mark.{Mark}
 use Rattle.fbl_trace.specs.Rules.{Counted, MayFollow, WellFormed}
-use Rattle.fbl_trace.specs.Events.{member_of}
 use Rattle.fbl_runs.specs.declared.entry.Entry.{Entry}
-use Rattle.fbl_runs.specs.declared.entry.Entry.TheVariants.{Event}
-use Rattle.fbl_runs.specs.ControlMessages.{HasTold, IsHeard}
+use Rattle.fbl_runs.specs.ControlMessages.{AreTold, HasTold, MayBeTold}
 use Rattle.fbl_runs.specs.Entries.{entry_member, mark_in, marks}
 use Rattle.fbl_order.specs.Cursors.{AreCursors, IsInStep, IsLeastCursor, cursor_in}
 use Rattle.fbl_order.specs.Faults.{ClosesAt, StandsIn}
-use Rattle.fbl_order.specs.Orders.{AreHeard, ArePlaces, items_at}
+use Rattle.fbl_order.specs.Orders.{ArePlaces, items_at}
 use Rattle.fbl_order.specs.declared.fault.Obstacle.{Obstacle}
 use Rattle.fbl_order.specs.declared.fault.Obstacle.TheVariants.{Waits}
 use Rattle.fbl_order.specs.declared.fault.Stuck.{Stuck}
@@ -25,53 +23,43 @@ cursor_of entries merge = cursor_in entries merge.cursors
 abbrev pub placed_of : List Entry → Merge → List Entry
 placed_of entries merge = items_at entries merge.places.items
 
--- the run has the sends and receipts that are placed and obeys the rules, of each member the entries before its cursor are placed, and it is
--- known what was told
+-- the run has the sends and receipts that are placed; these and the control messages among them obey the rules; of each member the entries
+-- before its cursor are placed, and it is known what was told
 pub record Merges (n : ℕ) (entries : List Entry) (merge : Merge) : Type 0 where
   pub run : merge.run.items ≡ marks (placed_of entries merge)
   pub obeys : WellFormed n merge.run.items
+  pub told : AreTold n (placed_of entries merge)
   pub counted : Counted merge.run.items merge.counts
   pub places : ArePlaces entries (placed_of entries merge) merge.places.items
   pub cursors : AreCursors entry_member entries (placed_of entries merge) merge.cursors
   pub known : HasTold (placed_of entries merge) merge.known
-  pub in_step : WellFormed n (marks entries) → AreHeard entries → IsInStep entries (placed_of entries merge) merge.cursors
+  pub in_step : WellFormed n (marks entries) → AreTold n entries → IsInStep entries (placed_of entries merge) merge.cursors
 
 -- the entry may come behind the run: if it is a send or a receipt, this obeys the rules there
 abbrev pub MayFollowAs : ℕ → List Mark → Entry → Type 0
 MayFollowAs n run e = (m : Mark) → mark_in e ≡ Some m → MayFollow n run m
 
--- the entry at the place, if there is one, may come behind the run
-abbrev pub MayComeAt : ℕ → List Mark → List Entry → ℕ → Type 0
-MayComeAt n run entries place = (e : Entry) × (slice_get entries place ≡ Some e) × MayFollowAs n run e
+-- the entry may come behind these: it obeys the rules of sends and receipts there, and those of control messages
+abbrev pub MayCome : ℕ → List Entry → Entry → Type 0
+MayCome n before e = MayFollowAs n (marks before) e × MayBeTold n before e
 
--- of the cursors, the least whose entry may come behind the run
+-- the entry at the place, if there is one, may come behind these
+abbrev pub MayComeAt : ℕ → List Entry → List Entry → ℕ → Type 0
+MayComeAt n before entries place = (e : Entry) × (slice_get entries place ≡ Some e) × MayCome n before e
+
+-- of the cursors, the least whose entry may come behind those that are placed
 abbrev pub IsLeastNext : ℕ → List Entry → Merge → Option ℕ → Type 0
-IsLeastNext n entries merge = IsLeastCursor (MayComeAt n merge.run.items entries) (cursor_of entries merge)
-
--- the entry at the place may come behind the run, and what its member is told there was told
-abbrev pub IsReady : ℕ → List Entry → Merge → ℕ → Type 0
-IsReady n entries merge place =
-    MayComeAt n merge.run.items entries place × ((e : Entry) × (slice_get entries place ≡ Some e) × IsHeard (placed_of entries merge) e)
-
--- of the cursors, the least whose entry is ready; where none is, the least whose entry may come behind the run
-abbrev pub IsChosen : ℕ → List Entry → Merge → Option ℕ → Type 0
-IsChosen n entries merge chosen =
-    ((place : ℕ) × (chosen ≡ Some place) × IsLeastCursor (IsReady n entries merge) (cursor_of entries merge) (Some place))
-    ⊎ (IsLeastCursor (IsReady n entries merge) (cursor_of entries merge) None × IsLeastNext n entries merge chosen)
+IsLeastNext n entries merge = IsLeastCursor (MayComeAt n (placed_of entries merge) entries) (cursor_of entries merge)
 
 -- of the cursors, the least before the end: the first entry that is not placed, if there is one
 abbrev pub IsFirstLeft : List Entry → Merge → Option ℕ → Type 0
 IsFirstLeft entries merge = IsLeastCursor (λ place. place < length entries) (cursor_of entries merge)
 
--- the place has the next entry of its member, an event
+-- the place has the next entry of its member
 abbrev pub IsNextAt : List Entry → Merge → ℕ → Type 0
-IsNextAt entries merge place = (e : Mark) × (slice_get entries place ≡ Some (Event e)) × (cursor_of entries merge (member_of e) ≡ place)
+IsNextAt entries merge place = (e : Entry) × (slice_get entries place ≡ Some e) × (cursor_of entries merge (entry_member e) ≡ place)
 
--- one of the entries is the event
-abbrev pub HasEvent : List Entry → Mark → Type 0
-HasEvent entries m = (i : ℕ) × (slice_get entries i ≡ Some (Event m))
-
--- a chain whose last event has the obstacle goes on to the place for which that waits, at which none of the chain stands; or it ends
+-- a chain whose last entry has the obstacle goes on to the place for which that waits, at which none of the chain stands; or it ends
 abbrev pub IsOnward : List Stuck → Obstacle → Onward → Type 0
 IsOnward chain obstacle (To place) = (obstacle ≡ Waits place) × ¬ (StandsIn chain place)
 IsOnward chain obstacle (Ends number) = ClosesAt chain obstacle number

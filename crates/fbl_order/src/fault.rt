@@ -1,36 +1,39 @@
 //! Why what is recorded of a run has no order.
 
 use fbl_dumps::DumpRefusal;
-use fbl_runs::LogBreach;
-use fbl_trace::{Breach, EventRule, Mark};
+use fbl_runs::{ControlRule, Entry, LogBreach};
+use fbl_trace::{Breach, EventRule};
 use std::alloc::AllocError;
 use std::convert::From;
 use thiserror::Error;
 
-/// What keeps an event from coming where all its member's events before it have come.
+/// What keeps an entry from coming where all its member's entries before it have come.
 #[derive(Clone, Copy, Debug, Error)]
 pub enum Obstacle {
-    /// It breaks this rule, whichever other events have come.
+    /// It breaks this rule of sends and receipts, whichever other entries have come.
     #[error(transparent)]
     Rule(EventRule),
-    /// No event sends its message: this one would.
+    /// It breaks this rule of control messages, whichever other entries have come.
+    #[error(transparent)]
+    Control(ControlRule),
+    /// No entry sends its message: this one would.
     #[error("no event sends its message: {0} is missing")]
-    NeverSent(Mark),
+    NeverSent(Entry),
     /// Its message is received already.
     #[error("an earlier event receives its message")]
     Received,
-    /// Its message is sent at this place or behind, and the event at this place, the next one of its sender, can't come either.
+    /// Its message is sent at this place or behind, and the entry at this place, the next one of its sender, can't come either.
     #[error("its message is sent no earlier than event {0}")]
     Waits(usize),
 }
 
-/// The first event of its member that comes in no part of an order.
+/// The first entry of its member that comes in no part of an order.
 #[derive(Clone, Copy)]
 pub struct Stuck {
-    /// Its place, from 0, as the events were given: in a log, among all entries.
+    /// Its place, from 0, as the entries were given.
     pub place: usize,
     /// What it is.
-    pub event: Mark,
+    pub entry: Entry,
     /// What keeps it from coming.
     pub obstacle: Obstacle,
 }
@@ -39,8 +42,8 @@ pub struct Stuck {
 /// given.
 #[derive(Drop)]
 pub enum OrderFault {
-    /// No order of the events obeys the rules, because of these: one event that waits for no other, or several that wait in a circle,
-    /// each for the next one and the last for the first. The first event, as they were given, that comes in no part of an order waits
+    /// No order of the entries obeys the rules, because of these: one entry that waits for no other, or several that wait in a circle,
+    /// each for the next one and the last for the first. The first entry, as they were given, that comes in no part of an order waits
     /// for the first of these, or for one that does, and so on, unless it is that one itself.
     NoOrder(Vec<Stuck>),
     /// It is refused in each order, for this.

@@ -12,7 +12,7 @@ use crate::fault::OrderFault;
 use crate::merge::Merge;
 use crate::order::{Ordered, group_refusal, merge_in_order};
 use fbl_dumps::DumpRefusal;
-use fbl_runs::{ControlFault, Entry, LogBreach, RawLog, RecordFault, Run, checked_log};
+use fbl_runs::{Entry, LogBreach, RawLog, RecordFault, Run, checked_log};
 use std::alloc::{AllocError, Global};
 
 /// The entries at these places, in this order.
@@ -34,31 +34,26 @@ fn place_given(places: &[usize], number: usize) -> usize
     places.get(number).copied().unwrap_or(number)
 }
 
-/// The refusal of a log whose entries were given at these places: a control message, a hold or a store that breaks a rule is named where it
-/// was given.
+/// The refusal of a log whose entries were given at these places: a hold or a store that breaks a rule is named where it was given.
 fn refusal_as_given(refusal: DumpRefusal, breach: LogBreach, places: &[usize]) -> OrderFault
     ensures { result ≡ record_given places.now refusal breach }
 {
-    let (place, breach) = match breach {
-        LogBreach::Trace(_) => return OrderFault::Refused(refusal, breach),
-        LogBreach::Control(fault) => {
-            let place = place_given(places, fault.place);
-            (place, LogBreach::Control(ControlFault { place, ..fault }))
-        }
-        LogBreach::Record(fault) => {
-            let place = place_given(places, fault.place);
-            (place, LogBreach::Record(RecordFault { place, ..fault }))
-        }
+    let LogBreach::Record(fault) = breach else {
+        return OrderFault::Refused(refusal, breach);
     };
-    OrderFault::Refused(DumpRefusal::BadEvent(place), breach)
+    let place = place_given(places, fault.place);
+    OrderFault::Refused(
+        DumpRefusal::BadEvent(place),
+        LogBreach::Record(RecordFault { place, ..fault }),
+    )
 }
 
-/// The log of these parts, with its entries in an order in which the sends and receipts obey the rules and each member's own entries
-/// stand as they do here: a hold or a store behind the same entry of its member. Whichever such order the run had, a check of it finds the
-/// same receipts unsafe; it may show one at another moment.
+/// The log of these parts, with its entries in an order in which the sends and receipts and the control messages obey the rules and each
+/// member's own entries stand as they do here: a hold or a store behind the same entry of its member. Whichever such order the run had, a
+/// check of it says the same.
 ///
-/// Where several faults hold, that of the group's numbers is answered before that the sends and receipts have no order, and this before
-/// those that `checked_log` finds in an order of them. The time taken is that of the entries by the members.
+/// Where several faults hold, that of the group's numbers is answered before that the entries have no order, and this before those that
+/// `checked_log` finds in an order of them: of the strike set, and of a hold or a store. The time taken is that of the entries by the members.
 pub fn order_log(alloc: Global, raw: RawLog) -> Result<Ordered<Run>, OrderFault>
     ensures rules { IfOk result (λ o. IsLog o.run) }
     ensures parts { IfOk result (λ o. o.run ≡ with_entries o.run.entries (parts_of_log raw)) }

@@ -49,10 +49,9 @@ fn one_too_many(entries: &[Entry]) -> Option<EventFault>
     None
 }
 
-/// The entries in an order in which the sends and receipts obey the rules in a group of `n` and each member's own entries stand as they do
-/// here. Of the members' next entries that may come the first given is always taken, and one that is no send and no receipt may always
-/// come; but a member is told something before anybody tells it only where no other entry may come. So entries whose sends and receipts obey
-/// the rules as they stand, each told behind its tell, stay so.
+/// The entries in an order in which the sends and receipts and the control messages obey the rules in a group of `n` and each member's own
+/// entries stand as they do here. Of the members' next entries that may come the first given is always taken, and a hold or a store may
+/// always come. So entries that obey the rules as they stand stay so.
 ///
 /// The time taken is that of the entries by the members.
 pub(crate) fn merge_in_order(alloc: Global, n: u8, entries: &[Entry]) -> Result<Merge, OrderFault>

@@ -221,7 +221,7 @@ impl MergeExplanation<'_> {
         )
     }
 
-    /// Writes why an event comes in no order.
+    /// Writes why an entry comes in no order.
     fn write_obstacle<W: fmt::Write>(
         &self,
         f: &mut fmt::Formatter<W>,
@@ -236,7 +236,7 @@ impl MergeExplanation<'_> {
         }
     }
 
-    /// Writes of the event, or of each in a circle, why it comes in no order.
+    /// Writes of the entry, or of each in a circle, why it comes in no order.
     fn write_chain<W: fmt::Write>(
         &self,
         f: &mut fmt::Formatter<W>,
@@ -244,11 +244,11 @@ impl MergeExplanation<'_> {
     ) -> fmt::Result {
         for (number, stuck) in chain.iter().enumerate() {
             let spot = Place(self.files.event(stuck.place));
-            let event = stuck.event;
+            let entry = stuck.entry;
             if number == 0 {
-                write!(f, "event {spot} is {event}, and comes in no order: ")?;
+                write!(f, "event {spot} is {entry}, and comes in no order: ")?;
             } else {
-                write!(f, "; event {spot}, {event}, comes in none either: ")?;
+                write!(f, "; event {spot}, {entry}, comes in none either: ")?;
             }
             self.write_obstacle(f, stuck.obstacle)?;
         }

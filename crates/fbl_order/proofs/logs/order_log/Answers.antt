@@ -1,5 +1,4 @@
-use Rattle.fbl_order.proofs.Common.{List, Entry, RunParts, ◌≡◌, ◌∙◌, ap, inr, subst, items_at, parts_of_log, placed_of, record_given, slice_get_within, with_entries}
-use Rattle.fbl_runs.specs.ControlMessages.{AreTold}
+use Rattle.fbl_order.proofs.Common.{List, Entry, ◌≡◌, ◌∙◌, ap, inr, items_at, parts_of_log, placed_of, record_given, slice_get_within, with_entries}
 use Rattle.fbl_order.proofs.Independence.{answers_alike}
 use Rattle.fbl_order.proofs.MergeLaws.{entries-kept, entries-order}
 use Rattle.fbl_order.proofs.logs.order_log.Goals as goal
@@ -19,8 +18,7 @@ pub returns-in-Ok-clause-order : goal.returns-in-Ok-clause-order
 returns-in-Ok-clause-order c =
     let order = (entries-order c.args.raw.members c.args.raw.entries.items c.as_slice-given.result.now c.in_ok-entries.entries.items
     c.as_slice-given.ensures.value c.in_ok-places.field-0 c.in_ok-places.ensures.merges c.in_ok-places.ensures.all (are c)).0 in
-    let told = subst (λ (run : RunParts). AreTold run.members run.entries) c.in-Ok.ensures.log c.in-Ok.ensures.rules.run.lawful.told in
-    rw c.in-Ok.ensures.log (record { obeys = order.obeys; told = told; logs = order.logs })
+    rw c.in-Ok.ensures.log order
 
 pub returns-in-Ok-clause-kept : goal.returns-in-Ok-clause-kept
 returns-in-Ok-clause-kept c well heard =

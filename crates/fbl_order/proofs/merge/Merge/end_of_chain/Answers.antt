@@ -1,4 +1,4 @@
-use Rattle.fbl_order.proofs.Common.{[], ◌∷◌, ap, arith, length, length-append}
+use Rattle.fbl_order.proofs.Common.{[], ◌∷◌, ap, arith, length, length-append, placed_of}
 use Rattle.fbl_order.proofs.Chains.{begun_walk, closed, closes-within, few_linked, linked, walked}
 use Rattle.fbl_order.proofs.merge.Merge.end_of_chain.Goals as goal
 
@@ -15,7 +15,7 @@ pub links-smaller : goal.links-smaller
 links-smaller c =
     let longer = linked c.args.n c.args.entries.now c.args.self.now c.args.first c.links.place c.links.chain.items c.stuck-stuck.result
     c.links.invariant c.stuck-stuck.ensures.place c.stuck-stuck.ensures.stuck in
-    let few = few_linked c.args.n c.args.entries.now c.args.self.now.run.items _ longer in
+    let few = few_linked c.args.n c.args.entries.now (placed_of c.args.entries.now c.args.self.now) _ longer in
     omega (arith, few, length-append c.links.chain.items (c.stuck-stuck.result ∷ []), ap length c.in_ok-push.ensures.items)
 
 pub stuck-stuck-requires-clause-next : goal.stuck-stuck-requires-clause-next

@@ -1,5 +1,4 @@
 use Rattle.fbl_order.proofs.Common.{arith, entry_member, placed_of}
-use Rattle.fbl_order.proofs.MergeLaws.{chosen_none}
 use Rattle.fbl_order.proofs.Own.{few_passed}
 use Rattle.fbl_order.proofs.merge.Merge.of.Goals as goal
 
@@ -8,6 +7,3 @@ loop-place-smaller c =
     let kept = c.in_ok-take.ensures.merges in
     let few = few_passed entry_member c.args.entries.now (placed_of c.args.entries.now c.take.new.self) c.take.new.self.cursors kept.cursors in
     omega (arith, few, kept.places.count, c.in_ok-take.ensures.longer)
-
-pub returns-clause-none : goal.returns-clause-none
-returns-clause-none c = chosen_none c.args.n c.args.entries.now c.loop-place.merge c.in_default.ensures
