@@ -1,12 +1,11 @@
 -- What is lost at the last moment, and who is an orphan there.
-use Rattle.fbl_judge.proofs.Common.{HappenedBefore, ℕ, Bool, true, false, ◌≡◌, ◌==◌, ◌<◌, ◌≤◌, ◌+◌, ◌↔◌, inl, inr, List, [], ◌∷◌, length, Some, slice_get, refl, sym, ap, subst, ◌∙◌, arith}
+use Rattle.fbl_judge.proofs.Common.{ℕ, Bool, true, false, ◌≡◌, ◌==◌, ◌<◌, ◌≤◌, ◌+◌, ◌↔◌, inl, inr, List, [], ◌∷◌, length, Some, slice_get, refl, sym, ap, subst, ◌∙◌, arith}
 use Rattle.fbl_judge.proofs.Common.{cases_eq, false≢true, nat_tests, Determinant, Send, Receipt, receipt_of, Members, contains-union}
 use Rattle.fbl_judge.proofs.Common.{Entry, Event, Hold, Store, Tell, Told, log_of, Position, at, DependsAt, DependsOn, IsReceiptAt, LosesAt, IsOrphanAt}
 use Rattle.std.specs.FinSet as set
 use Rattle.std.specs.Cmp.{nat_cmp_total}
 use Rattle.fbl_trace.proofs.Sets.{len-remove_one, some_member}
-use Rattle.fbl_runs.specs.declared.clocks.Advance.{Advance}
-use Rattle.fbl_runs.specs.Clocks.{IsAdvance, StandsAt, seen}
+use Rattle.fbl_runs.specs.Clocks.{StandsAt, seen}
 use Rattle.fbl_runs.specs.Entries.{receipt_in}
 use Rattle.fbl_judge.specs.Audits.{DependsOnAny, IsFirstOnAny, end_of}
 use Rattle.fbl_judge.specs.Paths.{DependsSome, IsDependentPlace}
@@ -15,7 +14,6 @@ use Rattle.std.proofs.Common.{Option, None, min, ◌++◌, ◌⊎◌}
 use Rattle.std.proofs.lemmas.Bool.{cases_lt}
 use Rattle.std.proofs.Math.Nat.{min-eq_left, min_comm}
 use Rattle.fbl_runs.specs.Logs.{RunParts, run_of}
-use Rattle.fbl_judge.proofs.PastLaws.{advance_stands}
 use Rattle.fbl_runs.proofs.Listing.{locate_all, seen-later, stands_at}
 
 -- ---- the audit
@@ -50,12 +48,14 @@ receipt_is (Store q d') d is = cc
 receipt_is (Tell m) d is = cc
 receipt_is (Told m) d is = cc
 
--- the receipt stands at the number that the pasts have of its place
-pub receipt_at : (entries : List Entry) (p : ℕ) (e : Entry) (d : Determinant) (advance : Advance) → slice_get entries p ≡ Some e → receipt_in e ≡ Some d → IsAdvance HappenedBefore entries p advance
-    → IsReceiptAt (log_of entries) d (at d.to advance.number)
-receipt_at entries p e d advance here receipt is =
+-- the receipt stands at the number of its place
+pub receipt_at : (entries : List Entry) (p number : ℕ) (e : Entry) (d : Determinant) → slice_get entries p ≡ Some e → receipt_in e ≡ Some d
+    → ((i : Position) → StandsAt entries p i → number ≡ i.number) → IsReceiptAt (log_of entries) d (at d.to number)
+receipt_at entries p number e d here receipt is =
     let there : slice_get entries p ≡ Some (Event (receipt_of d)) = here ∙ ap Some (receipt_is e d receipt) in
-    stands_at entries p (at d.to advance.number) (Event (receipt_of d)) (advance_stands entries p (Event (receipt_of d)) advance is there) there
+    let stands : StandsAt entries p (at d.to (seen entries p d.to)) = (Event (receipt_of d), there, refl, refl) in
+    subst (λ (k : ℕ). IsReceiptAt (log_of entries) d (at d.to k)) (sym (is (at d.to (seen entries p d.to)) stands))
+    (stands_at entries p (at d.to (seen entries p d.to)) (Event (receipt_of d)) stands there)
 
 one_receipt : (d d' : Determinant) → Event (receipt_of d) ≡ Event (receipt_of d') → d ≡ d'
 one_receipt d d' same = (let some : Some d ≡ Some d' = ap receipt_in same in cc)

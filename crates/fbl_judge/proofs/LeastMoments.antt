@@ -2,7 +2,7 @@
 use Rattle.fbl_judge.proofs.Common.{ℕ, zero, suc, cond, ◌≡◌, ◌==◌, ◌<◌, ◌≤◌, ◌⊎◌, ◌↔◌, inl, inr, List, [], ◌∷◌, max, Some, None, slice_get, refl, sym, ap, subst, ◌∙◌, arith}
 use Rattle.fbl_judge.proofs.Common.{nat_tests, cases_eq, cases_lt, slice_get_within, WellFormed, Determinant, Mark, Send, Receipt, send_of, receipt_of}
 use Rattle.fbl_judge.proofs.Common.{HappenedBefore, Entry, Event, Hold, Store, Tell, Told, IsArrival, IsRecord, Passes, Logs, log_of, marks, IsAt, Leads, Position, Precedes, at, itself, step, Cut, HasCome}
-use Rattle.fbl_judge.proofs.Common.{IsInStepOf, IsMoment, IsLeastMoment, IsReceiptAt}
+use Rattle.fbl_judge.proofs.Common.{IsInStepOf, IsMoment, IsLeastMoment, IsReceiptAt, last_cut, length}
 use Rattle.fbl_runs.specs.Clocks.{IsClock}
 use Rattle.fbl_runs.specs.ControlMessages.{AreTold}
 use Rattle.fbl_runs.specs.Entries.{recorded_in}
@@ -204,3 +204,17 @@ has_least n entries obeys told d j here =
             λ come. elim (both.0 come) [ inl x ↦ inl x | inr x ↦ inr (own.0 x) ],
             λ h. both.1 (elim h [ inl x ↦ inl x | inr x ↦ inr (own.1 x) ]),
           )
+
+-- ---- what has come is no more than all
+
+last_is_moment : (logs : Logs) → IsMoment logs (last_cut logs)
+last_is_moment logs = record {
+  consistent = λ i j leads come. slice_get_within (logs i.member) i.number leads.0 leads.2;
+  whole = λ i j step come.
+      let e = step.3 j.number step.2 (omega arith) in
+      let P : ℕ → Type 0 = λ m. j.number < length (logs m) in
+      subst P step.1 (slice_get_within (logs i.member) j.number e.0 e.1);
+}
+
+pub least_within : (logs : Logs) (j : Position) (cut : Cut) → IsLeastMoment logs j cut → (e : Entry) → IsAt logs j e → (q : ℕ) → cut q ≤ length (logs q)
+least_within logs j cut least e here q = least.least (last_cut logs) (last_is_moment logs) (slice_get_within (logs j.member) j.number e here) q

@@ -8,4 +8,5 @@ pub mod Untold
 pub mod OrderLaws
 pub mod Audits
 pub mod PathLaws
+pub mod RecordLaws
 pub mod ReasonLaws

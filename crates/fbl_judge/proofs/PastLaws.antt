@@ -1,9 +1,8 @@
 -- What the clocks of the entries say.
-use Rattle.fbl_judge.proofs.Common.{Causality, Dependence, HappenedBefore, ℕ, suc, Bool, true, false, cond, ◌≡◌, ◌==◌, ◌<◌, ◌≤◌, ◌+◌, ◌⊎◌, ◌↔◌, inl, inr, List, [], ◌∷◌, ◌++◌, length, length-append, Some, slice_get, max, refl, sym, ap, subst, ◌∙◌, arith}
-use Rattle.fbl_judge.proofs.Common.{At-push, nat_tests, cases_eq, cases_lt, eqb-true, slice_get_within, Determinant, receipt_of, Entry, Event, entry_member, Logs, log_of, IsAt, Position, Precedes, at, Cut, HasCome}
+use Rattle.fbl_judge.proofs.Common.{Causality, Dependence, HappenedBefore, ℕ, suc, Bool, true, false, cond, ◌≡◌, ◌==◌, ◌<◌, ◌≤◌, ◌+◌, ◌⊎◌, ◌↔◌, inl, inr, List, length, Some, slice_get, max, refl, sym, ap, subst, ◌∙◌, arith}
+use Rattle.fbl_judge.proofs.Common.{nat_tests, cases_eq, cases_lt, eqb-true, slice_get_within, Determinant, receipt_of, Entry, Event, Logs, log_of, IsAt, Position, Precedes, at, Cut, HasCome}
 use Rattle.std.proofs.Common.{nat_lt}
-use Rattle.fbl_runs.specs.declared.clocks.Advance.{Advance}
-use Rattle.fbl_runs.specs.Clocks.{AreAdvances, IsAdvance, IsClock, PrecedesSome, StandsAt, seen}
+use Rattle.fbl_runs.specs.Clocks.{IsClock, PrecedesSome, StandsAt, seen}
 use Rattle.fbl_judge.specs.Pasts.{IsFirstAfter, IsLeastMomentOfReceipt}
 use Rattle.fbl_runs.specs.Indexes.{EndsStep}
 use Rattle.fbl_runs.proofs.ClockLaws.{first_there, last_there}
@@ -82,34 +81,6 @@ moment_within logs m l end clock cut within is_clock ends counts q = at_member (
       let count : cut q ≡ max (clock q) 0 = counts q ∙ ap (λ b. max (clock q) (cond b end 0)) other in
       let below = clock_within HappenedBefore logs m (l + 1) clock is_clock q in
       omega (arith, count, below)
-
--- ---- a pass
-
-pub AreAdvances-none : (c : Causality) (entries : List Entry) (advances : List Advance) → advances ≡ [] → AreAdvances c entries 0 advances
-AreAdvances-none c entries advances none = subst (λ (xs : List Advance). AreAdvances c entries 0 xs) (sym none) (record { count = refl; each = λ k a there. cc })
-
--- one entry more
-pub AreAdvances-push : (c : Causality) (entries : List Entry) (p : ℕ) (advances : List Advance) (advance : Advance) → AreAdvances c entries p advances → IsAdvance c entries p advance → AreAdvances c entries (p + 1) (advances ++ advance ∷ [])
-AreAdvances-push c entries p advances advance are is = record {
-  count = (let c = are.count in omega (arith, c, length-append advances (advance ∷ [])));
-  each = λ k a there. elim (At-push advances advance k a there) [
-    | inl old ↦ are.each k a old
-    | inr new ↦
-        let at_p : p ≡ k = (let n = are.count in omega (arith, new.0, n)) in
-        subst (λ (a : Advance). IsAdvance c entries k a) new.1 (subst (λ (k : ℕ). IsAdvance c entries k advance) at_p is)
-  ];
-}
-
--- what a pass knows of an entry is its position
-pub advance_at : {c : Causality} (entries : List Entry) (p : ℕ) (i : Position) (advance : Advance) → IsAdvance c entries p advance → StandsAt entries p i → at advance.member advance.number ≡ i
-advance_at entries p i advance is stands =
-    let member : advance.member ≡ i.member = sym (is.member stands.0 stands.1) ∙ stands.2 in
-    let number : advance.number ≡ i.number = is.number ∙ ap (seen entries p) member ∙ stands.3 in
-    λ x. record { member = member x; number = number x }
-
--- and so it is known
-pub advance_stands : {c : Causality} (entries : List Entry) (p : ℕ) (e : Entry) (advance : Advance) → IsAdvance c entries p advance → slice_get entries p ≡ Some e → StandsAt entries p (at (entry_member e) advance.number)
-advance_stands entries p e advance is here = (e, here, refl, sym (is.number ∙ ap (seen entries p) (sym (is.member e here))))
 
 -- a receipt that is in no log is not listed
 pub receipt_number_none : (entries : List Entry) (d : Determinant) → ((k : ℕ) → ¬ (slice_get (log_of entries d.to) k ≡ Some (Event (receipt_of d)))) → (place : ℕ) → ¬ (slice_get entries place ≡ Some (Event (receipt_of d)))

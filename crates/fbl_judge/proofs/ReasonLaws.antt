@@ -1,16 +1,17 @@
 -- What the reason of an unsafe receipt is said of.
-use Rattle.fbl_judge.proofs.Common.{ℕ, true, ◌≡◌, ◌↔◌, Option, Some, None, sym, ap, subst, ◌∙◌, Determinant, Entry, entry_member, log_of, slice_get, Position, at, Cut, Members, DependsOn, IsFirstDependent, IsLeastMoment}
+use Rattle.fbl_judge.proofs.Common.{ℕ, true, ◌≡◌, ◌↔◌, ◌-◌, inl, inr, arith, cases_eq, cases_lt, refl, Option, Some, None, sym, ap, subst, ◌∙◌, Determinant, Entry, entry_member, log_of, slice_get, Position, at, Cut, HasCome, Members, DependsOn, IsFirstDependent, IsLeastMoment}
 use Rattle.std.proofs.Common.{IfOk, Result, Ok, Err, get_or, ◌<◌, ◌+◌, ◌++◌, ◌∷◌, [], List, length, take}
 use Rattle.std.specs.List.{AllZip}
 use Rattle.std.proofs.lemmas.List.{take_more}
 use Rattle.std.specs.FinSet as set
-use Rattle.fbl_runs.specs.Clocks.{StandsAt}
+use Rattle.fbl_runs.specs.Clocks.{StandsAt, seen}
 use Rattle.fbl_runs.specs.Logs.{RunParts}
 use Rattle.fbl_runs.specs.declared.judged.Judged.{Judged}
 use Rattle.fbl_runs.specs.declared.judged.Judged.TheVariants.{AtEachMoment, AtItsEnd}
 use Rattle.fbl_judge.specs.Audits.{end_of}
 use Rattle.fbl_judge.specs.Paths.{DependsIn}
-use Rattle.fbl_judge.specs.Reasons.{IsReasonAt}
+use Rattle.fbl_judge.specs.Records.{IsNextRecord, IsRecordAt}
+use Rattle.fbl_judge.specs.Reasons.{IsReasonAt, IsToCome}
 use Rattle.fbl_judge.specs.Unsafe.{IsSaidAt, IsSaidOf}
 use Rattle.fbl_judge.specs.declared.check.UnsafeReceipt.{UnsafeReceipt}
 use Rattle.fbl_judge.specs.declared.reason.Reason.{Reason}
@@ -76,3 +77,53 @@ reasons_more {X} {R} IsReason xs i x reasons r below is told reason = rw (take_m
   push [] (r' ∷ rs) told = absurd told
   push (x' ∷ xs) [] told = absurd told
   push (x' ∷ xs) (r' ∷ rs) told = (told.0, push xs rs told.1)
+
+-- ---- the next hold or store
+
+-- it is the first hold or store of the determinant that may not have come
+abbrev pub IsNextToCome : List Entry → Cut → Determinant → Option ℕ → Type 0
+IsNextToCome entries cut d None = (place : ℕ) → ¬ (IsToCome entries cut d place)
+IsNextToCome entries cut d (Some next) = IsRecordAt entries d next × ((place : ℕ) → place < next → ¬ (IsToCome entries cut d place))
+
+-- how many entries stand from there on
+abbrev pub left : List Entry → Option ℕ → ℕ
+left entries None = 0
+left entries (Some place) = length entries - place
+
+-- the first hold or store is it
+pub first_to_come : (entries : List Entry) (cut : Cut) (d : Determinant) (o : Option ℕ) → IsNextRecord entries d 0 o → IsNextToCome entries cut d o
+first_to_come entries cut d None none = λ place to_come. none place (omega arith) to_come.0
+first_to_come entries cut d (Some next) first = (first.1, λ place below to_come. first.2 place (omega arith) below to_come.0)
+
+-- where it has come, the next one is
+pub next_to_come : (entries : List Entry) (cut : Cut) (d : Determinant) (p : ℕ) (o : Option ℕ) → ((place : ℕ) → place < p → ¬ (IsToCome entries cut d place))
+    → ((i : Position) → StandsAt entries p i → HasCome cut i) → IsNextRecord entries d (p + 1) o → IsNextToCome entries cut d o
+next_to_come entries cut d p None before come none = λ place to_come. elim (cases_lt place p) [
+  | inl below ↦ before place below to_come
+  | inr past ↦ elim (cases_eq place p) [
+    | inl same ↦ to_come.1.2 (come to_come.1.0 (subst (λ (p : ℕ). StandsAt entries p to_come.1.0) same to_come.1.1))
+    | inr ne ↦ none place (omega (arith, past, ne)) to_come.0
+  ]
+]
+next_to_come entries cut d p (Some next) before come first = (
+  first.1,
+  λ place earlier to_come. elim (cases_lt place p) [
+    | inl below ↦ before place below to_come
+    | inr past ↦ elim (cases_eq place p) [
+      | inl same ↦ to_come.1.2 (come to_come.1.0 (subst (λ (p : ℕ). StandsAt entries p to_come.1.0) same to_come.1.1))
+      | inr ne ↦ first.2 place (omega (arith, past, ne)) earlier to_come.0
+    ]
+  ],
+)
+
+-- and fewer are left
+pub fewer_left : (entries : List Entry) (d : Determinant) (p : ℕ) (o : Option ℕ) → p < length entries → IsNextRecord entries d (p + 1) o → left entries o < length entries - p
+fewer_left entries d p None below none = omega (arith, below)
+fewer_left entries d p (Some next) below first = (let past = first.0 in omega (arith, below, past))
+
+-- the hold or store at the place has not come
+pub is_to_come : (entries : List Entry) (cut : Cut) (d : Determinant) (p : ℕ) → IsRecordAt entries d p → ((i : Position) → StandsAt entries p i → ¬ (HasCome cut i)) → IsToCome entries cut d p
+is_to_come entries cut d p record' not = (
+    let i = at (entry_member record'.0) (seen entries p (entry_member record'.0)) in
+    let stands : StandsAt entries p i = (record'.0, record'.1, refl, refl) in
+    (record', (i, stands, not i stands)))

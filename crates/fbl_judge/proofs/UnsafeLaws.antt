@@ -1,5 +1,5 @@
 -- What is said of a receipt is so, and nothing is said where it is safe.
-use Rattle.fbl_judge.proofs.Common.{Dependence, ℕ, zero, suc, Bool, true, false, ◌≡◌, ◌<◌, ◌≤◌, ◌+◌, ◌⊎◌, ◌↔◌, inl, inr, List, [], ◌∷◌, Option, Some, None, slice_get, refl, sym, ap, subst, ◌∙◌, arith}
+use Rattle.fbl_judge.proofs.Common.{Dependence, ℕ, zero, suc, Bool, true, false, ◌≡◌, ◌<◌, ◌≤◌, ◌+◌, ◌⊎◌, ◌↔◌, inl, inr, List, [], ◌∷◌, ◌++◌, Option, Some, None, drop, slice_get, take, take-append-drop, append-nil, refl, sym, ap, subst, ◌∙◌, arith}
 use Rattle.fbl_judge.proofs.Common.{cases_lt, false≢true, Determinant, receipt_of, AllBelow, Members, contains-union}
 use Rattle.fbl_judge.proofs.Common.{Entry, Event, Logs, log_of, IsAt, Position, Precedes, at, Cut, DependsOn, DependsAt, HoldsAt, IsFirstDependent, IsLeastMoment, IsReceiptAt}
 use Rattle.fbl_judge.proofs.Common.{AreEntries, AreStruckOrHold, IsJudgedAt, IsMoment, IsSafe, Run, bound, filter_map-At, last_cut, len-within}
@@ -8,16 +8,19 @@ use Rattle.std.specs.FinSet as set
 use Rattle.std.proofs.Common.{MatchOption, below_more}
 use Rattle.std.proofs.lemmas.Bool.{cases_order}
 use Rattle.std.specs.Cmp.{nat_cmp_total}
+use Rattle.fbl_judge.specs.declared.check.Candidate.{Candidate}
 use Rattle.fbl_judge.specs.declared.check.UnsafeReceipt.{UnsafeReceipt}
-use Rattle.fbl_runs.specs.Clocks.{PrecedesSome}
+use Rattle.fbl_runs.specs.Clocks.{PrecedesSome, StandsAt, cut_of}
 use Rattle.fbl_runs.specs.Entries.{receipt_in, receipts_in}
 use Rattle.fbl_judge.specs.Pasts.{IsFirstAfter}
 use Rattle.fbl_runs.specs.Logs.{RunParts, run_of}
 use Rattle.fbl_judge.specs.Unsafe.{ComesFirst, IsCandidate, IsFewer, IsFirstCandidate, IsLeastLoss, IsLeastStrike, IsLeftOrphanAt, IsSaidAt, IsSaidOf, IsUnsafe, IsUnsafeAt, ListsFirst, SaysUnsafe}
-use Rattle.fbl_judge.specs.Candidates.{HasNoCandidate, IsCandidateOf, IsCoveredBelow, IsFirstBelow, IsFirstOf, IsLeastIn, IsSaidAtEnd, IsSaidWith, IsUnsafeAtEnd}
+use Rattle.fbl_judge.specs.Candidates.{HasNoCandidate, IsCandidateOf, IsCoveredBelow, IsFirstBelow, IsFirstOf, IsLeastIn, IsSaidAtEnd, IsSaidFirst, IsSaidWith, IsUnsafeAtEnd}
 use Rattle.fbl_runs.specs.declared.judged.Judged.{Judged}
 use Rattle.fbl_runs.specs.declared.judged.Judged.TheVariants.{AtEachMoment, AtItsEnd}
+use Rattle.fbl_trace.proofs.Gets.{drop_next, take-more}
 use Rattle.fbl_trace.proofs.Sets.{len-remove_one}
+use Rattle.fbl_runs.proofs.Common.{filter_map-append}
 use Rattle.fbl_runs.proofs.ClockLaws.{last_there}
 use Rattle.fbl_runs.proofs.Listing.{locate_all, one_position}
 use Rattle.fbl_judge.proofs.SafeAlways.{loses, lost_contains, may_be_lost, none_depends, of_group, struck_or_hold}
@@ -220,18 +223,18 @@ module _ (log : RunParts) (rules : AreEntries log.members log.entries) (struck :
     left_there least is out = (record { first = first; moment = moment; least = is; left = out }, (out, (k, first.depends, moment.has)))
 
   -- a member's candidates strike the same members
-  one_strike : (n : ℕ) (f : UnsafeReceipt) → IsCandidateOf log d n f → (p number : ℕ) (cut : Cut) (members : Members) → p ≡ n → IsCandidate run d (at p number) cut members → members ≡ f.strike
+  one_strike : (n : ℕ) (f : Candidate) → IsCandidateOf log d n f → (p number : ℕ) (cut : Cut) (members : Members) → p ≡ n → IsCandidate run d (at p number) cut members → members ≡ f.strike
   one_strike n f is p number cut members own candidate =
       let here = subst (λ (p : ℕ). IsCandidate run d (at p number) cut members) own candidate in
-      let same = same_cut n is.number is.cut is.candidate.first is.candidate.moment number cut members here in
+      let same = same_cut n f.first (cut_of f.moment) is.is.first is.is.moment number cut members here in
       let least = subst (λ (cut : Cut). IsLeastStrike run cut d members) same here.least in
-      one_set run is.cut d members f.strike least.least is.candidate.least.least
+      one_set run (cut_of f.moment) d members f.strike least.least is.is.least.least
 
-  own_first : (n : ℕ) (f : UnsafeReceipt) → IsCandidateOf log d n f → (p number : ℕ) (cut : Cut) (members : Members) → p ≡ n → IsCandidate run d (at p number) cut members → ComesFirst f.strike n members p
+  own_first : (n : ℕ) (f : Candidate) → IsCandidateOf log d n f → (p number : ℕ) (cut : Cut) (members : Members) → p ≡ n → IsCandidate run d (at p number) cut members → ComesFirst f.strike n members p
   own_first n f is p number cut members own candidate = inr (sym (one_strike n f is p number cut members own candidate), omega (arith, own))
 
   -- of those of one member more the one that comes first
-  pub first_next : (n : ℕ) (first next result : Option UnsafeReceipt) → IsFirstBelow log d n first → MatchOption next (HasNoCandidate run d n) (IsCandidateOf log d n)
+  pub first_next : (n : ℕ) (first next result : Option Candidate) → IsFirstBelow log d n first → MatchOption next (HasNoCandidate run d n) (IsCandidateOf log d n)
       → IsFirstOf first next result → IsFirstBelow log d (n + 1) result
   first_next n None None result before is of' = rw of' (below_more (HasNoCandidate run d) n before is)
   first_next n None (Some f) result before is of' = rw of' (
@@ -323,17 +326,19 @@ module _ (log : RunParts) (rules : AreEntries log.members log.entries) (struck :
       let P : Judged → Option ℕ → Type 0 = λ j o. IsSaidAt log d said.strike j o (last_cut run.logs) in
       said_at said (last_cut run.logs) is.1 (subst (λ (j : Judged). P j said.at) (sym end) (subst (P AtItsEnd) (sym is.0) refl))
 
-  pub said_at_moment : (o : Option UnsafeReceipt) → log.judged ≡ AtEachMoment → IsFirstBelow log d 16 o → MatchOption o (¬ (IsUnsafe run d)) (IsSaidOf log d)
+  pub said_at_moment : (o : Option UnsafeReceipt) → log.judged ≡ AtEachMoment → IsSaidFirst log d o → MatchOption o (¬ (IsUnsafe run d)) (IsSaidOf log d)
   said_at_moment None each none = λ u. safe_moments none u.0 (subst (λ (j : Judged). IsJudgedAt j run.logs u.0) each u.1) u.2
-  said_at_moment (Some said) each first =
+  said_at_moment (Some said) each (f, first, is) =
       let q = first.0 in
-      let is = first.2 in
-      let P : Judged → Option ℕ → Type 0 = λ j o. IsSaidAt log d said.strike j o is.cut in
-      let chosen : IsFirstCandidate run d (at q is.number) is.cut said.strike = record {
-        candidate = is.candidate;
+      let cut = cut_of f.moment in
+      let P : Judged → Option ℕ → Type 0 = λ j o. IsSaidAt log d said.strike j o cut in
+      let chosen : IsFirstCandidate run d (at q f.first) cut f.strike = record {
+        candidate = first.2.is;
         first = λ i cut members candidate. first.3 i.member i.number cut members (member_below i.member i.number candidate.first.depends) candidate;
       } in
-      said_at said is.cut is.says (subst (λ (j : Judged). P j said.at) (sym each) (subst (P AtEachMoment) (sym is.listed) (at q is.number, is.stands, chosen)))
+      let said_chosen = subst (λ (s : Members). IsFirstCandidate run d (at q f.first) cut s) (sym is.strike) chosen in
+      let stands = subst (λ (m : ℕ). StandsAt entries is.place (at m f.first)) first.2.orphan is.stands in
+      said_at said cut is.says (subst (λ (j : Judged). P j said.at) (sym each) (subst (P AtEachMoment) (sym is.listed) (at q f.first, stands, said_chosen)))
 
   -- a receipt that is not there is safe
   pub absent_safe : ((k : ℕ) → ¬ (IsAt (log_of entries) (at d.to k) (Event (receipt_of d)))) → ¬ (IsUnsafe run d)
@@ -376,14 +381,19 @@ says_none log (e ∷ ds) said says = elim says [
 ]
 
 -- the run is safe exactly where nothing is said
+-- where no receipt is unsafe the run is safe
+pub none_unsafe : (log : RunParts) (rules : AreEntries log.members log.entries) (struck : AllBelow log.strike log.members)
+    → ((k : ℕ) (d : Determinant) → slice_get (receipts_in log.entries) k ≡ Some d → ¬ (IsUnsafe (run_of log) d)) → IsSafe (run_of log)
+none_unsafe log rules struck none cut moment members may q orphan =
+    let d = orphan.1.0 in
+    let u : IsUnsafe (run_of log) d = (cut, moment, (members, may, orphan.1.1, (q, (orphan.0, orphan.1.2)))) in
+    let there = unsafe_there log rules struck d u in
+    none there.0 d there.1 u
+
 pub says_safe : (log : RunParts) (rules : AreEntries log.members log.entries) (struck : AllBelow log.strike log.members) (said : List UnsafeReceipt)
     → SaysUnsafe log (receipts_in log.entries) said → (said ≡ []) ↔ IsSafe (run_of log)
 says_safe log rules struck said says = (
-  λ none cut moment members may q orphan.
-      let d = orphan.1.0 in
-      let u : IsUnsafe (run_of log) d = (cut, moment, (members, may, orphan.1.1, (q, (orphan.0, orphan.1.2)))) in
-      let there = unsafe_there log rules struck d u in
-      (says_none log (receipts_in log.entries) said says).0 none there.0 d there.1 u,
+  λ none. none_unsafe log rules struck ((says_none log (receipts_in log.entries) said says).0 none),
   λ safe. (says_none log (receipts_in log.entries) said says).1 (λ i d at u. safe u.0 u.1 u.2.0 u.2.1 u.2.3.0 (u.2.3.1.0, (d, u.2.2, u.2.3.1.1))),
 )
 
@@ -400,3 +410,21 @@ says_each log (d ∷ ds) said says i one here = elim says [
       let same : first ≡ one = cc in
       subst (λ (x : UnsafeReceipt). IsSaidOf log x.determinant x) same (subst (λ (d : Determinant). IsSaidOf log d first) (sym is.determinant) is)
   at_place first rest is others (suc i) here = others i one here
+
+-- ---- the first unsafe one
+
+-- one receipt more
+pub receipts_some : (entries : List Entry) (k : ℕ) (e : Entry) (d : Determinant) → slice_get entries k ≡ Some e → receipt_in e ≡ Some d
+    → receipts_in (take (k + 1) entries) ≡ receipts_in (take k entries) ++ d ∷ []
+receipts_some entries k e d here is = (let more : k + 1 ≡ suc k = omega arith in rw (more, take-more entries k e here, filter_map-append receipt_in (take k entries) (e ∷ []), is) refl)
+
+-- or none
+pub receipts_none : (entries : List Entry) (k : ℕ) (e : Entry) → slice_get entries k ≡ Some e → receipt_in e ≡ None → receipts_in (take (k + 1) entries) ≡ receipts_in (take k entries)
+receipts_none entries k e here is = (let more : k + 1 ≡ suc k = omega arith in rw (more, take-more entries k e here, filter_map-append receipt_in (take k entries) (e ∷ []), is, append-nil) refl)
+
+-- the receipts before it and behind it
+pub receipts_around : (entries : List Entry) (k : ℕ) (e : Entry) (d : Determinant) → slice_get entries k ≡ Some e → receipt_in e ≡ Some d
+    → receipts_in entries ≡ receipts_in (take k entries) ++ d ∷ receipts_in (drop (k + 1) entries)
+receipts_around entries k e d here is =
+    ap receipts_in (sym (take-append-drop k entries)) ∙ filter_map-append receipt_in (take k entries) (drop k entries)
+    ∙ ap (λ es. receipts_in (take k entries) ++ receipts_in es) (drop_next entries k e here) ∙ (rw is refl)

@@ -3,9 +3,10 @@ use Rattle.std.specs.Prelude.{ℕ, ◌≡◌, ◌<◌, ◌⊎◌, ◌↔◌, tru
 use Rattle.std.specs.FinSet as set
 use Rattle.fbl_trace.specs.declared.trace.Determinant.{Determinant}
 use Rattle.fbl_trace.specs.MemberSets.{Members}
+use Rattle.fbl_judge.specs.declared.check.Candidate.{Candidate}
 use Rattle.fbl_judge.specs.declared.check.UnsafeReceipt.{UnsafeReceipt}
 use Rattle.fbl_judge.specs.Unsafe.{ComesFirst, IsCandidate, IsFewer, IsLeastStrike, IsLeftOrphanAt, IsUnsafeAt}
-use Rattle.fbl_runs.specs.Clocks.{StandsAt}
+use Rattle.fbl_runs.specs.Clocks.{StandsAt, cut_of}
 use Rattle.fbl_runs.specs.HappenedBefore.{at}
 use Rattle.fbl_runs.specs.Logs.{RunParts, run_of}
 use Rattle.fbl_runs.specs.Moments.{Cut, IsFirstDependent, IsLeastMoment, last_cut}
@@ -37,25 +38,33 @@ IsCoveredBelow run d q count = (k : ℕ) (cut : Cut) → k < count → IsFirstDe
 abbrev pub HasNoCandidate : Run → Determinant → ℕ → Type 0
 HasNoCandidate run d q = (number : ℕ) (cut : Cut) (strike : Members) → ¬ (IsCandidate run d (at q number) cut strike)
 
--- what is said is a candidate with the member as its orphan
-pub record IsCandidateOf (run : RunParts) (d : Determinant) (q : ℕ) (said : UnsafeReceipt) : Type 0 where
-  pub place : ℕ
-  pub listed : said.at ≡ Some place
-  pub number : ℕ
-  pub stands : StandsAt run.entries place (at q number)
-  pub cut : Cut
-  pub candidate : IsCandidate (run_of run) d (at q number) cut said.strike
-  pub says : IsSaidWith (run_of run) cut d said
+-- it is one with the member as its orphan
+pub record IsCandidateOf (run : RunParts) (d : Determinant) (q : ℕ) (candidate : Candidate) : Type 0 where
+  pub orphan : candidate.orphan ≡ q
+  pub is : IsCandidate (run_of run) d (at q candidate.first) (cut_of candidate.moment) candidate.strike
 
 -- of the candidates with a member below n as their orphan it is the one that comes first, if there is one
-abbrev pub IsFirstBelow : RunParts → Determinant → ℕ → Option UnsafeReceipt → Type 0
+abbrev pub IsFirstBelow : RunParts → Determinant → ℕ → Option Candidate → Type 0
 IsFirstBelow run d n None = (q : ℕ) → q < n → HasNoCandidate (run_of run) d q
-IsFirstBelow run d n (Some said) =
-    (q : ℕ) × (q < n) × IsCandidateOf run d q said
-    × ((p number : ℕ) (cut : Cut) (members : Members) → p < n → IsCandidate (run_of run) d (at p number) cut members → ComesFirst said.strike q members p)
+IsFirstBelow run d n (Some first) =
+    (q : ℕ) × (q < n) × IsCandidateOf run d q first
+    × ((p number : ℕ) (cut : Cut) (members : Members) → p < n → IsCandidate (run_of run) d (at p number) cut members → ComesFirst first.strike q members p)
+
+-- what is said is said of the candidate, whose entry has the place
+pub record IsSaidOfCandidate (run : RunParts) (d : Determinant) (candidate : Candidate) (said : UnsafeReceipt) : Type 0 where
+  pub place : ℕ
+  pub listed : said.at ≡ Some place
+  pub stands : StandsAt run.entries place (at candidate.orphan candidate.first)
+  pub strike : said.strike ≡ candidate.strike
+  pub says : IsSaidWith (run_of run) (cut_of candidate.moment) d said
+
+-- what is said is said of the candidate that comes first of all, if there is one
+abbrev pub IsSaidFirst : RunParts → Determinant → Option UnsafeReceipt → Type 0
+IsSaidFirst run d None = IsFirstBelow run d 16 None
+IsSaidFirst run d (Some said) = (first : Candidate) × IsFirstBelow run d 16 (Some first) × IsSaidOfCandidate run d first said
 
 -- of two, the first of which is of a lesser member, the result is the one that comes first
-abbrev pub IsFirstOf : Option UnsafeReceipt → Option UnsafeReceipt → Option UnsafeReceipt → Type 0
+abbrev pub IsFirstOf : Option Candidate → Option Candidate → Option Candidate → Type 0
 IsFirstOf None next result = result ≡ next
 IsFirstOf (Some first) None result = result ≡ Some first
 IsFirstOf (Some first) (Some next) result =

@@ -4,10 +4,10 @@ use Rattle.std.specs.List.{list_any}
 use Rattle.fbl_trace.specs.declared.trace.Determinant.{Determinant}
 use Rattle.fbl_runs.specs.declared.causality.Causality.TheVariants.{Dependence, HappenedBefore}
 use Rattle.fbl_runs.specs.declared.clock.Clock.{Clock}
-use Rattle.fbl_runs.specs.declared.clocks.Advance.{Advance}
+use Rattle.fbl_runs.specs.declared.clocks.Clocks.{Clocks}
 use Rattle.fbl_runs.specs.declared.entry.Entry.{Entry}
 use Rattle.fbl_runs.specs.declared.entry.Entry.TheVariants.{Told}
-use Rattle.fbl_runs.specs.Clocks.{AreAdvances, IsNoClock, cut_of}
+use Rattle.fbl_runs.specs.Clocks.{AreClocks, cut_of}
 use Rattle.fbl_runs.specs.Entries.{Logs, log_of}
 use Rattle.fbl_runs.specs.HappenedBefore.{Position, Precedes, at}
 use Rattle.fbl_runs.specs.Logs.{IsRun, RunParts}
@@ -27,17 +27,16 @@ abbrev pub is_told : Entry → Bool
 is_told (Told m) = true
 is_told e = false
 
--- it is known on what each entry depends, or that is what happened before it, since no member is told a control message
-abbrev pub AreDependences : List Entry → Option (List Advance) → Type 0
-AreDependences entries (Some advances) = AreAdvances Dependence entries (length entries) advances
+-- the clocks are those of the entries' dependences, or those are what happened before them, since no member is told a control message
+abbrev pub AreDependences : List Entry → Option Clocks → Type 0
+AreDependences entries (Some clocks) = AreClocks Dependence entries (length entries) clocks
 AreDependences entries None = list_any is_told entries ≡ false
 
--- the run obeys its rules, the index is of its entries, two clocks are those of nothing and of all, and of each entry it is known what
--- happened before it and on what it depends
-pub record AreOf (run : RunParts) (indexed : List Entry) (empty full : Clock) (befores : List Advance) (dependences : Option (List Advance)) : Type 0 where
+-- the run obeys its rules, the index is of its entries, a clock is that of all, and it is known what happened before each entry and on what
+-- it depends
+pub record AreOf (run : RunParts) (indexed : List Entry) (full : Clock) (befores : Clocks) (dependences : Option Clocks) : Type 0 where
   pub rules : IsRun run
   pub index : indexed ≡ run.entries
-  pub none : IsNoClock empty
   pub last : (q : ℕ) → cut_of full q ≡ length (log_of run.entries q)
-  pub before : AreAdvances HappenedBefore run.entries (length run.entries) befores
+  pub before : AreClocks HappenedBefore run.entries (length run.entries) befores
   pub depends : AreDependences run.entries dependences

@@ -10,7 +10,7 @@ use Rattle.fbl_runs.specs.declared.entry.Entry.{Entry}
 use Rattle.fbl_runs.specs.declared.entry.Entry.TheVariants.{Event}
 use Rattle.fbl_runs.specs.Clocks.{StandsAt}
 use Rattle.fbl_runs.specs.Entries.{log_of}
-use Rattle.fbl_runs.specs.HappenedBefore.{Leads, Position, Precedes, at}
+use Rattle.fbl_runs.specs.HappenedBefore.{Leads, Position, at}
 use Rattle.fbl_runs.specs.Logs.{RunParts}
 use Rattle.fbl_runs.specs.Moments.{DependsOn, IsFirstDependent}
 
@@ -52,18 +52,17 @@ DependsIn run d members q = (set.contains members q ≡ true) × DependsSome run
 
 -- ---- how paths are found
 
--- the entry at the place depends on that at the start
-abbrev pub PlacePrecedes : List Entry → ℕ → ℕ → Type 0
-PlacePrecedes entries start place = (i : Position) × (j : Position) × StandsAt entries start i × StandsAt entries place j × Precedes Dependence (log_of entries) i j
-
 -- the places are those of the receipt, and of the member's first entry that depends on it
-pub record ArePathEnds (run : RunParts) (d : Determinant) (member start end : ℕ) : Type 0 where
-  pub receipt : slice_get run.entries start ≡ Some (Event (receipt_of d))
-  pub dependent : IsDependentPlace run d member end
-  pub precedes : PlacePrecedes run.entries start end
+abbrev pub ArePathEnds : RunParts → Determinant → ℕ → ℕ → ℕ → Type 0
+ArePathEnds run d member start end = (slice_get run.entries start ≡ Some (Event (receipt_of d))) × IsDependentPlace run d member end
 
--- a step leads from the place to p, which stands behind it, and the entry at the start precedes the one at the place; where there is none,
--- p is the start
-abbrev pub IsBefore : List Entry → ℕ → ℕ → Option ℕ → Type 0
-IsBefore entries start p None = p ≡ start
-IsBefore entries start p (Some before) = (before < p) × PlaceLeads entries before p × PlacePrecedes entries start before
+-- it is the place of some member's first entry that depends on the receipt
+abbrev pub IsFirstPlace : RunParts → Determinant → ℕ → Type 0
+IsFirstPlace run d place = (member : ℕ) × IsDependentPlace run d member place
+
+-- steps lead from the first of the places, which is such a place, to the second, which stands behind it, and from there to p; where there
+-- are none, p is the start
+abbrev pub ArePlacesBefore : RunParts → Determinant → ℕ → ℕ → Option (ℕ × ℕ) → Type 0
+ArePlacesBefore run d start p None = p ≡ start
+ArePlacesBefore run d start p (Some (send, first)) =
+    (first < send) × (send < p) × PlaceLeads run.entries first send × PlaceLeads run.entries send p × IsFirstPlace run d first

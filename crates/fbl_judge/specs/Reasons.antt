@@ -7,10 +7,11 @@ use Rattle.fbl_judge.specs.declared.check.UnsafeReceipt.{UnsafeReceipt}
 use Rattle.fbl_judge.specs.declared.reason.Reason.{Reason}
 use Rattle.fbl_judge.specs.Audits.{end_of}
 use Rattle.fbl_judge.specs.Paths.{ArePathsFrom}
+use Rattle.fbl_judge.specs.Records.{IsRecordAt}
 use Rattle.fbl_judge.specs.Unsafe.{IsSaidOf}
 use Rattle.fbl_runs.specs.declared.entry.Entry.{Entry}
 use Rattle.fbl_runs.specs.Clocks.{StandsAt}
-use Rattle.fbl_runs.specs.Entries.{entry_member, log_of, recorded_in}
+use Rattle.fbl_runs.specs.Entries.{entry_member, log_of}
 use Rattle.fbl_runs.specs.HappenedBefore.{Position}
 use Rattle.fbl_runs.specs.Logs.{RunParts}
 use Rattle.fbl_runs.specs.Moments.{Cut, DependsAt, HasCome, HoldsAt}
@@ -21,8 +22,7 @@ cut_in counts q = slice_index counts q
 
 -- the place has a hold or a store of the determinant that has not come at the cut
 abbrev pub IsToCome : List Entry → Cut → Determinant → ℕ → Type 0
-IsToCome entries cut d place =
-    (e : Entry) × (i : Position) × (slice_get entries place ≡ Some e) × StandsAt entries place i × (recorded_in e ≡ Some d) × ¬ (HasCome cut i)
+IsToCome entries cut d place = IsRecordAt entries d place × ((i : Position) × StandsAt entries place i × ¬ (HasCome cut i))
 
 -- it is the first such place, if there is one
 abbrev pub IsNextPlace : List Entry → Cut → Determinant → Option ℕ → Type 0

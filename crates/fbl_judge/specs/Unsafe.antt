@@ -1,5 +1,5 @@
 -- Unsafe receipts of a run, and what is said of each.
-use Rattle.std.specs.Prelude.{ℕ, ◌≡◌, ◌<◌, ◌≤◌, ◌⊎◌, ◌↔◌, true, false, List, [], ◌∷◌, Option, Some, None}
+use Rattle.std.specs.Prelude.{ℕ, ◌≡◌, ◌<◌, ◌≤◌, ◌⊎◌, ◌↔◌, true, false, List, [], ◌∷◌, ◌++◌, Option, Some, None, slice_get}
 use Rattle.std.specs.FinSet as set
 use Rattle.fbl_trace.specs.declared.trace.Determinant.{Determinant}
 use Rattle.fbl_trace.specs.MemberSets.{Members}
@@ -7,7 +7,7 @@ use Rattle.fbl_judge.specs.declared.check.UnsafeReceipt.{UnsafeReceipt}
 use Rattle.fbl_runs.specs.declared.judged.Judged.{Judged}
 use Rattle.fbl_runs.specs.declared.judged.Judged.TheVariants.{AtEachMoment, AtItsEnd}
 use Rattle.fbl_runs.specs.Clocks.{StandsAt}
-use Rattle.fbl_runs.specs.Entries.{log_of}
+use Rattle.fbl_runs.specs.Entries.{log_of, receipts_in}
 use Rattle.fbl_runs.specs.HappenedBefore.{Position}
 use Rattle.fbl_runs.specs.Logs.{RunParts, run_of}
 use Rattle.fbl_runs.specs.Moments.{Cut, DependsAt, IsFirstDependent, IsLeastMoment, IsStoredAt, last_cut}
@@ -89,3 +89,11 @@ SaysUnsafe run [] said = said ≡ []
 SaysUnsafe run (d ∷ ds) said =
     (¬ (IsUnsafe (run_of run) d) × SaysUnsafe run ds said)
     ⊎ ((first : UnsafeReceipt) × (rest : List UnsafeReceipt) × (said ≡ first ∷ rest) × IsSaidOf run d first × SaysUnsafe run ds rest)
+
+-- it is said of the first unsafe one of the run's receipts
+pub record IsFirstUnsafe (run : RunParts) (said : UnsafeReceipt) : Type 0 where
+  pub front : List Determinant
+  pub rest : List Determinant
+  pub listed : receipts_in run.entries ≡ front ++ said.determinant ∷ rest
+  pub safe : (k : ℕ) (d : Determinant) → slice_get front k ≡ Some d → ¬ (IsUnsafe (run_of run) d)
+  pub says : IsSaidOf run said.determinant said

@@ -42,7 +42,7 @@ pub fn audit_of(alloc: Global, pasts: &Pasts<'_>) -> Result<Audit, AllocError>
         if let Some(determinant) = entry.receipt() {
             if loses(pasts, &determinant, &last) {
                 lost.push(determinant)?;
-                let reached = pasts.reached(determinant.to, pasts.advance(place).number, &last);
+                let reached = pasts.reached(determinant.to, pasts.number(place), &last);
                 dependents = dependents.union(reached);
             }
         }

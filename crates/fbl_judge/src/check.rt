@@ -9,8 +9,8 @@ ghost use Rattle.fbl_runs.specs.Indexes.{AreRecords};
 ghost use Rattle.fbl_runs.specs.Logs.{IsRun, run_of};
 ghost use Rattle.fbl_runs.specs.Moments.{IsReceiptAt};
 ghost use Rattle.fbl_runs.specs.Runs.{IsSafe};
-ghost use Rattle.fbl_judge.specs.Candidates.{HasNoCandidate, IsCandidateOf, IsFirstBelow, IsFirstOf, IsLeastIn, IsSaidAtEnd, IsUnsafeAtEnd};
-ghost use Rattle.fbl_judge.specs.Unsafe.{IsFewer, IsLeastStrike, IsLeftOrphanAt, IsSaidOf, IsUnsafe, ListsFirst, SaysUnsafe};
+ghost use Rattle.fbl_judge.specs.Candidates.{HasNoCandidate, IsCandidateOf, IsFirstBelow, IsFirstOf, IsLeastIn, IsSaidAtEnd, IsSaidFirst, IsUnsafeAtEnd};
+ghost use Rattle.fbl_judge.specs.Unsafe.{IsFewer, IsFirstUnsafe, IsLeastStrike, IsLeftOrphanAt, IsSaidOf, IsUnsafe, ListsFirst, SaysUnsafe};
 
 use crate::pasts::Pasts;
 use fbl_runs::{Clock, Judged, Records};
@@ -29,6 +29,19 @@ pub struct UnsafeReceipt {
     pub strike: MemberSet,
     /// The members outside these that depend on it there. There is one at least.
     pub orphans: MemberSet,
+}
+
+/// A member that the loss of others may leave as an orphan of a receipt, at the least moment at which it depends on it.
+#[derive(Clone, Copy)]
+struct Candidate {
+    /// The member.
+    orphan: Member,
+    /// The number of its first entry that depends on the receipt.
+    first: usize,
+    /// The moment.
+    moment: Clock,
+    /// The least members whose loss there loses the receipt.
+    strike: MemberSet,
 }
 
 /// The least members whose loss at the clock's cut loses the receipt of whose determinant these are the records, if they may be lost.
@@ -97,14 +110,14 @@ fn unsafe_at_end(
     })
 }
 
-/// What is to be said of the receipt with the member as its orphan, at the least moment at which the member depends on it.
-fn candidate(
+/// The receipt's candidate with the member as its orphan, if it has one.
+fn candidate_of(
     pasts: &Pasts<'_>,
     records: &Records,
     determinant: &Determinant,
     number: usize,
     member: Member,
-) -> Option<UnsafeReceipt>
+) -> Option<Candidate>
     requires run { IsRun pasts.now }
     requires records { AreRecords (log_of pasts.now.entries) determinant.now records.now }
     requires receipt { IsReceiptAt (log_of pasts.now.entries) determinant.now (at determinant.now.to number) }
@@ -117,11 +130,11 @@ fn candidate(
     if strike.has(member) {
         return None;
     }
-    Some(UnsafeReceipt {
-        determinant: *determinant,
-        at: Some(pasts.index().place(member, first)),
+    Some(Candidate {
+        orphan: member,
+        first,
+        moment,
         strike,
-        orphans: orphans_at(pasts, determinant, number, &moment, strike),
     })
 }
 
@@ -155,10 +168,7 @@ fn is_fewer(first: MemberSet, other: MemberSet) -> bool
 }
 
 /// Of the two, the first of which is of a lesser member, the candidate that comes first.
-fn first_candidate(
-    first: Option<UnsafeReceipt>,
-    next: Option<UnsafeReceipt>,
-) -> Option<UnsafeReceipt>
+fn earlier_candidate(first: Option<Candidate>, next: Option<Candidate>) -> Option<Candidate>
     ensures { IsFirstOf first next result }
 {
     match (first, next) {
@@ -174,7 +184,28 @@ fn first_candidate(
     }
 }
 
-/// What is to be said of the receipt at some moment: of its candidates the one that comes first.
+/// Of the receipt's candidates the one that comes first.
+fn first_candidate(
+    pasts: &Pasts<'_>,
+    records: &Records,
+    determinant: &Determinant,
+    number: usize,
+) -> Option<Candidate>
+    requires run { IsRun pasts.now }
+    requires records { AreRecords (log_of pasts.now.entries) determinant.now records.now }
+    requires receipt { IsReceiptAt (log_of pasts.now.entries) determinant.now (at determinant.now.to number) }
+    ensures { IsFirstBelow pasts.now determinant.now 16 result }
+{
+    let mut first = None;
+    for member_number in 0..16u8 {
+        let member = Member::at(member_number);
+        let next = candidate_of(pasts, records, determinant, number, member);
+        first = earlier_candidate(first, next);
+    }
+    first
+}
+
+/// What is to be said of the receipt at some moment: that of the candidate that comes first.
 fn unsafe_at_moment(
     pasts: &Pasts<'_>,
     records: &Records,
@@ -184,15 +215,21 @@ fn unsafe_at_moment(
     requires run { IsRun pasts.now }
     requires records { AreRecords (log_of pasts.now.entries) determinant.now records.now }
     requires receipt { IsReceiptAt (log_of pasts.now.entries) determinant.now (at determinant.now.to number) }
-    ensures { IsFirstBelow pasts.now determinant.now 16 result }
+    ensures { IsSaidFirst pasts.now determinant.now result }
 {
-    let mut first = None;
-    for member_number in 0..16u8 {
-        let member = Member::at(member_number);
-        let next = candidate(pasts, records, determinant, number, member);
-        first = first_candidate(first, next);
-    }
-    first
+    let candidate = first_candidate(pasts, records, determinant, number)?;
+    let Candidate {
+        orphan,
+        first,
+        moment,
+        strike,
+    } = candidate;
+    Some(UnsafeReceipt {
+        determinant: *determinant,
+        at: Some(pasts.index().place(orphan, first)),
+        strike,
+        orphans: orphans_at(pasts, determinant, number, &moment, strike),
+    })
 }
 
 /// What is to be said of the receipt with the determinant: nothing where it is safe, or none of the run.
@@ -228,4 +265,18 @@ pub fn unsafe_receipts(alloc: Global, pasts: &Pasts<'_>) -> Result<Vec<UnsafeRec
         }
     }
     Ok(unsafe_receipts)
+}
+
+/// The first of these receipts, found without the others.
+pub fn first_unsafe(pasts: &Pasts<'_>) -> Option<UnsafeReceipt>
+    ensures { MatchOption result (IsSafe (run_of pasts.now)) (IsFirstUnsafe pasts.now) }
+{
+    for entry in pasts.entries() {
+        if let Some(determinant) = entry.receipt() {
+            if let Some(receipt) = unsafe_receipt(pasts, &determinant) {
+                return Some(receipt);
+            }
+        }
+    }
+    None
 }

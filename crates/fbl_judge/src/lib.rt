@@ -11,9 +11,10 @@ pub mod laws;
 mod pasts;
 mod paths;
 mod reason;
+mod records;
 
 pub use audit::{Audit, audit_of, first_cause, first_on_any};
-pub use check::{UnsafeReceipt, unsafe_receipts};
+pub use check::{UnsafeReceipt, first_unsafe, unsafe_receipts};
 pub use pasts::Pasts;
 pub use paths::{OrphanPath, path_to, paths_to};
-pub use reason::{Reason, loss_reason, loss_reasons, unsafe_reason, unsafe_reasons};
+pub use reason::{Reason, loss_reasons, unsafe_reasons};

@@ -1,20 +1,21 @@
 //! The pasts of a run's entries: which entries precede which.
 
-ghost use Rattle.std.specs.Prelude.{◌≡◌, ◌<◌, ◌+◌, ◌≤◌, ◌↔◌, ℕ, Some, true, IfOk, MatchOption, length, option_map, slice_get};
+ghost use Rattle.std.specs.Prelude.{◌≡◌, ◌<◌, ◌+◌, ◌≤◌, ◌↔◌, ℕ, Some, true, IfOk, MatchOption, length, slice_get};
 ghost use Rattle.std.specs.List.{list_any};
 ghost use Rattle.std.specs.FinSet as set;
-ghost use Rattle.fbl_runs.specs.Clocks.{AreAdvances, IsAdvance, IsClock, IsLawful, PrecedesSome, StandsAt, cut_of};
+ghost use Rattle.fbl_runs.specs.Clocks.{AreClocks, IsLawful, PrecedesSome, StandsAt, cut_of};
 ghost use Rattle.fbl_runs.specs.Entries.{log_of};
-ghost use Rattle.fbl_runs.specs.HappenedBefore.{Position, Precedes, at};
+ghost use Rattle.fbl_runs.specs.HappenedBefore.{IsAt, Position, Precedes, at};
 ghost use Rattle.fbl_runs.specs.Moments.{DependsAt, IsFirstDependent};
-ghost use Rattle.fbl_runs.specs.declared.causality.Causality.TheVariants.{Dependence, HappenedBefore};
+ghost use Rattle.fbl_runs.specs.declared.causality.Causality.TheVariants.{Dependence};
 ghost use Rattle.fbl_runs.specs.declared.entry.Entry.TheVariants.{Event};
 ghost use Rattle.fbl_trace.specs.Events.{receipt_of};
+ghost use Rattle.fbl_trace.specs.declared.trace.Mark.TheVariants.{Send};
 ghost use Rattle.fbl_judge.specs.Pasts.{AreDependences, IsFirstAfter, IsLeastMomentOfReceipt, is_told};
 ghost use Rattle.fbl_judge.specs.Paths.{ArePathEnds, DependsSome, IsDependentPlace};
 ghost use Rattle.fbl_runs.specs.Logs.{IsRun};
 
-use fbl_runs::{Advance, Causality, Clock, Clocks, Entry, Index, Run};
+use fbl_runs::{Causality, Clock, Clocks, Entry, Index, Run};
 use fbl_trace::{Determinant, Member, MemberSet};
 use std::alloc::{AllocError, Global};
 use std::marker::Model;
@@ -24,15 +25,13 @@ use std::marker::Model;
 pub struct Pasts<'a> {
     run: &'a Run,
     index: Index<'a>,
-    /// The clock at which nothing has come.
-    none: Clock,
     /// The clock at which all entries have come.
     last: Clock,
-    /// For each entry, at its place, what happened before it.
-    before: Vec<Advance>,
-    /// For each entry, at its place, on what it depends: none are kept where no member is told a control message, since it then depends on
-    /// what happened before it.
-    depends: Option<Vec<Advance>>,
+    /// What happened before each entry.
+    before: Clocks,
+    /// On what each entry depends: nothing is kept where no member is told a control message, since it then depends on what happened before
+    /// it.
+    depends: Option<Clocks>,
 }
 
 impl<'a> Model for Pasts<'a> {
@@ -50,9 +49,7 @@ impl<'a> Model for Pasts<'a> {
 
     ghost view = { λ p. p.run.now };
 
-    ghost use Rattle.std.specs.Prelude.{option_map};
-
-    ghost invariant = { λ p. AreOf p.run.now p.index p.none p.last p.before.items (option_map (λ v. v.items) p.depends) };
+    ghost invariant = { λ p. AreOf p.run.now p.index p.last p.before p.depends };
 }
 
 /// Whether the entry's member is told a control message.
@@ -72,32 +69,15 @@ fn is_any_told(entries: &[Entry]) -> bool
     entries.iter().any(|entry| is_told(entry))
 }
 
-/// What a pass over the entries knows of each.
-fn advances_of(
-    alloc: Global,
-    entries: &[Entry],
-    causality: Causality,
-) -> Result<Vec<Advance>, AllocError>
-    requires { IsLawful entries.now }
-    ensures { IfOk result (λ v. AreAdvances causality entries.now (length entries.now) v.items) }
-{
-    let mut pass = Clocks::new(alloc, causality);
-    let mut advances = Vec::with_capacity(alloc, entries.len())?;
-    for place in 0..entries.len() {
-        advances.push(pass.add(entries, place)?)?;
-    }
-    Ok(advances)
-}
-
 /// On what each of the entries depends, unless that is what happened before it, since no member is told a control message.
-fn dependences_of(alloc: Global, entries: &[Entry]) -> Result<Option<Vec<Advance>>, AllocError>
+fn dependences_of(alloc: Global, entries: &[Entry]) -> Result<Option<Clocks>, AllocError>
     requires { IsLawful entries.now }
-    ensures { IfOk result (λ depends. AreDependences entries.now (option_map (λ v. v.items) depends)) }
+    ensures { IfOk result (AreDependences entries.now) }
 {
     if !is_any_told(entries) {
         return Ok(None);
     }
-    Ok(Some(advances_of(alloc, entries, Causality::Dependence)?))
+    Ok(Some(Clocks::of(alloc, Causality::Dependence, entries)?))
 }
 
 impl<'a> Pasts<'a> {
@@ -107,14 +87,13 @@ impl<'a> Pasts<'a> {
         ensures { IfOk result (λ pasts. pasts ≡ run.now) }
     {
         let entries = run.entries();
-        let before = advances_of(alloc, entries, Causality::HappenedBefore)?;
+        let before = Clocks::of(alloc, Causality::HappenedBefore, entries)?;
         let depends = dependences_of(alloc, entries)?;
         let index = Index::of(alloc, entries)?;
         let last = index.last();
         Ok(Pasts {
             run,
             index,
-            none: Clock::none(),
             last,
             before,
             depends,
@@ -137,26 +116,25 @@ impl<'a> Pasts<'a> {
         self.run.entries()
     }
 
-    /// What a pass over the entries knows of the entry at the place: what happened before it, or on what it depends.
-    fn known(&self, causality: Causality, place: usize) -> &Advance
-        requires { place < length self.now.entries }
-        ensures { IsAdvance causality self.now.entries place result.now }
+    /// What happened before each entry, or on what it depends.
+    fn clocks(&self, causality: Causality) -> &Clocks
+        ensures { AreClocks causality self.now.entries (length self.now.entries) result.now }
     {
         match causality {
-            Causality::HappenedBefore => &self.before[place],
+            Causality::HappenedBefore => &self.before,
             Causality::Dependence => match &self.depends {
-                Some(depends) => &depends[place],
-                None => &self.before[place],
+                Some(depends) => depends,
+                None => &self.before,
             },
         }
     }
 
-    /// What a pass over the entries knows of the entry at the place, and of what happened before it.
-    pub fn advance(&self, place: usize) -> &Advance
+    /// How many entries stand before the one at the place in its member's log.
+    pub fn number(&self, place: usize) -> usize
         requires { place < length self.now.entries }
-        ensures { IsAdvance HappenedBefore self.now.entries place result.now }
+        ensures { (i : Position) → StandsAt self.now.entries place i → result ≡ i.number }
     {
-        self.known(Causality::HappenedBefore, place)
+        self.before.number(place)
     }
 
     /// The entries' index.
@@ -173,28 +151,17 @@ impl<'a> Pasts<'a> {
         self.last
     }
 
-    /// The clock of the member's first entries, this many.
-    fn clock(&self, causality: Causality, member: Member, count: usize) -> &Clock
-        requires { count ≤ length (log_of self.now.entries member) }
-        ensures { IsClock causality (log_of self.now.entries) member count (cut_of result.now) }
-    {
-        if count == 0 {
-            return &self.none;
-        }
-        &self
-            .known(causality, self.index.place(member, count - 1))
-            .with
-    }
-
     /// Whether one of the member's first entries, this many, depends on the source's entry with the number.
     fn precedes(&self, source: Member, number: usize, member: Member, count: usize) -> bool
         requires { count ≤ length (log_of self.now.entries member) }
         ensures { (result ≡ true) ↔ PrecedesSome Dependence (log_of self.now.entries) (at source number) member count }
     {
-        number
-            < self
-                .clock(Causality::Dependence, member, count)
-                .count(source)
+        if count == 0 {
+            return false;
+        }
+        let place = self.index.place(member, count - 1);
+        let depends = self.clocks(Causality::Dependence);
+        number < depends.count_at(member, place, source)
     }
 
     /// How many of the member's entries stand before the first that depends on the source's entry with the number: all where none does.
@@ -238,8 +205,9 @@ impl<'a> Pasts<'a> {
         ensures within { (q : ℕ) → cut_of result q ≤ length (log_of self.now.entries q) }
     {
         let end = self.index.step_end(member, number);
-        let clock = self.clock(Causality::HappenedBefore, member, number + 1);
-        clock.reaching(member, end)
+        let place = self.index.place(member, number);
+        let before = self.clocks(Causality::HappenedBefore);
+        before.clock_at(member, place).reaching(member, end)
     }
 
     /// The least moment at which the entry at the place, a receipt, has come.
@@ -248,8 +216,8 @@ impl<'a> Pasts<'a> {
         ensures { (i : Position) → StandsAt self.now.entries place i
             → IsLeastMomentOfReceipt (log_of self.now.entries) i (cut_of result) }
     {
-        let advance = self.advance(place);
-        self.moment(advance.member, advance.number)
+        let member = self.entries()[place].member();
+        self.moment(member, self.number(place))
     }
 
     /// The members that have an entry at the clock's cut that depends on the source's entry with the number.
@@ -278,6 +246,16 @@ impl<'a> Pasts<'a> {
     {
         let number = self.index.receipt_number(determinant)?;
         Some(self.index.place(determinant.to, number))
+    }
+
+    /// The number, in its sender's log, of the send whose message the receipt with the determinant takes.
+    pub(crate) fn send_number(&self, receipt: &Determinant) -> Option<usize>
+        ensures { MatchOption result
+            ((k : ℕ) → ¬ (IsAt (log_of self.now.entries) (at receipt.now.from k) (Event (Send receipt.now.from receipt.now.ssn receipt.now.to))))
+            (λ k. IsAt (log_of self.now.entries) (at receipt.now.from k) (Event (Send receipt.now.from receipt.now.ssn receipt.now.to))) }
+    {
+        let Determinant { from, ssn, to, .. } = *receipt;
+        self.before.send_number(from, ssn, to)
     }
 
     /// The number of the member's first entry that depends on the receipt with the determinant.

@@ -1,17 +1,13 @@
 //! Why a member depends on a receipt: a path from the one to the other.
 
-ghost use Rattle.std.specs.Prelude.{◌≡◌, ◌<◌, ◌≤◌, ℕ, Some, IfOk, IfNone, IfSome, MatchOption, slice_get};
+ghost use Rattle.std.specs.Prelude.{◌≡◌, ℕ, Some, IfOk, IfNone, IfSome, MatchOption, slice_get};
 ghost use Rattle.fbl_trace.specs.Events.{receipt_of};
 ghost use Rattle.fbl_trace.specs.declared.trace.Mark.TheVariants.{Send};
-ghost use Rattle.fbl_runs.specs.Clocks.{StandsAt};
-ghost use Rattle.fbl_runs.specs.Entries.{log_of};
-ghost use Rattle.fbl_runs.specs.HappenedBefore.{IsAt, at};
 ghost use Rattle.fbl_runs.specs.declared.entry.Entry.TheVariants.{Event};
-ghost use Rattle.fbl_judge.specs.Paths.{ArePathsFrom, DependsIn, DependsSome, IsBefore, IsPathTo, PlacePrecedes};
+ghost use Rattle.fbl_judge.specs.Paths.{ArePathsFrom, ArePlacesBefore, DependsIn, DependsSome, IsFirstPlace, IsPathTo};
 
 use crate::pasts::Pasts;
-use fbl_runs::Entry;
-use fbl_trace::{Determinant, Mark, Member, MemberSet};
+use fbl_trace::{Determinant, Member, MemberSet};
 use std::alloc::{AllocError, Global};
 
 /// A member that depends on a receipt, and a path from the receipt to it.
@@ -23,52 +19,38 @@ pub struct OrphanPath {
     pub places: Vec<usize>,
 }
 
-/// The place of the send whose message the receipt takes, if it is one of the sender's entries from the one with the number on.
-fn send_place(pasts: &Pasts<'_>, receipt: &Determinant, number: usize) -> Option<usize>
+/// The place of the send whose message the receipt takes.
+fn send_place(pasts: &Pasts<'_>, receipt: &Determinant) -> Option<usize>
     ensures { MatchOption result
-        ((k : ℕ) → number ≤ k
-        → ¬ (IsAt (log_of pasts.now.entries) (at receipt.now.from k)
-        (Event (Send receipt.now.from receipt.now.ssn receipt.now.to))))
-        (λ place. (k : ℕ) × StandsAt pasts.now.entries place (at receipt.now.from k)
-        × (slice_get pasts.now.entries place
-        ≡ Some (Event (Send receipt.now.from receipt.now.ssn receipt.now.to)))
-        × (number ≤ k)) }
+        ((place : ℕ)
+        → ¬ (slice_get pasts.now.entries place ≡ Some (Event (Send receipt.now.from receipt.now.ssn receipt.now.to))))
+        (λ place. slice_get pasts.now.entries place
+        ≡ Some (Event (Send receipt.now.from receipt.now.ssn receipt.now.to))) }
 {
-    let Determinant { from, ssn, to, .. } = *receipt;
-    let send = Entry::Event(Mark::Send { from, ssn, to });
-    let entries = pasts.entries();
-    for next in number..pasts.index().count(from) {
-        let place = pasts.index().place(from, next);
-        if entries[place] == send {
-            return Some(place);
-        }
-    }
-    None
+    let number = pasts.send_number(receipt)?;
+    Some(pasts.index().place(receipt.from, number))
 }
 
-/// The place of the entry that stands before the one at this place on a path from the receipt with the determinant, which stands at the
-/// start: its member's first entry that depends on the receipt, or else the send whose message it takes.
-fn place_before(
+/// The places of the two entries that stand before the one at this place on a path from the receipt with the determinant, which stands at
+/// the start. This one is its member's first entry that depends on the receipt: before it stands the send whose message it takes, and
+/// before that the sender's first entry that depends on the receipt.
+fn places_before(
     pasts: &Pasts<'_>,
     determinant: &Determinant,
     start: usize,
     place: usize,
-) -> Option<usize>
+) -> Option<(usize, usize)>
     requires start { slice_get pasts.now.entries start ≡ Some (Event (receipt_of determinant.now)) }
-    requires precedes { PlacePrecedes pasts.now.entries start place }
-    ensures { IsBefore pasts.now.entries start place result }
+    requires first { IsFirstPlace pasts.now determinant.now place }
+    ensures { ArePlacesBefore pasts.now determinant.now start place result }
 {
     if place == start {
         return None;
     }
-    let entry = &pasts.entries()[place];
-    let first = pasts.dependent_place(determinant, entry.member())?;
-    if first < place {
-        return Some(first);
-    }
-    let receipt = entry.receipt()?;
-    let number = pasts.first_dependent(determinant, receipt.from)?;
-    send_place(pasts, &receipt, number)
+    let receipt = pasts.entries()[place].receipt()?;
+    let send = send_place(pasts, &receipt)?;
+    let first = pasts.dependent_place(determinant, receipt.from)?;
+    Some((send, first))
 }
 
 /// The places of a path from the receipt with the determinant to the member, if the member depends on it, as `OrphanPath` has them. The
@@ -88,9 +70,10 @@ pub fn path_to(
     let mut path = Vec::new(alloc);
     path.push(end)?;
     let mut place = end;
-    while let Some(before) = place_before(pasts, determinant, start, place) {
-        place = before;
-        path.push(place)?;
+    while let Some((send, first)) = places_before(pasts, determinant, start, place) {
+        path.push(send)?;
+        path.push(first)?;
+        place = first;
     }
     path.reverse();
     Ok(Some(path))

@@ -1,17 +1,20 @@
 //! Why a receipt is unsafe where the run is judged, or lost at its end.
 
-ghost use Rattle.std.specs.Prelude.{◌≡◌, ◌≤◌, ◌↔◌, ℕ, true, IfOk, Some, length, slice_get};
+ghost use Rattle.std.specs.Prelude.{◌≡◌, ◌<◌, ◌↔◌, true, IfOk, length};
 ghost use Rattle.std.specs.List.{All};
-ghost use Rattle.fbl_runs.specs.Clocks.{cut_of};
-ghost use Rattle.fbl_runs.specs.Entries.{log_of, recorded_in};
+ghost use Rattle.fbl_runs.specs.Clocks.{StandsAt, cut_of};
+ghost use Rattle.fbl_runs.specs.HappenedBefore.{Position};
+ghost use Rattle.fbl_runs.specs.Moments.{HasCome};
 ghost use Rattle.fbl_judge.specs.Paths.{DependsIn};
+ghost use Rattle.fbl_judge.specs.Records.{AreRecordPlaces};
 ghost use Rattle.fbl_judge.specs.Reasons.{AreLossReasons, AreUnsafeReasons, IsLossReason, IsNextPlace, IsReasonAt, IsUnsafeReason};
 ghost use Rattle.fbl_judge.specs.Unsafe.{IsSaidOf};
 
 use crate::check::UnsafeReceipt;
 use crate::pasts::Pasts;
 use crate::paths::{OrphanPath, paths_to};
-use fbl_runs::{Clock, Entry};
+use crate::records::RecordPlaces;
+use fbl_runs::Clock;
 use fbl_trace::{Determinant, MemberSet};
 use std::alloc::{AllocError, Global};
 
@@ -34,26 +37,31 @@ pub struct Reason {
     pub paths: Vec<OrphanPath>,
 }
 
-/// Whether the entry is a hold or a store of the determinant.
-fn records(entry: &Entry, determinant: &Determinant) -> bool
-    ensures { (result ≡ true) ↔ (recorded_in entry.now ≡ Some determinant.now) }
+/// Whether the entry at the place has come at the clock's cut.
+fn has_come(pasts: &Pasts<'_>, place: usize, moment: &Clock) -> bool
+    requires { place < length pasts.now.entries }
+    ensures { (i : Position) → StandsAt pasts.now.entries place i → (result ≡ true) ↔ HasCome (cut_of moment.now) i }
 {
-    match entry.recorded() {
-        Some(recorded) => recorded == *determinant,
-        None => false,
-    }
+    let member = pasts.entries()[place].member();
+    pasts.number(place) < moment.count(member)
 }
 
 /// The place of the first hold or store of the determinant that has not come at the clock's cut.
-fn next_place(pasts: &Pasts<'_>, determinant: &Determinant, moment: &Clock) -> Option<usize>
+fn next_place(
+    pasts: &Pasts<'_>,
+    records: &RecordPlaces,
+    determinant: &Determinant,
+    moment: &Clock,
+) -> Option<usize>
+    requires { AreRecordPlaces pasts.now.entries 0 records.now }
     ensures { IsNextPlace pasts.now.entries (cut_of moment.now) determinant.now result }
 {
-    for (place, entry) in pasts.entries().iter().enumerate() {
-        if records(entry, determinant)
-            && pasts.advance(place).number >= moment.count(entry.member())
-        {
+    let mut next = records.first(determinant);
+    while let Some(place) = next {
+        if !has_come(pasts, place, moment) {
             return Some(place);
         }
+        next = records.next(place);
     }
     None
 }
@@ -62,10 +70,12 @@ fn next_place(pasts: &Pasts<'_>, determinant: &Determinant, moment: &Clock) -> O
 fn reason_at(
     alloc: Global,
     pasts: &Pasts<'_>,
+    records: &RecordPlaces,
     receipt: &UnsafeReceipt,
     moment: &Clock,
     shown: MemberSet,
 ) -> Result<Reason, AllocError>
+    requires { AreRecordPlaces pasts.now.entries 0 records.now }
     ensures receipt { IfOk result
         (λ reason. (reason.determinant ≡ receipt.now.determinant) × (reason.at ≡ receipt.now.at)
         × (reason.strike ≡ receipt.now.strike)) }
@@ -78,27 +88,29 @@ fn reason_at(
         strike: receipt.strike,
         cut: moment.counts(),
         holders: pasts.index().records(&determinant).holders(moment),
-        next: next_place(pasts, &determinant, moment),
+        next: next_place(pasts, records, &determinant, moment),
         paths: paths_to(alloc, pasts, &determinant, shown)?,
     })
 }
 
 /// Why the receipt is unsafe, as `unsafe_receipts` says it. `Err` comes only where there is no memory for the paths.
-pub fn unsafe_reason(
+fn unsafe_reason(
     alloc: Global,
     pasts: &Pasts<'_>,
+    records: &RecordPlaces,
     receipt: &UnsafeReceipt,
 ) -> Result<Reason, AllocError>
-    requires { IsSaidOf pasts.now receipt.now.determinant receipt.now }
+    requires records { AreRecordPlaces pasts.now.entries 0 records.now }
+    requires said { IsSaidOf pasts.now receipt.now.determinant receipt.now }
     ensures { IfOk result (IsUnsafeReason pasts.now receipt.now) }
 {
     let Some(place) = receipt.at else {
         let end = pasts.last();
-        return reason_at(alloc, pasts, receipt, &end, receipt.orphans);
+        return reason_at(alloc, pasts, records, receipt, &end, receipt.orphans);
     };
     let moment = pasts.moment_at(place);
-    let shown = MemberSet::empty().with(pasts.advance(place).member);
-    reason_at(alloc, pasts, receipt, &moment, shown)
+    let shown = MemberSet::empty().with(pasts.entries()[place].member());
+    reason_at(alloc, pasts, records, receipt, &moment, shown)
 }
 
 /// Why each of these receipts is unsafe, as `unsafe_receipts` says them, in their order.
@@ -110,19 +122,22 @@ pub fn unsafe_reasons(
     requires { All (λ said. IsSaidOf pasts.now said.determinant said) receipts.now }
     ensures { IfOk result (λ v. AreUnsafeReasons pasts.now receipts.now v.items) }
 {
+    let records = RecordPlaces::of(alloc, pasts.entries())?;
     let mut reasons = Vec::new(alloc);
     for receipt in receipts {
-        reasons.push(unsafe_reason(alloc, pasts, receipt)?)?;
+        reasons.push(unsafe_reason(alloc, pasts, &records, receipt)?)?;
     }
     Ok(reasons)
 }
 
 /// Why the loss of the strike set loses the receipt with the determinant at the run's end, if it does.
-pub fn loss_reason(
+fn loss_reason(
     alloc: Global,
     pasts: &Pasts<'_>,
+    records: &RecordPlaces,
     determinant: &Determinant,
 ) -> Result<Reason, AllocError>
+    requires { AreRecordPlaces pasts.now.entries 0 records.now }
     ensures { IfOk result (IsLossReason pasts.now determinant.now) }
 {
     let end = pasts.last();
@@ -134,7 +149,7 @@ pub fn loss_reason(
         strike,
         orphans,
     };
-    reason_at(alloc, pasts, &lost, &end, orphans)
+    reason_at(alloc, pasts, records, &lost, &end, orphans)
 }
 
 /// Why each of these receipts is lost at the run's end, in their order.
@@ -145,9 +160,10 @@ pub fn loss_reasons(
 ) -> Result<Vec<Reason>, AllocError>
     ensures { IfOk result (λ v. AreLossReasons pasts.now lost.now v.items) }
 {
+    let records = RecordPlaces::of(alloc, pasts.entries())?;
     let mut reasons = Vec::new(alloc);
     for determinant in lost {
-        reasons.push(loss_reason(alloc, pasts, determinant)?)?;
+        reasons.push(loss_reason(alloc, pasts, &records, determinant)?)?;
     }
     Ok(reasons)
 }

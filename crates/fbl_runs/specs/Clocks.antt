@@ -1,5 +1,5 @@
 -- Vector clocks (Mattern 1988; Fidge 1988): how many of each member's first entries precede one of a member's first entries.
-use Rattle.std.specs.Prelude.{ℕ, ◌≡◌, ◌==◌, ◌&&◌, ◌+◌, ◌<◌, Bool, List, length, take, Option, Some, None, option_and_then, slice_get, slice_index, if◌then◌else◌}
+use Rattle.std.specs.Prelude.{ℕ, ◌≡◌, ◌==◌, ◌&&◌, ◌+◌, ◌<◌, Bool, List, length, take, max, Option, Some, None, option_and_then, slice_get, slice_index, if◌then◌else◌}
 use Rattle.std.specs.HashMap as hash_map
 use Rattle.fbl_trace.specs.declared.trace.Mark.{Mark}
 use Rattle.fbl_trace.specs.declared.trace.Mark.TheVariants.{Send, Receipt}
@@ -9,6 +9,7 @@ use Rattle.fbl_runs.specs.declared.causality.Causality.TheVariants.{HappenedBefo
 use Rattle.fbl_runs.specs.declared.clock.Clock.{Clock}
 use Rattle.fbl_runs.specs.declared.clocks.AddressedMessage.{AddressedMessage}
 use Rattle.fbl_runs.specs.declared.clocks.Clocks.{Clocks}
+use Rattle.fbl_runs.specs.declared.clocks.MemberClock.{MemberClock}
 use Rattle.fbl_runs.specs.declared.clocks.Advance.{Advance}
 use Rattle.fbl_runs.specs.declared.control.ControlMessage.{ControlMessage}
 use Rattle.fbl_runs.specs.declared.entry.Entry.{Entry}
@@ -71,17 +72,17 @@ sent_in e = option_and_then message_sent_by (mark_in e)
 abbrev pub taken_in : Entry → Option AddressedMessage
 taken_in e = option_and_then message_taken_by (mark_in e)
 
--- the clocks that are kept, with one more if this is kept
-abbrev pub kept_after : {M : Type 0} → (M → M → Bool) → (M → Option Clock) → Option M → Clock → M → Option Clock
+-- what is kept of messages, with one more if this is kept
+abbrev pub kept_after : {M : Type 0} → (M → M → Bool) → (M → Option MemberClock) → Option M → MemberClock → M → Option MemberClock
 kept_after same old None with k = old k
 kept_after same old (Some m) with k = if same m k then Some with else old k
 
 -- the clock of a message's send, if it was seen
-abbrev pub sent_clock : {S : Type 0} → hash_map.HashMap AddressedMessage Clock S → AddressedMessage → Option Clock
+abbrev pub sent_clock : {S : Type 0} → hash_map.HashMap AddressedMessage MemberClock S → AddressedMessage → Option MemberClock
 sent_clock map m = hash_map.get same_message map m
 
 -- the clock of a tell, if it was seen
-abbrev pub tell_clock : {S : Type 0} → hash_map.HashMap ControlMessage Clock S → ControlMessage → Option Clock
+abbrev pub tell_clock : {S : Type 0} → hash_map.HashMap ControlMessage MemberClock S → ControlMessage → Option MemberClock
 tell_clock map m = hash_map.get same_control map m
 
 -- the control message that the entry sends, if it is a tell
@@ -94,28 +95,55 @@ abbrev pub message_told_to : Causality → Entry → Option ControlMessage
 message_told_to HappenedBefore (Told m) = Some m
 message_told_to c e = None
 
--- the pass has seen the first p entries: it knows each member's clock, its number of entries, and the clocks of the sends and tells
+-- how many entries of each member have come by the clock, if there is one
+abbrev pub cut_in : Option Clock → Cut
+cut_in None q = 0
+cut_in (Some clock) q = cut_of clock q
+
+-- by the one that is kept at the place, if there is one
+abbrev pub kept_cut : List Clock → Option ℕ → Cut
+kept_cut arrivals None q = 0
+kept_cut arrivals (Some place) q = cut_in (slice_get arrivals place) q
+
+-- the cut of the member's clock
+abbrev pub clock_cut : List Clock → ℕ → MemberClock → Cut
+clock_cut arrivals m clock q = max (kept_cut arrivals clock.arrival q) (if q == m then clock.count else 0)
+
+-- that of one entry more, to which this is brought, but for the entry itself
+abbrev pub arrived_cut : List Clock → ℕ → MemberClock → Option Clock → Cut
+arrived_cut arrivals m latest None q = kept_cut arrivals latest.arrival q
+arrived_cut arrivals m latest (Some brought) q = max (clock_cut arrivals m latest q) (cut_of brought q)
+
+-- it is the clock of the member's first entries, so many, and what it takes is kept
+pub record IsMemberClock (c : Causality) (entries : List Entry) (arrivals : List Clock) (m n : ℕ) (clock : MemberClock) : Type 0 where
+  pub kept : (place : ℕ) → clock.arrival ≡ Some place → place < length arrivals
+  pub count : clock.count ≡ n
+  pub is : IsClock c (log_of entries) m n (clock_cut arrivals m clock)
+
+-- the clocks of the first p entries, at their places, and those of the sends and tells among them
+pub record AreClocks (c : Causality) (entries : List Entry) (p : ℕ) (clocks : Clocks) : Type 0 where
+  pub count : length clocks.places.items ≡ p
+  pub each : (i : ℕ) (e : Entry) (k : MemberClock) → slice_get entries i ≡ Some e → slice_get clocks.places.items i ≡ Some k
+      → IsMemberClock c entries clocks.arrivals.items (entry_member e) (seen entries i (entry_member e) + 1) k
+  pub sends : (k from ssn to : ℕ) → k < seen entries p from → IsAt (log_of entries) (at from k) (Event (Send from ssn to))
+      → (with : MemberClock) × (sent_clock clocks.sent (record { from = from; ssn = ssn; to = to }) ≡ Some with) × IsMemberClock c entries clocks.arrivals.items from (k + 1) with
+  pub sent : (m : AddressedMessage) (with : MemberClock) → sent_clock clocks.sent m ≡ Some with
+      → (k : ℕ) × (with.count ≡ k + 1) × IsAt (log_of entries) (at m.from k) (Event (Send m.from m.ssn m.to))
+  pub tells : (k : ℕ) (m : ControlMessage) → k < seen entries p m.from → IsAt (log_of entries) (at m.from k) (Tell m)
+      → (with : MemberClock) × (tell_clock clocks.tells m ≡ Some with) × IsMemberClock c entries clocks.arrivals.items m.from (k + 1) with
+
+-- the pass has seen the first p entries: it knows their clocks, and each member's
 pub record HasSeen (c : Causality) (entries : List Entry) (p : ℕ) (clocks : Clocks) : Type 0 where
   pub causality : clocks.causality ≡ c
   pub room : length clocks.latest ≡ 16
-  pub places : length clocks.numbers ≡ 16
-  pub clock : (m : ℕ) (k : Clock) → slice_get clocks.latest m ≡ Some k → IsClock c (log_of entries) m (seen entries p m) (cut_of k)
-  pub number : (m : ℕ) → m < 16 → slice_index clocks.numbers m ≡ seen entries p m
-  pub sends : (k from ssn to : ℕ) → k < seen entries p from → IsAt (log_of entries) (at from k) (Event (Send from ssn to))
-      → (with : Clock) × (sent_clock clocks.sent (record { from = from; ssn = ssn; to = to }) ≡ Some with) × IsClock c (log_of entries) from (k + 1) (cut_of with)
-  pub tells : (k : ℕ) (m : ControlMessage) → k < seen entries p m.from → IsAt (log_of entries) (at m.from k) (Tell m)
-      → (with : Clock) × (tell_clock clocks.tells m ≡ Some with) × IsClock c (log_of entries) m.from (k + 1) (cut_of with)
+  pub latest : (m : ℕ) (k : MemberClock) → slice_get clocks.latest m ≡ Some k → IsMemberClock c entries clocks.arrivals.items m (seen entries p m) k
+  pub known : AreClocks c entries p clocks
 
 -- what is known of the entry at the place: whose it is, its number, and its member's clock with it
 pub record IsAdvance (c : Causality) (entries : List Entry) (p : ℕ) (advance : Advance) : Type 0 where
   pub member : (e : Entry) → slice_get entries p ≡ Some e → entry_member e ≡ advance.member
   pub number : advance.number ≡ seen entries p advance.member
   pub with : IsClock c (log_of entries) advance.member (advance.number + 1) (cut_of advance.with)
-
--- that of each of the first p entries, at its place
-pub record AreAdvances (c : Causality) (entries : List Entry) (p : ℕ) (advances : List Advance) : Type 0 where
-  pub count : length advances ≡ p
-  pub each : (k : ℕ) (a : Advance) → slice_get advances k ≡ Some a → IsAdvance c entries k a
 
 -- the entries obey the rules of traces, and those of control messages
 abbrev pub IsLawful : List Entry → Type 0

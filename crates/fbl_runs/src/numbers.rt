@@ -79,18 +79,30 @@ impl Numbers {
         Ok(slot)
     }
 
+    /// Notes the entry with this number, which says that this is kept, if none before it did.
+    fn note_kept(&mut self, kept: Keeping, number: usize) -> Result<(), AllocError>
+        requires numbers { AreNumbers self.old }
+        requires number { number < usize.MAX }
+        ensures numbers { OnOk result (AreNumbers self.new) }
+        ensures first { OnOk result ((k : _) → first_of self.new k ≡ first_after (first_of self.old k) (Some kept) number k) }
+    {
+        let slot = self.slot(kept.determinant)?;
+        self.firsts[slot].note(kept.member, number);
+        Ok(())
+    }
+
     /// Notes the entry with this number, if it says that this is kept and none before it did.
+    #[inline]
     pub(crate) fn note(&mut self, kept: Option<Keeping>, number: usize) -> Result<(), AllocError>
         requires numbers { AreNumbers self.old }
         requires number { number < usize.MAX }
         ensures numbers { OnOk result (AreNumbers self.new) }
         ensures first { OnOk result ((k : _) → first_of self.new k ≡ first_after (first_of self.old k) kept number k) }
     {
-        if let Some(kept) = kept {
-            let slot = self.slot(kept.determinant)?;
-            self.firsts[slot].note(kept.member, number);
+        match kept {
+            Some(kept) => self.note_kept(kept, number),
+            None => Ok(()),
         }
-        Ok(())
     }
 
     /// How many entries each member has up to the first that says it of the determinant: 0 where none does.

@@ -33,9 +33,9 @@ loop-place-preserved c =
       | in-Some+then-loses+in_ok-push w ↦
           let d = w.in-Some.determinant in
           let lost : LosesAt (run_of log) (end_of log) log.strike d = subst (λ (cut : Cut). LosesAt (run_of log) cut log.strike d) (last c2) (w.loses.ensures.0 w.if-loses.true) in
-          let receipt = receipt_at log.entries k e d w.advance.result.now here (sym w.in-Some.ensures) w.advance.ensures in
-          let depend = dependents_at log c.entries-entry-items.ensures.rules.lawful c.entries-entry-items.ensures.rules.strike d (at d.to w.advance.result.now.number) receipt (end_of log) w.reached-reached.result
-          (subst (λ (cut : Cut). (q : ℕ) → (set.contains w.reached-reached.result q ≡ true) ↔ PrecedesSome Dependence (log_of log.entries) (at d.to w.advance.result.now.number) q (cut q)) (last c2) w.reached-reached.ensures) in
+          let receipt = receipt_at log.entries k w.number.result e d here (sym w.in-Some.ensures) w.number.ensures in
+          let depend = dependents_at log c.entries-entry-items.ensures.rules.lawful c.entries-entry-items.ensures.rules.strike d (at d.to w.number.result) receipt (end_of log) w.reached-reached.result
+          (subst (λ (cut : Cut). (q : ℕ) → (set.contains w.reached-reached.result q ≡ true) ↔ PrecedesSome Dependence (log_of log.entries) (at d.to w.number.result) q (cut q)) (last c2) w.reached-reached.ensures) in
           record {
             lost = λ rest are. rw (w.lost-is, w.in_ok-push.ensures.items, append_assoc) (so_far (d ∷ rest) (rw (← w.in-Some.ensures) (inr (lost, (rest, refl, are)))));
             dependents = rw w.dependents-is (more_dependents log k e d c.loop-place.dependents w.reached-reached.result w.union-dependents.result here (sym w.in-Some.ensures) lost depend w.union-dependents.ensures c.loop-place.invariant.dependents);

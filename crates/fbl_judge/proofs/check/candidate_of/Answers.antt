@@ -1,11 +1,11 @@
-use Rattle.fbl_judge.proofs.Common.{◌≡◌, ◌<◌, ◌∙◌, false, List, Entry, length, refl, sym, subst, slice_get_within, log_of, at, IsFirstDependent, IsLeastMoment}
+use Rattle.fbl_judge.proofs.Common.{◌≡◌, ◌∙◌, false, refl, sym, slice_get_within, log_of, at, IsFirstDependent, IsLeastMoment}
 use Rattle.std.specs.FinSet as set
-use Rattle.fbl_runs.specs.Clocks.{StandsAt, cut_of}
+use Rattle.fbl_runs.specs.Clocks.{cut_of}
 use Rattle.fbl_runs.proofs.ClockLaws.{last_there}
 use Rattle.fbl_judge.proofs.SafeAlways.{first_is_receipt}
 use Rattle.fbl_judge.proofs.UnsafeLaws.{first_dependent, left_there, none_after, none_there, not_left}
-use Rattle.fbl_judge.proofs.check.candidate.Goals as goal
-use Rattle.fbl_judge.proofs.check.candidate.Goals.{After-moment-moment}
+use Rattle.fbl_judge.proofs.check.candidate_of.Goals as goal
+use Rattle.fbl_judge.proofs.check.candidate_of.Goals.{After-moment-moment}
 
 pub returns-in_err-first : goal.returns-in_err-first
 returns-in_err-first c =
@@ -35,26 +35,12 @@ returns-then-has c =
     not_left c.args.pasts.now c.requires.run.lawful c.requires.run.strike c.args.determinant.now c.args.member c.in_ok-first.first (cut_of c.moment-moment.result)
     (dependent c2) (least c2) c.in_ok-strike.strike (c.in_ok-strike.ensures c.args.determinant.now c.requires.records) (sym c.has.ensures ∙ c.if-has.true)
 
-pub place-requires : goal.place-requires
-place-requires c =
-    let there = last_there c.in_ok-first.ensures.precedes in
-    subst (λ (es : List Entry). c.in_ok-first.first < length (log_of es c.args.member)) (sym c.index.ensures) (slice_get_within (log_of c.args.pasts.now.entries c.args.member) c.in_ok-first.first there.0 there.1)
-
 pub returns : goal.returns
 returns c =
     let c2 = (goal.at.returns c).After-moment-moment in
     let run = c.args.pasts.now in
     let d = c.args.determinant.now in
-    let strike = c.in_ok-strike.strike in
-    let least_strike = c.in_ok-strike.ensures d c.requires.records in
-    let out : set.contains strike c.args.member ≡ false = sym c.has.ensures ∙ c.if-has.false in
-    let there = left_there run c.requires.run.lawful c.requires.run.strike d c.args.member c.in_ok-first.first (cut_of c.moment-moment.result) (dependent c2) (least c2) strike least_strike out in
-    record {
-      place = c.place.result;
-      listed = refl;
-      number = c.in_ok-first.first;
-      stands = subst (λ (es : List Entry). StandsAt es c.place.result (at c.args.member c.in_ok-first.first)) c.index.ensures c.place.ensures;
-      cut = cut_of c.moment-moment.result;
-      candidate = there.0;
-      says = record { determinant = refl; strike = least_strike; orphans = c.orphans_at.ensures; some = (c.args.member, (c.orphans_at.ensures c.args.member).1 there.1) };
-    }
+    let out : set.contains c.in_ok-strike.strike c.args.member ≡ false = sym c.has.ensures ∙ c.if-has.false in
+    let there = left_there run c.requires.run.lawful c.requires.run.strike d c.args.member c.in_ok-first.first (cut_of c.moment-moment.result) (dependent c2) (least c2) c.in_ok-strike.strike
+    (c.in_ok-strike.ensures d c.requires.records) out in
+    record { orphan = refl; is = there.0 }
