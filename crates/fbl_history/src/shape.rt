@@ -37,6 +37,8 @@ pub enum ArrowKind {
     Again,
     /// A message that a recovery sent again, and whose receipt was undone: dotted, with a dot near its start.
     AgainUndone,
+    /// A control message that its receiver took: thin and dashed.
+    Control,
     /// A path from a lost receipt to an orphan goes along it: in the orphans' colour.
     Path,
 }
@@ -87,8 +89,8 @@ pub enum Shape {
     /// The line of an orphan at a moment: broad, in the orphans' colour, from a column up to the moment.
     OrphanUpTo {
         member: Member,
-        /// The column at which it starts.
-        start: usize,
+        /// The column at which it starts, or the left end of the line.
+        start: Option<usize>,
         /// The column before which the moment is.
         column: usize,
     },
@@ -120,6 +122,34 @@ pub enum Shape {
         again: bool,
         /// Whether the send was undone: the receiver's number is struck out then.
         undone: bool,
+    },
+    /// A control message that nobody has taken: a stub of an arrow, and its receiver's number.
+    Untaken {
+        from: Member,
+        /// The column of the tell.
+        sent: usize,
+        to: Member,
+    },
+    /// An arrow whose end is not drawn: a stub at its start, and its receiver's number.
+    Leaving {
+        from: Member,
+        /// The column at which it starts.
+        sent: usize,
+        to: Member,
+        kind: ArrowKind,
+    },
+    /// An arrow whose start is not drawn: a stub at its end, and its sender's number.
+    Arriving {
+        from: Member,
+        to: Member,
+        /// The column at which it ends.
+        received: usize,
+        kind: ArrowKind,
+    },
+    /// The numbers of so many columns, each above its own: they count from this one.
+    Numbers {
+        first: usize,
+        columns: usize,
     },
     /// The shapes behind this one, up to `EndToCome`, are of what has not come at the moment that is drawn: they are grey.
     BeginToCome,

@@ -1,23 +1,24 @@
 -- A least moment is within the run, who is an orphan, and what is said first of a run.
 use Rattle.fbl_pictures.proofs.Common.{ℕ, ◌<◌, ◌==◌, ◌≤◌, ◌≡◌, ◌∙◌, ◌↔◌, true, false, not, false≢true, List, [], ◌∷◌, Option, Some, None, length, nat_tests, slice_get, refl, sym, ap, subst, arith, slice_get_within, log_of, Entry}
 use Rattle.std.specs.FinSet as set
-use Rattle.std.specs.Prelude.{Bool}
+use Rattle.std.specs.Prelude.{Bool, IfSome, nat_lt, if◌then◌else◌}
 use Rattle.std.specs.Ordering.{nat_cmp}
 use Rattle.fbl_trace.proofs.Sets.{some_outside}
 use Rattle.fbl_trace.specs.MemberSets.{Members}
 use Rattle.fbl_runs.proofs.Listing.{stands_at}
 use Rattle.fbl_runs.specs.Logs.{RunParts, run_of}
 use Rattle.fbl_runs.specs.Runs.{IsOrphanAt}
+use Rattle.fbl_runs.specs.declared.judged.Judged.{Judged}
 use Rattle.fbl_runs.specs.declared.judged.Judged.TheVariants.{AtEachMoment, AtItsEnd}
 use Rattle.fbl_runs.specs.Moments.{Cut, IsMoment, last_cut}
 use Rattle.fbl_judge.proofs.ReasonLaws.{said_moment}
 use Rattle.fbl_judge.proofs.SafeAlways.{first_is_receipt}
 use Rattle.fbl_judge.specs.Audits.{IsAudit, end_of}
-use Rattle.fbl_judge.specs.Unsafe.{IsSaidOf}
+use Rattle.fbl_judge.specs.Unsafe.{IsSaidAt, IsSaidOf}
 use Rattle.fbl_judge.specs.declared.audit.Audit.{Audit}
 use Rattle.fbl_judge.specs.declared.check.UnsafeReceipt.{UnsafeReceipt}
-use Rattle.fbl_pictures.specs.RunPictures.{HasOrphan}
-use Rattle.fbl_pictures.specs.RunShapes.{IsCutOf, IsPlaceOf}
+use Rattle.fbl_pictures.specs.RunPictures.{HasOrphan, drawn_around}
+use Rattle.fbl_pictures.specs.RunShapes.{IsCutOf, IsPlaceOf, shown, shown_entries}
 
 -- the cut of all entries is a moment
 last_is_moment : (entries : List Entry) → IsMoment (log_of entries) (last_cut (log_of entries))
@@ -68,6 +69,25 @@ said_place run said is None at = tt
 said_place run said is (Some place) at =
     let m = said_moment run said.determinant said is place at in
     let r = first_is_receipt (log_of run.entries) said.determinant m.0 m.2 in (m.0, r.0, m.1, r.1)
+
+-- and it is drawn, as what is said has a place only in a log, of which all is
+module _ (run : RunParts) (said : UnsafeReceipt) (is : IsSaidOf run said.determinant said) where
+  drawn_at : (j : Judged) (at : Option ℕ) → IsSaidAt run said.determinant said.strike j at is.cut → IfSome at (λ place. place < length (shown j run.entries))
+  drawn_at AtEachMoment (Some place) moment = slice_get_within run.entries place moment.1.0 moment.1.1
+  drawn_at AtEachMoment None moment = tt
+  drawn_at AtItsEnd at moment = said_nothing at moment where
+    said_nothing : (at : Option ℕ) → IsSaidAt run said.determinant said.strike AtItsEnd at is.cut → IfSome at (λ place. place < length (shown AtItsEnd run.entries))
+    said_nothing None moment = tt
+    said_nothing (Some place) moment = absurd moment
+
+  -- so is the place around which the run is drawn
+  pub drawn_place : (asked : Option ℕ) → IfSome asked (λ place. place < length (shown_entries run))
+      → IfSome (drawn_around (length (shown_entries run)) asked said.at) (λ place. place < length (shown_entries run))
+  drawn_place (Some place) within = within
+  drawn_place None within = by_count (nat_lt 200 (length (shown_entries run))) where
+    by_count : (many : Bool) → IfSome (if many then said.at else None) (λ place. place < length (shown_entries run))
+    by_count true = drawn_at run.judged said.at is.moment
+    by_count false = tt
 
 pub first_of : (items : List UnsafeReceipt) (said : UnsafeReceipt) → Some said ≡ slice_get items 0 → (rest : List UnsafeReceipt) × (items ≡ said ∷ rest)
 first_of [] said is = absurd cc

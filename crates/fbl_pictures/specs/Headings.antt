@@ -34,7 +34,11 @@ escape c = if c == 38 then codes "&amp;" else (if c == 60 then codes "&lt;" else
 abbrev pub escaped : List ℕ → List ℕ
 escaped text = flat_map escape (chars text)
 
--- the numbers of the run: its members, f, and how many of these it has; and what is said of it
-abbrev pub heading : ℕ → ℕ → ℕ → List ℕ → List ℕ → List ℕ
-heading members f count things words =
-    joined (decimal members ∷ codes " members, f " ∷ decimal f ∷ codes ", " ∷ decimal count ∷ codes " " ∷ things ∷ codes ": " ∷ words ∷ [])
+-- which of so many things are drawn: from this one to that one
+abbrev pub part_words : List ℕ → ℕ → ℕ → ℕ → List ℕ
+part_words things first last count =
+    joined (things ∷ codes " " ∷ decimal first ∷ codes " to " ∷ decimal last ∷ codes " of " ∷ decimal count ∷ [])
+
+-- the numbers of the run: its members, f, and what is counted in it; and what is said of it
+abbrev pub heading : ℕ → ℕ → List ℕ → List ℕ → List ℕ
+heading members f counted words = joined (decimal members ∷ codes " members, f " ∷ decimal f ∷ codes ", " ∷ counted ∷ codes ": " ∷ words ∷ [])

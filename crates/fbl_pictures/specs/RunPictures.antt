@@ -1,5 +1,5 @@
 -- The picture of a recorded run: what an audit finds of it, or the first receipt that a check finds unsafe.
-use Rattle.std.specs.Prelude.{ℕ, ◌≡◌, ◌⊎◌, List, [], ◌∷◌, ◌++◌, Option, Some, None, length, codes}
+use Rattle.std.specs.Prelude.{ℕ, ◌≡◌, ◌⊎◌, ◌-◌, nat_lt, List, [], ◌∷◌, ◌++◌, Option, Some, None, length, codes, decimal, if◌then◌else◌}
 use Rattle.fbl_input.specs.Sources.{IsSpotText}
 use Rattle.fbl_input.specs.declared.sources.Sources.{Sources}
 use Rattle.fbl_judge.specs.Audits.{IsAudit, end_of}
@@ -14,25 +14,35 @@ use Rattle.fbl_runs.specs.Runs.{IsOrphanAt, IsSafe}
 use Rattle.fbl_runs.specs.declared.judged.Judged.{Judged}
 use Rattle.fbl_runs.specs.declared.judged.Judged.TheVariants.{AtEachMoment, AtItsEnd}
 use Rattle.fbl_pictures.specs.declared.run.finding.Finding.{Finding}
-use Rattle.fbl_pictures.specs.Headings.{audit_words, escaped, heading, unsafe_words}
+use Rattle.fbl_pictures.specs.Headings.{audit_words, escaped, heading, joined, part_words, unsafe_words}
 use Rattle.fbl_pictures.specs.Pictures.{IsPictureText}
 use Rattle.fbl_pictures.specs.RunShapes.{IsDrawnOf, shown_entries}
+use Rattle.fbl_pictures.specs.Windows.{window_around}
+use Rattle.fbl_pictures.specs.declared.run.window.Window.{Window}
 
 -- what a picture counts
 abbrev pub things : Judged → List ℕ
 things AtItsEnd = codes "events"
 things AtEachMoment = codes "entries"
 
--- the numbers of the run, and what is said of it
-abbrev pub run_heading : RunParts → List ℕ → List ℕ
-run_heading run words = heading run.members run.f (length (shown_entries run)) (things run.judged) words
+-- how many there are, and which of them are drawn if these are a part
+abbrev pub counted : Window → ℕ → List ℕ → List ℕ
+counted w count things = if w.is_numbered then part_words things w.first (w.end - 1) count else joined (decimal count ∷ codes " " ∷ things ∷ [])
 
--- the text is the picture of what is found, with these words
-pub record IsFindingText (run : RunParts) (finding : Finding) (words text : List ℕ) : Type 0 where
+-- the numbers of the run, and what is said of it
+abbrev pub run_heading : RunParts → Window → List ℕ → List ℕ
+run_heading run w words = heading run.members run.f (counted w (length (shown_entries run)) (things run.judged)) words
+
+-- the part of the run that is drawn: the entries around this place, or all
+abbrev pub window_of : RunParts → Option ℕ → Window
+window_of run around = window_around (length (shown_entries run)) around
+
+-- the text is the picture of what is found around the place, or of all of it, with these words
+pub record IsFindingText (run : RunParts) (around : Option ℕ) (finding : Finding) (words text : List ℕ) : Type 0 where
   pub shapes : List Shape
   pub glyphs : List Glyph
-  pub drawn : IsDrawnOf run finding shapes glyphs
-  pub written : IsPictureText (run_heading run words) shapes glyphs text
+  pub drawn : IsDrawnOf run (window_of run around) finding shapes glyphs
+  pub written : IsPictureText (run_heading run (window_of run around) words) shapes glyphs text
 
 -- an audit finds who is struck, the orphans, and the lost receipts, at the run's end
 pub record IsAuditFinding (run : RunParts) (audit : Audit) (finding : Finding) : Type 0 where
@@ -42,10 +52,10 @@ pub record IsAuditFinding (run : RunParts) (audit : Audit) (finding : Finding) :
   pub at : finding.at ≡ None
 
 -- the text is the picture of the run by its audit
-abbrev pub IsAuditedPicture : RunParts → List ℕ → Type 0
-IsAuditedPicture run text =
+abbrev pub IsAuditedPicture : RunParts → Option ℕ → List ℕ → Type 0
+IsAuditedPicture run around text =
     (audit : Audit) × IsAudit run audit × (finding : Finding) × IsAuditFinding run audit finding
-    × IsFindingText run finding (audit_words run.strike (length audit.lost.items) audit.orphans) text
+    × IsFindingText run around finding (audit_words run.strike (length audit.lost.items) audit.orphans) text
 
 -- a check finds what it says of a receipt
 pub record IsUnsafeFinding (said : UnsafeReceipt) (finding : Finding) : Type 0 where
@@ -60,10 +70,10 @@ IsPlaceText sources None text = text ≡ []
 IsPlaceText sources (Some place) text = (spot : List ℕ) × IsSpotText sources place spot × (text ≡ codes " at " ++ escaped spot)
 
 -- the text is the picture of the run, whose entries stand in these files, with what is said of an unsafe receipt
-abbrev pub IsUnsafePicture : RunParts → Sources → UnsafeReceipt → List ℕ → Type 0
-IsUnsafePicture run sources said text =
+abbrev pub IsUnsafePicture : RunParts → Sources → Option ℕ → UnsafeReceipt → List ℕ → Type 0
+IsUnsafePicture run sources around said text =
     (place : List ℕ) × IsPlaceText sources said.at place × (finding : Finding) × IsUnsafeFinding said finding
-    × IsFindingText run finding (unsafe_words said.determinant place said.strike said.orphans) text
+    × IsFindingText run around finding (unsafe_words said.determinant place said.strike said.orphans) text
 
 -- it is the first that a check of the run says
 abbrev pub IsFirstUnsafe : RunParts → UnsafeReceipt → Type 0
@@ -73,9 +83,16 @@ IsFirstUnsafe run said = (rest : List UnsafeReceipt) × SaysUnsafe run (receipts
 abbrev pub HasOrphan : RunParts → Type 0
 HasOrphan run = (run.judged ≡ AtItsEnd) × ((q : ℕ) × IsOrphanAt (run_of run) (end_of run) run.strike q)
 
--- the text is the picture of the run, whose entries stand in these files: by its audit where its strike set leaves an orphan at the end at
--- which it is judged, or it is safe, and else with the first receipt that a check finds
-abbrev pub IsRunPicture : RunParts → Sources → List ℕ → Type 0
-IsRunPicture run sources text =
-    ((HasOrphan run ⊎ IsSafe (run_of run)) × IsAuditedPicture run text)
-    ⊎ (¬ (HasOrphan run) × ((said : UnsafeReceipt) × IsFirstUnsafe run said × IsUnsafePicture run sources said text))
+-- an unsafe run of so many entries is drawn around the place that is asked for, or the moment of the receipt if there are more than 200
+abbrev pub drawn_around : ℕ → Option ℕ → Option ℕ → Option ℕ
+drawn_around count (Some place) at = Some place
+drawn_around count None at = if nat_lt 200 count then at else None
+
+-- the text is the picture of the run, whose entries stand in these files, around the place if one is asked for: by its audit where its
+-- strike set leaves an orphan at the end at which it is judged, or it is safe, and else with the first receipt that a check finds
+abbrev pub IsRunPicture : RunParts → Sources → Option ℕ → List ℕ → Type 0
+IsRunPicture run sources asked text =
+    ((HasOrphan run ⊎ IsSafe (run_of run)) × IsAuditedPicture run asked text)
+    ⊎ (¬ (HasOrphan run)
+    × ((said : UnsafeReceipt) × IsFirstUnsafe run said
+    × IsUnsafePicture run sources (drawn_around (length (shown_entries run)) asked said.at) said text))

@@ -1,6 +1,6 @@
 -- What is drawn of a recorded run: a mark for each entry, an arrow for each message, a line for each member, the line of a moment, and
--- paths. The column of an entry is its place.
-use Rattle.std.specs.Prelude.{ℕ, ◌≡◌, ◌⊎◌, ◌↔◌, ◌<◌, ◌+◌, ◌==◌, Bool, true, false, not, nat_lt, List, [], ◌∷◌, ◌++◌, Option, Some, None, count_by, length, slice_get, take, option_and_then, if◌then◌else◌}
+-- paths; of a part of it, each of these within the part.
+use Rattle.std.specs.Prelude.{ℕ, ◌≡◌, ◌⊎◌, ◌↔◌, ◌<◌, ◌+◌, ◌-◌, ◌==◌, Bool, true, false, not, nat_lt, List, [], ◌∷◌, ◌++◌, Option, Some, None, count_by, length, slice_get, slice_range, take, option_and_then, if◌then◌else◌}
 use Rattle.std.specs.HashMap as hash_map
 use Rattle.std.specs.List.{flat_map, position_from, range_with_len}
 use Rattle.std.specs.Option.{option_to_list}
@@ -12,10 +12,12 @@ use Rattle.fbl_trace.specs.declared.trace.MessageName.{MessageName}
 use Rattle.fbl_trace.specs.Events.{is_message, member_of, same_message}
 use Rattle.fbl_trace.specs.MemberSets.{Members}
 use Rattle.fbl_runs.specs.Clocks.{StandsAt}
+use Rattle.fbl_runs.specs.ControlMessages.{same_control}
 use Rattle.fbl_runs.specs.Entries.{entry_member, log_of, receipt_in}
 use Rattle.fbl_runs.specs.HappenedBefore.{Position}
 use Rattle.fbl_runs.specs.Logs.{RunParts}
 use Rattle.fbl_runs.specs.Moments.{Cut, HoldsAt, IsLeastMoment, IsReceiptAt, IsStoredAt}
+use Rattle.fbl_runs.specs.declared.control.ControlMessage.{ControlMessage}
 use Rattle.fbl_runs.specs.declared.entry.Entry.{Entry}
 use Rattle.fbl_runs.specs.declared.entry.Entry.TheVariants.{Event, Hold, Store, Tell, Told}
 use Rattle.fbl_runs.specs.declared.judged.Judged.{Judged}
@@ -24,9 +26,12 @@ use Rattle.fbl_judge.specs.Audits.{IsFirstCause, IsFirstOnAny}
 use Rattle.fbl_judge.specs.Paths.{DependsSome, IsPathTo}
 use Rattle.fbl_pictures.specs.Columns.{column_in, has_come}
 use Rattle.fbl_pictures.specs.Crossings.{AreCrossings}
+use Rattle.fbl_pictures.specs.Windows.{arrow_within, down_within, in_flight_within, line_within, member_line_within, moment_within, numbers_of, orphan_within, untaken_within}
+use Rattle.fbl_pictures.specs.declared.run.arrows.Ends.{Ends}
 use Rattle.fbl_pictures.specs.declared.run.columns.Columns.{Columns}
 use Rattle.fbl_pictures.specs.declared.run.finding.Finding.{Finding}
 use Rattle.fbl_pictures.specs.declared.run.members.Lines.{Lines}
+use Rattle.fbl_pictures.specs.declared.run.window.Window.{Window}
 use Rattle.fbl_history.specs.declared.shape.ArrowKind.TheVariants as arrow_kind
 use Rattle.fbl_history.specs.declared.shape.Glyph.{Glyph}
 use Rattle.fbl_history.specs.declared.shape.GlyphKind.{GlyphKind}
@@ -62,15 +67,39 @@ abbrev pub receipt_place : List Entry → MessageName → Option ℕ
 receipt_place entries message = position_from (takes message) 0 entries
 
 -- the map tells of each message the place of its receipt
-abbrev pub IsPlacesOf : {S : Type 0} → List Entry → hash_map.HashMap MessageName ℕ S → Type 0
-IsPlacesOf entries places = (message : MessageName) → hash_map.get same_message places message ≡ receipt_place entries message
+abbrev pub AreReceiptPlaces : {S : Type 0} → List Entry → hash_map.HashMap MessageName ℕ S → Type 0
+AreReceiptPlaces entries places = (message : MessageName) → hash_map.get same_message places message ≡ receipt_place entries message
+
+-- the control message that the entry takes, if it is a told
+abbrev pub told_in : Entry → Option ControlMessage
+told_in (Told m) = Some m
+told_in _ = None
+
+-- whether the control message is this one
+abbrev pub is_control : ControlMessage → Option ControlMessage → Bool
+is_control m None = false
+is_control m (Some other) = same_control other m
+
+-- the place of the told of a control message, if its receiver took it
+abbrev pub told_place : List Entry → ControlMessage → Option ℕ
+told_place entries m = position_from (λ e. is_control m (told_in e)) 0 entries
+
+-- the map tells of each control message the place of its told
+abbrev pub AreToldPlaces : {S : Type 0} → List Entry → hash_map.HashMap ControlMessage ℕ S → Type 0
+AreToldPlaces entries places = (m : ControlMessage) → hash_map.get same_control places m ≡ told_place entries m
+
+-- both are of these entries
+pub record AreEndsOf (entries : List Entry) (ends : Ends) : Type 0 where
+  pub receipts : AreReceiptPlaces entries ends.receipts
+  pub tolds : AreToldPlaces entries ends.tolds
 
 -- ---- entries: a mark for each, and an arrow for each message
 
--- the shape of an entry that has come, or that has not: this is grey
-abbrev pub in_time : Bool → Shape → List Shape
-in_time true drawn_shape = drawn_shape ∷ []
-in_time false drawn_shape = shape.BeginToCome ∷ drawn_shape ∷ shape.EndToCome ∷ []
+-- what is drawn of an entry that has come, or that has not: this is grey
+abbrev pub in_time : Bool → Option Shape → List Shape
+in_time come None = []
+in_time true (Some drawn_shape) = drawn_shape ∷ []
+in_time false (Some drawn_shape) = shape.BeginToCome ∷ drawn_shape ∷ shape.EndToCome ∷ []
 
 -- what the mark of a receipt that has come tells: of which kind it is by who holds it and what is stored at the cut
 pub record IsHeld (run : RunParts) (cut : Cut) (struck : Members) (d : Determinant) (kind : GlyphKind) : Type 0 where
@@ -99,38 +128,46 @@ IsKind run cut struck come (Store q d) kind = kind ≡ glyph.Store d
 IsKind run cut struck come (Tell m) kind = kind ≡ glyph.Tell m.to m.id
 IsKind run cut struck come (Told m) kind = kind ≡ glyph.Told m.from m.id
 
--- the mark of the entry at the place, on its member's line
-pub record IsGlyphOf (run : RunParts) (cut : Cut) (lines : Lines) (place : ℕ) (e : Entry) (mark : Glyph) : Type 0 where
-  pub column : mark.column ≡ place
+-- the mark of the entry at the place, in this column, on its member's line
+pub record IsGlyphOf (run : RunParts) (cut : Cut) (lines : Lines) (place column : ℕ) (e : Entry) (mark : Glyph) : Type 0 where
+  pub stands : mark.column ≡ column
   pub member : mark.member ≡ entry_member e
   pub kind : IsKind run cut lines.struck (has_come lines.moment place (entry_member e)) e mark.kind
   pub to_come : mark.to_come ≡ not (has_come lines.moment place (entry_member e))
 
--- the marks of entries, the first of which stands at this place
-abbrev pub AreGlyphs : RunParts → Cut → Lines → ℕ → List Entry → List Glyph → Type 0
-AreGlyphs run cut lines place [] glyphs = glyphs ≡ []
-AreGlyphs run cut lines place (e ∷ entries) glyphs =
-    (mark : Glyph) × IsGlyphOf run cut lines place e mark
-    × (others : List Glyph) × AreGlyphs run cut lines (place + 1) entries others × (glyphs ≡ mark ∷ others)
+-- the marks of entries, the first of which stands in this column, where the first column has the entry at this place
+abbrev pub AreGlyphs : RunParts → Cut → Lines → ℕ → ℕ → List Entry → List Glyph → Type 0
+AreGlyphs run cut lines first column [] glyphs = glyphs ≡ []
+AreGlyphs run cut lines first column (e ∷ entries) glyphs =
+    (mark : Glyph) × IsGlyphOf run cut lines (first + column) column e mark
+    × (others : List Glyph) × AreGlyphs run cut lines first (column + 1) entries others × (glyphs ≡ mark ∷ others)
 
--- the arrow of a message that is received at a place, or that of one in flight
-abbrev pub message_arrow : ℕ → ℕ → ℕ → Option ℕ → Shape
-message_arrow place from to (Some end) = shape.Arrow from place to end arrow_kind.Message
-message_arrow place from to None = shape.InFlight from place to false false
+-- the arrow of a message that is sent at a place, and is received at another or is in flight
+abbrev pub message_arrow : Window → ℕ → ℕ → ℕ → Option ℕ → Option Shape
+message_arrow w place from to (Some end) = arrow_within w from place to end arrow_kind.Message
+message_arrow w place from to None = in_flight_within w from place to
 
--- the arrow of an event among the entries, if it is a send, which has come or not
-abbrev pub event_arrow : List Entry → Bool → ℕ → Mark → List Shape
-event_arrow entries come place (Send from ssn to) =
-    in_time come (message_arrow place from to (receipt_place entries (record { from = from; ssn = ssn })))
-event_arrow entries come place (Receipt to rsn from ssn) = []
+-- that of a control message, which is taken at a place or by nobody
+abbrev pub control_arrow : Window → ℕ → ControlMessage → Option ℕ → Option Shape
+control_arrow w place m (Some end) = arrow_within w m.from place m.to end arrow_kind.Control
+control_arrow w place m None = untaken_within w m place
 
--- the same of an entry
-abbrev pub entry_arrow : List Entry → Columns → ℕ → Entry → List Shape
-entry_arrow entries moment place (Event e) = event_arrow entries (has_come moment place (member_of e)) place e
-entry_arrow entries moment place (Hold q d) = []
-entry_arrow entries moment place (Store q d) = []
-entry_arrow entries moment place (Tell m) = []
-entry_arrow entries moment place (Told m) = []
+-- the arrow of an event among the entries, if it is a send
+abbrev pub event_arrow : Window → List Entry → ℕ → Mark → Option Shape
+event_arrow w entries place (Send from ssn to) = message_arrow w place from to (receipt_place entries (record { from = from; ssn = ssn }))
+event_arrow w entries place (Receipt to rsn from ssn) = None
+
+-- that of an entry, if it is a send or a tell
+abbrev pub arrow_of : Window → List Entry → ℕ → Entry → Option Shape
+arrow_of w entries place (Event e) = event_arrow w entries place e
+arrow_of w entries place (Hold q d) = None
+arrow_of w entries place (Store q d) = None
+arrow_of w entries place (Tell m) = control_arrow w place m (told_place entries m)
+arrow_of w entries place (Told m) = None
+
+-- what is drawn of it
+abbrev pub entry_arrow : Window → List Entry → Columns → ℕ → Entry → List Shape
+entry_arrow w entries moment place e = in_time (has_come moment place (entry_member e)) (arrow_of w entries place e)
 
 -- ---- members: a label, names and a line for each
 
@@ -141,45 +178,42 @@ run_status false (Some column) = Orphan
 run_status false None = Up
 
 -- a member's line, which goes by all columns; a struck member is down, from the moment on where there is one
-abbrev pub member_line : ℕ → ℕ → Bool → Option ℕ → Shape
-member_line columns member true (Some moment) = shape.DownFrom member moment columns
-member_line columns member struck moment = shape.Line member None columns (line_kind_of struck)
+abbrev pub member_line : Window → ℕ → Bool → Option ℕ → Shape
+member_line w member true (Some moment) = down_within w member moment
+member_line w member struck moment = member_line_within w member (line_kind_of struck)
 
 -- an orphan's line from its first event that depends on the lost receipt, up to the moment where there is one
-abbrev pub orphan_line : ℕ → ℕ → ℕ → Option ℕ → Shape
-orphan_line columns member start None = shape.Line member (Some start) columns line_kind.Orphan
-orphan_line columns member start (Some moment) = shape.OrphanUpTo member start moment
-
-abbrev pub orphan_lines : ℕ → ℕ → Option ℕ → Option ℕ → List Shape
-orphan_lines columns member None moment = []
-orphan_lines columns member (Some start) moment = orphan_line columns member start moment ∷ []
+abbrev pub orphan_line : Window → ℕ → Option ℕ → Option ℕ → Option Shape
+orphan_line w member None moment = None
+orphan_line w member (Some start) None = line_within w member start w.end line_kind.Orphan
+orphan_line w member (Some start) (Some moment) = orphan_within w member start moment
 
 -- a member's label, its number again in a wide picture, and its lines
-abbrev pub member_shapes : ℕ → ℕ → Bool → Option ℕ → Option ℕ → List Shape
-member_shapes columns member struck start moment =
-    label_and_names columns member (Some (run_status struck start)) ++ member_line columns member struck moment ∷ []
-    ++ orphan_lines columns member start moment
+abbrev pub member_shapes : Window → ℕ → Bool → Option ℕ → Option ℕ → List Shape
+member_shapes w member struck start moment =
+    label_and_names (w.end - w.first) member (Some (run_status struck start)) ++ member_line w member struck moment ∷ []
+    ++ option_to_list (orphan_line w member start moment)
 
-abbrev pub shapes_of_member : ℕ → Lines → ℕ → List Shape
-shapes_of_member columns lines member =
-    member_shapes columns member (set.contains lines.struck member) (column_in lines.starts member) (column_in lines.moment member)
+abbrev pub shapes_of_member : Window → Lines → ℕ → List Shape
+shapes_of_member w lines member =
+    member_shapes w member (set.contains lines.struck member) (column_in lines.starts member) (column_in lines.moment member)
 
--- the shapes of so many members, in their order, over so many columns
-abbrev pub members_drawn : ℕ → ℕ → Lines → List Shape
-members_drawn members columns lines = flat_map (shapes_of_member columns lines) (range_with_len 0 members)
+-- the shapes of so many members, in their order
+abbrev pub members_drawn : ℕ → Window → Lines → List Shape
+members_drawn members w lines = flat_map (shapes_of_member w lines) (range_with_len 0 members)
 
 -- ---- the moment
 
 -- the part of its line at a member, from where it crosses the member's line to where it crosses the next one's
-abbrev pub moment_part : ℕ → Option ℕ → Option ℕ → Option Shape
-moment_part member None next = None
-moment_part member (Some column) next = Some (shape.Moment member column next)
+abbrev pub moment_part : Window → ℕ → Option ℕ → Option ℕ → Option Shape
+moment_part w member None next = None
+moment_part w member (Some place) next = moment_within w member place next
 
-abbrev pub moment_shapes : Columns → ℕ → List Shape
-moment_shapes moment member = option_to_list (moment_part member (column_in moment member) (column_in moment (member + 1)))
+abbrev pub moment_shapes : Window → Columns → ℕ → List Shape
+moment_shapes w moment member = option_to_list (moment_part w member (column_in moment member) (column_in moment (member + 1)))
 
-abbrev pub moment_drawn : ℕ → Columns → List Shape
-moment_drawn members moment = flat_map (moment_shapes moment) (range_with_len 0 members)
+abbrev pub moment_drawn : ℕ → Window → Columns → List Shape
+moment_drawn members w moment = flat_map (moment_shapes w moment) (range_with_len 0 members)
 
 -- ---- what is found, and where
 
@@ -213,22 +247,22 @@ pub record AreLines (run : RunParts) (finding : Finding) (cut : Cut) (lines : Li
 -- ---- paths: why an orphan is one
 
 -- a step of a path from an entry to another: along their member's line, or from a send to its receipt
-abbrev pub step_shape : ℕ → ℕ → ℕ → ℕ → Shape
-step_shape start from end to =
-    if from == to then shape.Line from (Some start) end line_kind.Path else shape.Arrow from start to end arrow_kind.Path
+abbrev pub step_shape : Window → ℕ → ℕ → ℕ → ℕ → Option Shape
+step_shape w start from end to =
+    if from == to then line_within w from start end line_kind.Path else arrow_within w from start to end arrow_kind.Path
 
 -- the same, if there are both
-abbrev pub step_between : ℕ → Option Entry → ℕ → Option Entry → Option Shape
-step_between start (Some a) end (Some b) = Some (step_shape start (entry_member a) end (entry_member b))
-step_between start (Some a) end None = None
-step_between start None end b = None
+abbrev pub step_between : Window → ℕ → Option Entry → ℕ → Option Entry → Option Shape
+step_between w start (Some a) end (Some b) = step_shape w start (entry_member a) end (entry_member b)
+step_between w start (Some a) end None = None
+step_between w start None end b = None
 
 -- the steps of a path by the entries at these places
-abbrev pub path_shapes : List Entry → List ℕ → List Shape
-path_shapes entries [] = []
-path_shapes entries (start ∷ []) = []
-path_shapes entries (start ∷ end ∷ places) =
-    option_to_list (step_between start (slice_get entries start) end (slice_get entries end)) ++ path_shapes entries (end ∷ places)
+abbrev pub path_shapes : Window → List Entry → List ℕ → List Shape
+path_shapes w entries [] = []
+path_shapes w entries (start ∷ []) = []
+path_shapes w entries (start ∷ end ∷ places) =
+    option_to_list (step_between w start (slice_get entries start) end (slice_get entries end)) ++ path_shapes w entries (end ∷ places)
 
 -- the member is no orphan; or it is one, and the receipt is the first one on which it depends
 abbrev pub IsCause : RunParts → Finding → ℕ → Option Determinant → Type 0
@@ -237,20 +271,21 @@ IsCause run finding q cause =
     ⊎ ((set.contains finding.orphans q ≡ true) × IsFirstCause run finding.receipts.now q cause)
 
 -- the steps of a path from the receipt to the member, if there is one and the member depends on it
-abbrev pub AreStepsFrom : RunParts → Option Determinant → ℕ → List Shape → Type 0
-AreStepsFrom run None q steps = steps ≡ []
-AreStepsFrom run (Some d) q steps =
+abbrev pub AreStepsFrom : RunParts → Window → Option Determinant → ℕ → List Shape → Type 0
+AreStepsFrom run w None q steps = steps ≡ []
+AreStepsFrom run w (Some d) q steps =
     (¬ (DependsSome run d q) × (steps ≡ []))
-    ⊎ ((path : List ℕ) × IsPathTo run d q path × (steps ≡ path_shapes run.entries path))
+    ⊎ ((path : List ℕ) × IsPathTo run d q path × (steps ≡ path_shapes w run.entries path))
 
-abbrev pub AreStepsTo : RunParts → Finding → ℕ → List Shape → Type 0
-AreStepsTo run finding q steps = (cause : Option Determinant) × IsCause run finding q cause × AreStepsFrom run cause q steps
+abbrev pub AreStepsTo : RunParts → Window → Finding → ℕ → List Shape → Type 0
+AreStepsTo run w finding q steps = (cause : Option Determinant) × IsCause run finding q cause × AreStepsFrom run w cause q steps
 
 -- the steps of the path to each of these members, in their order
-abbrev pub ArePathsDrawn : RunParts → Finding → List ℕ → List Shape → Type 0
-ArePathsDrawn run finding [] shapes = shapes ≡ []
-ArePathsDrawn run finding (q ∷ members) shapes =
-    (steps : List Shape) × AreStepsTo run finding q steps × (rest : List Shape) × ArePathsDrawn run finding members rest × (shapes ≡ steps ++ rest)
+abbrev pub ArePathsDrawn : RunParts → Window → Finding → List ℕ → List Shape → Type 0
+ArePathsDrawn run w finding [] shapes = shapes ≡ []
+ArePathsDrawn run w finding (q ∷ members) shapes =
+    (steps : List Shape) × AreStepsTo run w finding q steps
+    × (rest : List Shape) × ArePathsDrawn run w finding members rest × (shapes ≡ steps ++ rest)
 
 -- ---- the whole
 
@@ -270,22 +305,22 @@ shown AtEachMoment entries = entries
 abbrev pub shown_entries : RunParts → List Entry
 shown_entries run = shown run.judged run.entries
 
--- the members' lines, the arrows, and over them the line of the moment
-abbrev pub lines_and_arrows : ℕ → List Entry → Lines → List Shape
-lines_and_arrows members entries lines =
-    members_drawn members (length entries) lines ++ drawn (entry_arrow entries lines.moment) 0 entries ++ moment_drawn members lines.moment
+-- the numbers of columns, the members' lines, the arrows, and over them the line of the moment
+abbrev pub lines_and_arrows : ℕ → Window → List Entry → Lines → List Shape
+lines_and_arrows members w entries lines =
+    option_to_list (numbers_of w) ++ members_drawn members w lines ++ drawn (entry_arrow w entries lines.moment) 0 entries ++ moment_drawn members w lines.moment
 
 -- the shapes of what is found: these, and over them paths
-abbrev pub AreShapesOf : RunParts → Finding → Lines → List Shape → Type 0
-AreShapesOf run finding lines shapes =
-    (paths : List Shape) × ArePathsDrawn run finding (range_with_len 0 run.members) paths
-    × (shapes ≡ lines_and_arrows run.members (shown_entries run) lines ++ paths)
+abbrev pub AreShapesOf : RunParts → Window → Finding → Lines → List Shape → Type 0
+AreShapesOf run w finding lines shapes =
+    (paths : List Shape) × ArePathsDrawn run w finding (range_with_len 0 run.members) paths
+    × (shapes ≡ lines_and_arrows run.members w (shown_entries run) lines ++ paths)
 
--- what is drawn of what is found: these shapes, and over them the marks, judged at the moment
-pub record IsDrawnOf (run : RunParts) (finding : Finding) (shapes : List Shape) (glyphs : List Glyph) : Type 0 where
+-- what is drawn within the window of what is found: these shapes, and over them the marks, judged at the moment
+pub record IsDrawnOf (run : RunParts) (w : Window) (finding : Finding) (shapes : List Shape) (glyphs : List Glyph) : Type 0 where
   pub cut : Cut
   pub moment : IsCutOf run finding.at cut
   pub lines : Lines
   pub are : AreLines run finding cut lines
-  pub under : AreShapesOf run finding lines shapes
-  pub over : AreGlyphs run cut lines 0 (shown_entries run) glyphs
+  pub under : AreShapesOf run w finding lines shapes
+  pub over : AreGlyphs run cut lines w.first 0 (slice_range (shown_entries run) w.first w.end) glyphs

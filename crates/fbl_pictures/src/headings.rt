@@ -1,7 +1,7 @@
 //! The headings of pictures of runs.
 
 ghost use Rattle.std.specs.Prelude.{◌≡◌, ◌++◌, IfOk, OnOk, string_bytes};
-ghost use Rattle.fbl_pictures.specs.Headings.{audit_words as audit_words_of, escape, escaped, heading as heading_of, receipts_word as receipts_word_of, unsafe_words as unsafe_words_of};
+ghost use Rattle.fbl_pictures.specs.Headings.{audit_words as audit_words_of, escape, escaped, heading as heading_of, part_words as part_words_of, receipts_word as receipts_word_of, unsafe_words as unsafe_words_of};
 
 use fbl_input::set_text;
 use fbl_trace::{Determinant, MemberSet};
@@ -72,16 +72,28 @@ pub(crate) fn escaped_text(alloc: Global, text: &str) -> Result<String, AllocErr
     Ok(written)
 }
 
-/// The heading of a picture of a run: its members, `f`, how many of these things it has, and these words.
+/// Which of so many things are drawn: from this one to that one.
+pub(crate) fn part_words(
+    alloc: Global,
+    things: &str,
+    first: usize,
+    last: usize,
+    count: usize,
+) -> Result<String, AllocError>
+    ensures { IfOk result (λ text. string_bytes text ≡ part_words_of things.now first last count) }
+{
+    format!(in alloc; "{things} {first} to {last} of {count}")
+}
+
+/// The heading of a picture of a run: its members, `f`, what is counted in it, and these words.
 pub(crate) fn heading(
     alloc: Global,
     members: u8,
     f: u8,
-    count: usize,
-    things: &str,
+    counted: &str,
     words: &str,
 ) -> Result<String, AllocError>
-    ensures { IfOk result (λ text. string_bytes text ≡ heading_of members f count things.now words.now) }
+    ensures { IfOk result (λ text. string_bytes text ≡ heading_of members f counted.now words.now) }
 {
-    format!(in alloc; "{members} members, f {f}, {count} {things}: {words}")
+    format!(in alloc; "{members} members, f {f}, {counted}: {words}")
 }

@@ -9,4 +9,4 @@ mod run;
 mod svg;
 
 pub use history::write_history_picture;
-pub use run::write_run_picture;
+pub use run::{column_count, write_run_picture};

@@ -1,7 +1,7 @@
 -- The exit status of what was done, and whether a play was refused something.
 use Rattle.fbl_trace.specs.declared.trace.Note.{Note}
 use Rattle.fbl_program.proofs.Common.{◌≡◌, ℕ, ◌||◌, ◌&&◌, not, Bool, false, List, [], ◌∷◌, Option, Some, None, Result, Ok, Err, IfSome, arith, IsErrAnd, OutputFault, PutsOut, puts_as, ap, ◌∙◌, list_any, or-false, sym, RunFault}
-use Rattle.fbl_program.proofs.Common.{Answer, is_refusal, Command, GroupRecord, Observes, PlaysScript, Ran, Transcript, Outline, PlaysWell, next_of, status_after, text, unobserved}
+use Rattle.fbl_program.proofs.Common.{Answer, AnswerFault, Answers, Output, is_refusal, Command, GroupRecord, Observes, PlaysScript, Ran, Transcript, Outline, PlaysWell, next_of, status_after, text, unobserved}
 
 -- what is known of what was done over an input is known of the status that it ends with
 pub ended : (known : Option (List ℕ)) (Does : List ℕ → Result Bool RunFault → Type 0) (done : Result Bool RunFault) (status : ℕ) → status ≡ status_after done
@@ -14,6 +14,13 @@ pub cut : {A : Type 0} (IsRight : A → List ℕ → Type 0) (IsSeen : Bool → 
     → (before after : Option (List ℕ)) (e : OutputFault) (r : Result Bool OutputFault) → IsErrAnd r (λ x. x ≡ e) → PutsOut IsRight before after (Err e) → PutsOut IsSeen before after r
 cut IsRight IsSeen f right before after e (Ok x) same puts = absurd same
 cut IsRight IsSeen f right before after e (Err x) same puts = rw same (puts_as IsRight IsSeen f right before after e puts)
+
+-- the same of an answer that may be of an entry that is missing
+pub cut_answer : {A : Type 0} (IsRight : A → List ℕ → Type 0) (IsSeen : Bool → List ℕ → Type 0) (Missing : Type 0) (f : A → Bool)
+    → ((x : A) (told : List ℕ) → IsRight x told → IsSeen (f x) told) → (before after : Option (List ℕ)) (e : OutputFault) (r : Result Bool AnswerFault)
+    → IsErrAnd r (λ x. x ≡ Output e) → PutsOut IsRight before after (Err e) → Answers IsSeen Missing before after r
+cut_answer IsRight IsSeen Missing f right before after e (Ok x) same puts = absurd same
+cut_answer IsRight IsSeen Missing f right before after e (Err x) same puts = rw same (puts_as IsRight IsSeen f right before after e puts)
 
 -- an observer that keeps whether some command was refused
 module _ {O : Type 0} (has : O → Bool) where

@@ -3,3 +3,4 @@ pub mod Lines
 pub mod Endings
 pub mod Several
 pub mod Sayings
+pub mod Arounds

@@ -5,20 +5,21 @@ use Rattle.fbl_program.proofs.Common.{AreWorkers, IsFlag, IsJobAt, IsJobOf, IsTa
 use Rattle.fbl_program.proofs.Common.{names_of, built_takes, takes, nothing_held, stop_after, App, HasKind, HasMatchesOf, ReadsOne, Row, Text, fault_of, is_simple_and_free, kind_of, one_of, subcommand_name_of, subcommand_rows}
 use Rattle.fbl_program.proofs.Common.{subcommand_rows_of, Error, OutOfMemory, ArgMatches, out-ArgMatches, out-SubCommand, SubCommand, WorkersAllowed, IsCommandLine, is_audit, is_check, is_draw}
 use Rattle.fbl_program.proofs.Common.{is_play, is_show, is_show_workers, is_workers, flag_text, program, with_explain}
-use Rattle.fbl_program.proofs.Common.{with_strict, Script, Play, Show, Task}
+use Rattle.fbl_program.proofs.Common.{with_strict, Draw, Judge, Play, Run, Script, Show, Task}
 use Rattle.clap.proofs.OnLiterals.{clap_on_literals}
 
 -- the subcommand that the words behind the program's name give, with what was found of it
 abbrev named : List Text → Option (Text × List Row)
 named line = entered (built program) (stop_after (built program).top.rules (names_of (built program)) line)
 
--- its name, the texts of the number of workers and of the two flags, the names of the files that are read, and that of the one written
+-- its name, the texts of the number of workers and of the two flags, the names of the files that are read, that of the one written, and the
+-- entry around which is drawn
 abbrev Asked : Type 0
-Asked = Text × Option Text × Option Text × Option Text × Option (List Text) × Option Text
+Asked = Text × Option Text × Option Text × Option Text × Option (List Text) × Option Text × Option Text
 
 abbrev asked : Option (Text × List Row) → Option Asked
 asked found =
-    option_map (λ p. (p.0, one_of (codes "workers") p.1, one_of (codes "strict") p.1, one_of (codes "explain") p.1, all_of (codes "input") p.1, first_of (codes "output") p.1)) found
+    option_map (λ p. (p.0, one_of (codes "workers") p.1, one_of (codes "strict") p.1, one_of (codes "explain") p.1, all_of (codes "input") p.1, first_of (codes "output") p.1, first_of (codes "around") p.1)) found
 
 -- the words are taken
 abbrev IsTaken : List Text → Type 0
@@ -32,7 +33,7 @@ program_simple = refl
 
 -- the words of a line are taken, with or without `--explain`, and ask for this
 abbrev Gives : List Text → Text → Option Text → Option Text → Bool → Type 0
-Gives line name workers strict e = (asked (named (with_explain e line)) ≡ Some (name, workers, strict, Some (flag_text e), None, None)) × IsTaken (with_explain e line)
+Gives line name workers strict e = (asked (named (with_explain e line)) ≡ Some (name, workers, strict, Some (flag_text e), None, None, None)) × IsTaken (with_explain e line)
 
 -- the same of a line of a play, with or without `--strict`
 abbrev PlayGives : List Text → Text → Bool → Bool → Type 0
@@ -83,7 +84,7 @@ words_for (is_show line) = (codes "show", Some (codes "2"), None)
 words_for (is_show_workers n count line) = (codes "show", Some (decimal n), None)
 
 abbrev asked_for : {words : List Text} → IsCommandLine words → Asked
-asked_for line = (let words = words_for line in (words.0, words.1, words.2, Some (flag_text (explain_for line)), None, None))
+asked_for line = (let words = words_for line in (words.0, words.1, words.2, Some (flag_text (explain_for line)), None, None, None))
 
 -- its words are taken, and ask for this
 line_gives : (words : List Text) (line : IsCommandLine words) → (asked (named (drop 1 words)) ≡ Some (asked_for line)) × IsTaken (drop 1 words)
@@ -146,11 +147,12 @@ record IsFound (name : Text) (rows : List Row) (x : Asked) : Type 0 where
   pub explain : one_of (codes "explain") rows ≡ x.3
   pub input : all_of (codes "input") rows ≡ x.4
   pub output : first_of (codes "output") rows ≡ x.5
+  pub around : first_of (codes "around") rows ≡ x.6
 
 found_asked : (o : Option (Text × List Row)) (name : Text) (rows : List Row) (x : Asked) → option_map (λ p. p.0) o ≡ Some name → option_map (λ p. p.1) o ≡ Some rows → asked o ≡ Some x
     → IsFound name rows x
 found_asked None name rows x is found e = absurd (cc)
-found_asked (Some p) name rows x is found e = record { named = cc; workers = cc; strict = cc; explain = cc; input = cc; output = cc }
+found_asked (Some p) name rows x is found e = record { named = cc; workers = cc; strict = cc; explain = cc; input = cc; output = cc; around = cc }
 
 -- the task of a play is by the number of workers, and whether it is strict
 play_found : (rows : List Row) (task : Option Task) (n : ℕ) (strict : Bool)
@@ -164,22 +166,27 @@ show_found : (rows : List Row) (task : Option Task) (n : ℕ) → (workers : ℕ
     → n < 10 → one_of (codes "workers") rows ≡ Some (decimal n) → task ≡ Some (Script (Show n))
 show_found rows task n (workers, are, is) small counted = is ∙ ap (λ w. Some (Script (Show w))) (are n small counted)
 
+-- a name that has no text is not given
+not_named : (name : Option (Bor Text)) (text : Option Text) → Names name text → text ≡ None → name ≡ None
+not_named None text is none = refl
+not_named (Some x) text is none = absurd (cc)
+
+-- that of a picture of a run has no entry where none is named
+draw_found : (rows : List Row) (task : Option Task) → (around : Option (Bor Text)) × Names around (first_of (codes "around") rows) × (task ≡ Some (Run (Judge (Draw around))))
+    → first_of (codes "around") rows ≡ None → task ≡ Some (Run (Judge (Draw None)))
+draw_found rows task (around, named, is) none = is ∙ ap (λ a. Some (Run (Judge (Draw a)))) (not_named around (first_of (codes "around") rows) named none)
+
 -- what was found is what a command line asks for, so that the task at it is the line's
 task_found : {words : List Text} (name : Text) (rows : List Row) (task : Option Task) → IsTaskAt name rows task
     → (line : IsCommandLine words) → IsFound name rows (asked_for line) → task ≡ Some (task_for line)
 task_found name rows task at (is_merge line) f = at.merge f.named
 task_found name rows task at (is_audit line) f = at.audit f.named
 task_found name rows task at (is_check line) f = at.check f.named
-task_found name rows task at (is_draw line) f = at.draw f.named
+task_found name rows task at (is_draw line) f = draw_found rows task (at.draw f.named) f.around
 task_found name rows task at (is_play s line) f = play_found rows task 2 s (at.play f.named) (omega arith) (f.workers ∙ ap Some (sym two)) f.strict
 task_found name rows task at (is_workers s n count line) f = play_found rows task n s (at.play f.named) (omega (arith, count.1)) f.workers f.strict
 task_found name rows task at (is_show line) f = show_found rows task 2 (at.show f.named) (omega arith) (f.workers ∙ ap Some (sym two))
 task_found name rows task at (is_show_workers n count line) f = show_found rows task n (at.show f.named) (omega (arith, count.1)) f.workers
-
--- a name that has no text is not given
-not_named : (name : Option (Bor Text)) (text : Option Text) → Names name text → text ≡ None → name ≡ None
-not_named None text is none = refl
-not_named (Some x) text is none = absurd (cc)
 
 -- names that have no text are none
 none_named : (names : List (Bor Text)) (texts : Option (List Text)) → AreNames names (unwrap_or texts []) → texts ≡ None → names ≡ []

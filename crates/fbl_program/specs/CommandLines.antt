@@ -43,6 +43,10 @@ inputs_rule = record (new_rule (codes "input")) { action = Some Append; value_na
 abbrev pub output_rule : Rule
 output_rule = record (new_rule (codes "output")) { short = Some 111; long = Some (codes "output"); action = Some Set; value_names = 1 }
 
+-- `--around K`, which is given or not
+abbrev pub around_rule : Rule
+around_rule = record (new_rule (codes "around")) { long = Some (codes "around"); action = Some Set; value_names = 1 }
+
 -- what each subcommand has: what it reads, the file to write, and `--explain`
 abbrev pub with_shared : Rule → App → App
 with_shared read app = with_rule (with_rule (with_rule app read) output_rule) explain_rule
@@ -52,6 +56,9 @@ play_app = with_shared input_rule (with_rule (with_rule (new_app (codes "play"))
 
 abbrev pub show_app : App
 show_app = with_shared input_rule (with_rule (new_app (codes "show")) workers_rule)
+
+abbrev pub draw_app : App
+draw_app = with_shared inputs_rule (with_rule (new_app (codes "draw")) around_rule)
 
 -- a subcommand of this name that reads files, with no more
 abbrev pub shared_app : Text → App
@@ -71,7 +78,7 @@ with_players = with_subcommand (with_subcommand top_app play_app.top) show_app.t
 
 -- the program with the subcommands `play`, `show`, `merge`, `audit`, `check` and `draw`
 abbrev pub program : App
-program = with_reader (codes "draw") (with_reader (codes "check") (with_reader (codes "audit") (with_reader (codes "merge") with_players)))
+program = with_subcommand (with_reader (codes "check") (with_reader (codes "audit") (with_reader (codes "merge") with_players))) draw_app.top
 
 -- ---- what it makes of the words
 
@@ -110,7 +117,7 @@ abbrev pub task_for : {words : List Text} → IsCommandLine words → Task
 task_for (is_merge line) = Run Merge
 task_for (is_audit line) = Run (Judge Audit)
 task_for (is_check line) = Run (Judge Check)
-task_for (is_draw line) = Run (Judge Draw)
+task_for (is_draw line) = Run (Judge (Draw None))
 task_for (is_play strict line) = Script (Play 2 strict)
 task_for (is_workers strict n allowed line) = Script (Play n strict)
 task_for (is_show line) = Script (Show 2)
@@ -153,6 +160,10 @@ AreWorkers rows workers = (n : ℕ) → n < 10 → one_of (codes "workers") rows
 abbrev pub texts_in : Text → List Row → List Text
 texts_in id rows = unwrap_or (all_of id rows) []
 
+-- a word that is given or not is this text
+abbrev pub Names : Option (Bor Text) → Option Text → Type 0
+Names name text = option_map (λ s. s.now) name ≡ text
+
 -- the task is that of a subcommand of this name with these arguments
 pub record IsTaskAt (name : Text) (rows : List Row) (task : Option Task) : Type 0 where
   pub play : name ≡ codes "play" → (workers : ℕ) × AreWorkers rows workers × (strict : Bool) × IsFlag (codes "strict") rows strict × (task ≡ Some (Script (Play workers strict)))
@@ -160,11 +171,7 @@ pub record IsTaskAt (name : Text) (rows : List Row) (task : Option Task) : Type 
   pub merge : name ≡ codes "merge" → task ≡ Some (Run Merge)
   pub audit : name ≡ codes "audit" → task ≡ Some (Run (Judge Audit))
   pub check : name ≡ codes "check" → task ≡ Some (Run (Judge Check))
-  pub draw : name ≡ codes "draw" → task ≡ Some (Run (Judge Draw))
-
--- a name that is given or not is this text
-abbrev pub Names : Option (Bor Text) → Option Text → Type 0
-Names name text = option_map (λ s. s.now) name ≡ text
+  pub draw : name ≡ codes "draw" → (around : Option (Bor Text)) × Names around (first_of (codes "around") rows) × (task ≡ Some (Run (Judge (Draw around))))
 
 -- the names are these texts
 abbrev pub AreNames : List (Bor Text) → List Text → Type 0

@@ -14,6 +14,7 @@ use Rattle.fbl_judge.specs.declared.check.UnsafeReceipt.{UnsafeReceipt}
 use Rattle.fbl_order.specs.declared.order.Ordered.{Ordered}
 use Rattle.fbl_pictures.specs.HistoryPictures.{IsHistoryPicture}
 use Rattle.fbl_pictures.specs.RunPictures.{IsRunPicture}
+use Rattle.fbl_pictures.specs.RunShapes.{shown_entries}
 use Rattle.fbl_play.specs.Plays.{PlaysUnobserved}
 use Rattle.fbl_play.specs.Steps.{is_refusal}
 use Rattle.fbl_play.specs.Transcripts.{history, text}
@@ -27,6 +28,8 @@ use Rattle.fbl_records.specs.declared.reader.Recording.TheVariants as checked
 use Rattle.fbl_records.specs.declared.reader.RawRecording.{RawRecording}
 use Rattle.fbl_runs.specs.Logs.{RunParts, run_of_dump}
 use Rattle.fbl_scripts.specs.Scripts.{Outline, IsScriptFault, IsScriptOf, behaviour_word}
+use Rattle.fbl_program.specs.declared.around.AnswerFault.{AnswerFault}
+use Rattle.fbl_program.specs.declared.around.AnswerFault.TheVariants.{NoEntry, Output}
 use Rattle.fbl_program.specs.declared.job.Question.{Question}
 use Rattle.fbl_program.specs.declared.job.Question.TheVariants.{Audit, Check, Draw}
 use Rattle.fbl_program.specs.declared.job.RunTask.{RunTask}
@@ -37,6 +40,7 @@ use Rattle.fbl_program.specs.declared.job.Task.{Task}
 use Rattle.fbl_program.specs.declared.job.Task.TheVariants.{Script, Run}
 use Rattle.fbl_program.specs.declared.merge.MergeFault.{MergeFault}
 use Rattle.fbl_program.specs.declared.merge.Together.{Together}
+use Rattle.fbl_program.specs.Arounds.{IsAround, IsMissing}
 use Rattle.fbl_program.specs.Merges.{AreTogether, IsMergeOf, RefusesMerge, lengths_of, merge_status}
 use Rattle.fbl_program.specs.Statuses.{fault_status, status_after}
 
@@ -60,7 +64,13 @@ DoesScript (Show workers) s before after = PutsOut (λ is_well drawn. IsShown wo
 abbrev pub IsAnswerTo : Question → RunParts → Sources → Bool → List ℕ → Type 0
 IsAnswerTo Audit run sources is_well told = (found : Found) × IsAudit run found × (told ≡ audit_lines found.lost.items found.orphans) × (is_well ≡ true)
 IsAnswerTo Check run sources is_well told = (receipts : List UnsafeReceipt) × IsChecked run sources receipts told × (is_well ≡ nat_eq (length receipts) 0)
-IsAnswerTo Draw run sources is_well told = IsRunPicture run sources told × (is_well ≡ true)
+IsAnswerTo (Draw words) run sources is_well told =
+    (around : Option ℕ) × IsAround sources (length (shown_entries run)) words around × IsRunPicture run sources around told × (is_well ≡ true)
+
+-- a picture is asked for around an entry that is not there
+abbrev pub IsPlaceMissing : Question → RunParts → Sources → Type 0
+IsPlaceMissing (Draw words) run sources = IsMissing sources (length (shown_entries run)) words
+IsPlaceMissing question run sources = ⊥
 
 -- the run of a dump is judged at its end
 abbrev pub run_of : Recording → RunParts
@@ -77,10 +87,22 @@ abbrev pub IsAnswer : RunTask → Recording → Sources → Bool → List ℕ �
 IsAnswer (Judge question) found sources is_well told = IsAnswerTo question (run_of found) sources is_well told
 IsAnswer Merge found sources is_well told = (told ≡ run_line found) × (is_well ≡ true)
 
+-- so is one of the dump or the log
+abbrev pub IsPlaceMissingOf : RunTask → Recording → Sources → Type 0
+IsPlaceMissingOf (Judge question) found sources = IsPlaceMissing question (run_of found) sources
+IsPlaceMissingOf Merge found sources = ⊥
+
+-- what an answer leaves in the writer, where a relation says which answers are right; or it is of an entry that is missing: nothing is written
+abbrev pub Answers : (Bool → List ℕ → Type 0) → Type 0 → Option (List ℕ) → Option (List ℕ) → Result Bool AnswerFault → Type 0
+Answers IsRight Missing before after (Ok is_well) = PutsOut IsRight before after (Ok is_well)
+Answers IsRight Missing before after (Err (Output fault)) = PutsOut IsRight before after (Err fault)
+Answers IsRight Missing before after (Err NoEntry) = Missing × Keeps before after
+
 -- what is left in the writer, and the exit status, where this is done with a dump or a log, whose entries stand in these files
 abbrev pub EndsWith : RunTask → Recording → Sources → Option (List ℕ) → Option (List ℕ) → ℕ → Type 0
 EndsWith task found sources before after status =
-    (done : Result Bool OutputFault) × PutsOut (IsAnswer task found sources) before after done × (status ≡ status_after (run_result done))
+    ((done : Result Bool OutputFault) × PutsOut (IsAnswer task found sources) before after done × (status ≡ status_after (run_result done)))
+    ⊎ (IsPlaceMissingOf task found sources × Keeps before after × (status ≡ 2))
 
 -- the same where it is that of one file
 abbrev pub EndsAlone : RunTask → Recording → Option (List ℕ) → Option (List ℕ) → ℕ → Type 0

@@ -3,7 +3,7 @@
 ghost use Rattle.std.specs.Prelude.{◌≡◌, map, false, IfOk, IfErr, option_map, string_bytes};
 ghost use Rattle.clap.specs.Words.{app_of, first_of, found_of, new_app, rows_of, rule_of, with_rule};
 ghost use Rattle.clap.specs.declared.builder.command.Command.TheViews.{out-Command as fields_of};
-ghost use Rattle.fbl_program.specs.CommandLines.{AreNames, AreWorkers, IsCommandLine, IsFlag, IsJobAt, IsJobOf, IsMisuseOf, IsRefusedFor, IsTaskAt, explain_rule, input_rule, inputs_rule, output_rule, play_app, program, show_app, strict_rule, texts_in, top_app, with_players, with_reader, with_shared, workers_rule};
+ghost use Rattle.fbl_program.specs.CommandLines.{AreNames, AreWorkers, IsCommandLine, IsFlag, IsJobAt, IsJobOf, IsMisuseOf, IsRefusedFor, IsTaskAt, around_rule, draw_app, explain_rule, input_rule, inputs_rule, output_rule, play_app, program, show_app, strict_rule, texts_in, top_app, with_players, with_reader, with_shared, workers_rule};
 
 use crate::job::{Job, Question, RunTask, ScriptTask, Task};
 use clap::{Arg, ArgAction, ArgMatches, Command};
@@ -94,6 +94,10 @@ const SCRIPT: &str = "The file with the script; where none is named, or -, it is
 /// What the input of an audit is.
 const DUMP: &str =
     "The file with the dump; several are merged first; where none is named, or -, it is standard input";
+
+/// What `--around` does.
+const AROUND: &str =
+    "Draws the entry at K, as a check prints it, with the 30 entries before it and the 30 behind it";
 
 /// What `-o` does.
 const OUTPUT: &str =
@@ -218,6 +222,18 @@ fn output<'a>(alloc: Global) -> Arg<'a>
         .help(OUTPUT)
 }
 
+/// The option `--around`, the entry around which a run is drawn.
+fn around<'a>(alloc: Global) -> Arg<'a>
+    ensures rule { rule_of result ≡ around_rule }
+    ensures local { result.global ≡ false }
+{
+    Arg::new(alloc, "around")
+        .long("around")
+        .action(ArgAction::Set)
+        .value_name("K")
+        .help(AROUND)
+}
+
 /// The subcommand with what each has too: what is read, which is this, the file to write, and the flag `--explain`, which does this.
 fn with_shared_args<'a>(
     alloc: Global,
@@ -284,6 +300,18 @@ fn with_reader<'a>(
     command.subcommand(reader)
 }
 
+/// The subcommand `draw`, which may be around an entry.
+fn draw<'a>(alloc: Global) -> Result<Command<'a>, AllocError>
+    ensures app { IfOk result (λ c. app_of c ≡ draw_app) }
+    ensures no_globals { IfOk result (λ c. (fields_of c).has_globals ≡ false) }
+{
+    let draw = Command::new(alloc, "draw")
+        .about(DRAW)
+        .after_help(DRAW_EXAMPLE);
+    let draw = draw.arg(around(alloc))?;
+    with_shared_args(alloc, draw, inputs(alloc, DUMP), EXPLAIN_DRAW)
+}
+
 /// The program above its subcommands.
 fn top<'a>(alloc: Global) -> Command<'a>
     ensures { app_of result ≡ top_app }
@@ -305,8 +333,8 @@ fn with_players<'a>(alloc: Global) -> Result<Command<'a>, AllocError>
 }
 
 /// What the program takes: `play`, with a number of workers, strict or not, `show`, with a number of workers, both with or without
-/// a file to read, `merge`, `audit`, `check` or `draw`, with any number of them, each with or without a file to write and
-/// `--explain`.
+/// a file to read, `merge`, `audit`, `check` or `draw`, with any number of them, the last one around an entry or not, each with or
+/// without a file to write and `--explain`.
 fn command_line<'a>(alloc: Global) -> Result<Command<'a>, AllocError>
     ensures { IfOk result (λ c. app_of c ≡ program) }
 {
@@ -314,7 +342,8 @@ fn command_line<'a>(alloc: Global) -> Result<Command<'a>, AllocError>
     let command = with_reader(alloc, command, "merge", MERGE, MERGE_EXAMPLE, EXPLAIN_DRAW)?;
     let command = with_reader(alloc, command, "audit", AUDIT, AUDIT_EXAMPLE, EXPLAIN_AUDIT)?;
     let command = with_reader(alloc, command, "check", CHECK, CHECK_EXAMPLE, EXPLAIN_CHECK)?;
-    with_reader(alloc, command, "draw", DRAW, DRAW_EXAMPLE, EXPLAIN_DRAW)
+    let draw = draw(alloc)?;
+    command.subcommand(draw)
 }
 
 /// How many workers are asked for.
@@ -331,8 +360,8 @@ fn flag_in(found: &ArgMatches, name: &str) -> bool
     found.get_flag(name)
 }
 
-/// The name of a file that is given, if one is.
-fn file_in<'a>(found: &ArgMatches<'a>, name: &str) -> Option<&'a str>
+/// The word that is given for an argument of this name, if one is.
+fn word_in<'a>(found: &ArgMatches<'a>, name: &str) -> Option<&'a str>
     ensures { option_map (λ s. s.now) result ≡ first_of name.now (rows_of (found_of found.now)) }
 {
     found.get_str(name)
@@ -352,7 +381,7 @@ fn files_in<'a>(
 }
 
 /// What the subcommand of this name does, if there is one.
-fn task_at(name: &str, found: &ArgMatches) -> Option<Task>
+fn task_at<'a>(name: &str, found: &ArgMatches<'a>) -> Option<Task<'a>>
     ensures { IsTaskAt name.now (rows_of (found_of found.now)) result }
 {
     Some(match name {
@@ -366,7 +395,7 @@ fn task_at(name: &str, found: &ArgMatches) -> Option<Task>
         "merge" => Task::Run(RunTask::Merge),
         "audit" => Task::Run(RunTask::Judge(Question::Audit)),
         "check" => Task::Run(RunTask::Judge(Question::Check)),
-        "draw" => Task::Run(RunTask::Judge(Question::Draw)),
+        "draw" => Task::Run(RunTask::Judge(Question::Draw(word_in(found, "around")))),
         _ => return None,
     })
 }
@@ -386,7 +415,7 @@ fn job_at<'a>(
         task,
         explain: flag_in(found, "explain"),
         inputs: files_in(alloc, found, "input")?,
-        output: file_in(found, "output"),
+        output: word_in(found, "output"),
     }))
 }
 

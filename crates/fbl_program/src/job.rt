@@ -19,35 +19,35 @@ pub(crate) enum ScriptTask {
 
 /// What is asked of a recorded run.
 #[derive(Clone, Copy)]
-pub(crate) enum Question {
+pub(crate) enum Question<'a> {
     /// Which receipts are lost, and which members are orphans.
     Audit,
     /// Which receipts could be lost with an orphan left. All is well where none could.
     Check,
-    /// Its picture.
-    Draw,
+    /// Its picture: around the entry that these words name as a check names it, if there are some.
+    Draw(Option<&'a str>),
 }
 
 /// What is to be done with a recorded run.
 #[derive(Clone, Copy)]
-pub(crate) enum RunTask {
+pub(crate) enum RunTask<'a> {
     /// Answer this.
-    Judge(Question),
+    Judge(Question<'a>),
     /// Put its events into an order, and write it as a line.
     Merge,
 }
 
 /// What is to be done with the input.
 #[derive(Clone, Copy)]
-pub(crate) enum Task {
+pub(crate) enum Task<'a> {
     Script(ScriptTask),
-    Run(RunTask),
+    Run(RunTask<'a>),
 }
 
 /// What the words of a command line ask for.
 #[derive(Drop)]
 pub(crate) struct Job<'a> {
-    pub(crate) task: Task,
+    pub(crate) task: Task<'a>,
     /// Whether explanations are written on standard error. The text and the exit status are the same with them.
     pub(crate) explain: bool,
     /// The names of the files that are read, in order. A script is in one.

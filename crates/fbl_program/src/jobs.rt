@@ -47,13 +47,13 @@ fn end_script<T: Eprint + Threads + Wait + Sync, R: Read, W: Write>(
 fn end_input<T: Eprint, R: Read, W: Write>(
     rt: &T,
     alloc: Global,
-    task: RunTask,
+    task: RunTask<'_>,
     explain: bool,
     reader: &mut Named<'_, R>,
     writer: &mut Named<'_, W>,
 ) -> u8
     ensures { IfSome (R.remaining reader.old.stream)
-        (λ input. EndsTask (Run task) input (W.contents writer.old.stream)
+        (λ input. EndsTask (Run task.entry) input (W.contents writer.old.stream)
         (W.contents writer.new.stream) result) }
 {
     match task {
@@ -72,13 +72,13 @@ fn end_input<T: Eprint, R: Read, W: Write>(
 fn do_task<T: Eprint + Threads + Wait + Sync, R: Read, W: Write>(
     rt: &T,
     alloc: Global,
-    task: Task,
+    task: Task<'_>,
     explain: bool,
     reader: &mut Named<'_, R>,
     writer: &mut Named<'_, W>,
 ) -> u8
     ensures { IfSome (R.remaining reader.old.stream)
-        (λ input. EndsTask task input (W.contents writer.old.stream)
+        (λ input. EndsTask task.entry input (W.contents writer.old.stream)
         (W.contents writer.new.stream) result) }
 {
     match task {
@@ -138,12 +138,12 @@ fn do_one<T: Eprint + Threads + Wait + Sync, S: Streams>(
     rt: &T,
     alloc: Global,
     streams: &S,
-    task: Task,
+    task: Task<'_>,
     explain: bool,
     name: &str,
     output: &str,
 ) -> u8
-    ensures { EndsOne (S.input streams.now) (S.output streams.now) (S.settled streams.now) task name.now output.now result }
+    ensures { EndsOne (S.input streams.now) (S.output streams.now) (S.settled streams.now) task.entry name.now output.now result }
 {
     let mut reader = match streams.reader(name) {
         Ok(reader) => reader,
@@ -170,14 +170,14 @@ fn do_several<T: Eprint, S: Streams>(
     rt: &T,
     alloc: Global,
     streams: &S,
-    task: RunTask,
+    task: RunTask<'_>,
     explain: bool,
     names: &[&str],
     output: &str,
 ) -> u8
     requires { 0 < length names.now }
     ensures { EndsSeveral (S.input streams.now) (S.output streams.now) (S.settled streams.now)
-        (is_input_again (map (λ name. name.now) names.now)) task
+        (is_input_again (map (λ name. name.now) names.now)) task.entry
         (map (λ name. name.now) names.now) output.now result }
 {
     if names_input_again(names) {

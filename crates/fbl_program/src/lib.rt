@@ -1,6 +1,7 @@
 //! The program as a library, over any streams: scripts are played or shown, recorded runs merged, audited, checked or drawn.
 #![tactic(auto)]
 
+mod around;
 mod command_line;
 mod job;
 mod jobs;

@@ -5,18 +5,19 @@ ghost use Rattle.std.specs.List.{All};
 ghost use Rattle.fbl_input.specs.Faults.{PutsOut};
 ghost use Rattle.fbl_judge.specs.Unsafe.{IsSaidOf};
 ghost use Rattle.fbl_program.specs.Merges.{count_of};
-ghost use Rattle.fbl_program.specs.Outcomes.{EndsMerged, EndsRecorded, EndsWith, IsAnswer, IsAnswerTo, run_line, run_of};
+ghost use Rattle.fbl_program.specs.Outcomes.{Answers, EndsMerged, EndsRecorded, EndsWith, IsAnswer, IsAnswerTo, IsPlaceMissing, IsPlaceMissingOf, run_line, run_of};
 
+use crate::around::{AnswerFault, place_asked};
 use crate::job::{Question, RunTask};
 use crate::merge::{Together, merge_of};
 use crate::merge_words::InputFiles;
-use crate::status::{end, fail};
+use crate::status::{INPUT_FAULT, end, fail};
 use crate::streams::Named;
 use crate::teller::refuse_merge;
 use fbl_input::shapes::LONGEST;
 use fbl_input::{OutputFault, RunFault, Sources, put};
 use fbl_judge::{Pasts, Reason, UnsafeReceipt, audit_of, loss_reasons, unsafe_reasons};
-use fbl_pictures::write_run_picture;
+use fbl_pictures::{column_count, write_run_picture};
 use fbl_records::{RawRecording, Recording, Why, dump_text, log_text, write_audit, write_check};
 use fbl_runs::Run;
 use fbl_trace::Determinant;
@@ -104,13 +105,14 @@ fn explain_check<R: Eprint>(
 fn answer<T: Eprint, W: Write>(
     rt: &T,
     alloc: Global,
-    question: Question,
+    question: Question<'_>,
     explain: bool,
     pasts: &Pasts<'_>,
     sources: &Sources<'_>,
     writer: &mut W,
-) -> Result<bool, OutputFault>
-    ensures { PutsOut (IsAnswerTo question pasts.now sources.now) (W.contents writer.old) (W.contents writer.new) result }
+) -> Result<bool, AnswerFault>
+    ensures { Answers (IsAnswerTo question.entry pasts.now sources.now) (IsPlaceMissing question.entry pasts.now sources.now)
+        (W.contents writer.old) (W.contents writer.new) result }
 {
     match question {
         Question::Audit => {
@@ -124,8 +126,9 @@ fn answer<T: Eprint, W: Write>(
             explain_check(rt, alloc, explain, pasts, sources, receipts.as_slice());
             Ok(receipts.is_empty())
         }
-        Question::Draw => {
-            write_run_picture(alloc, pasts, sources, writer)?;
+        Question::Draw(words) => {
+            let around = place_asked(rt, alloc, sources, column_count(pasts), words)?;
+            write_run_picture(alloc, pasts, sources, around, writer)?;
             Ok(true)
         }
     }
@@ -135,13 +138,14 @@ fn answer<T: Eprint, W: Write>(
 fn judge_run<T: Eprint, W: Write>(
     rt: &T,
     alloc: Global,
-    question: Question,
+    question: Question<'_>,
     explain: bool,
     run: &Run,
     sources: &Sources<'_>,
     writer: &mut W,
-) -> Result<bool, OutputFault>
-    ensures { PutsOut (IsAnswerTo question run.now sources.now) (W.contents writer.old) (W.contents writer.new) result }
+) -> Result<bool, AnswerFault>
+    ensures { Answers (IsAnswerTo question.entry run.now sources.now) (IsPlaceMissing question.entry run.now sources.now)
+        (W.contents writer.old) (W.contents writer.new) result }
 {
     let pasts = Pasts::of(alloc, run)?;
     answer(rt, alloc, question, explain, &pasts, sources, writer)
@@ -151,14 +155,15 @@ fn judge_run<T: Eprint, W: Write>(
 fn judge<T: Eprint, W: Write>(
     rt: &T,
     alloc: Global,
-    question: Question,
+    question: Question<'_>,
     explain: bool,
     found: &Recording,
     sources: &Sources<'_>,
     writer: &mut W,
-) -> Result<bool, OutputFault>
-    ensures { PutsOut (IsAnswerTo question (run_of found.now) sources.now) (W.contents writer.old)
-        (W.contents writer.new) result }
+) -> Result<bool, AnswerFault>
+    ensures { Answers (IsAnswerTo question.entry (run_of found.now) sources.now)
+        (IsPlaceMissing question.entry (run_of found.now) sources.now)
+        (W.contents writer.old) (W.contents writer.new) result }
 {
     match found {
         Recording::Dump(dump) => {
@@ -173,13 +178,14 @@ fn judge<T: Eprint, W: Write>(
 fn do_run<T: Eprint, W: Write>(
     rt: &T,
     alloc: Global,
-    task: RunTask,
+    task: RunTask<'_>,
     explain: bool,
     found: &Recording,
     sources: &Sources<'_>,
     writer: &mut W,
-) -> Result<bool, OutputFault>
-    ensures { PutsOut (IsAnswer task found.now sources.now) (W.contents writer.old) (W.contents writer.new) result }
+) -> Result<bool, AnswerFault>
+    ensures { Answers (IsAnswer task.entry found.now sources.now) (IsPlaceMissingOf task.entry found.now sources.now)
+        (W.contents writer.old) (W.contents writer.new) result }
 {
     match task {
         RunTask::Judge(question) => judge(rt, alloc, question, explain, found, sources, writer),
@@ -195,16 +201,19 @@ fn do_run<T: Eprint, W: Write>(
 pub(crate) fn end_run<T: Eprint, W: Write>(
     rt: &T,
     alloc: Global,
-    task: RunTask,
+    task: RunTask<'_>,
     explain: bool,
     found: &Recording,
     sources: &Sources<'_>,
     writer: &mut Named<'_, W>,
 ) -> u8
-    ensures { EndsWith task found.now sources.now (W.contents writer.old.stream) (W.contents writer.new.stream) result }
+    ensures { EndsWith task.entry found.now sources.now (W.contents writer.old.stream) (W.contents writer.new.stream) result }
 {
-    let done = do_run(rt, alloc, task, explain, found, sources, writer);
-    end(rt, done, writer.failure())
+    match do_run(rt, alloc, task, explain, found, sources, writer) {
+        Ok(is_well) => end(rt, Ok(is_well), writer.failure()),
+        Err(AnswerFault::Output(fault)) => end(rt, Err(fault), writer.failure()),
+        Err(AnswerFault::NoEntry) => INPUT_FAULT,
+    }
 }
 
 /// The sources of what is in one file.
@@ -223,14 +232,14 @@ pub(crate) fn one_file() -> Sources<'static>
 pub(crate) fn end_merged<T: Eprint, W: Write>(
     rt: &T,
     alloc: Global,
-    task: RunTask,
+    task: RunTask<'_>,
     explain: bool,
     together: &Together,
     names: &[&str],
     writer: &mut Named<'_, W>,
 ) -> u8
     requires { 0 < count_of together.now }
-    ensures { EndsMerged task together.now (map (λ name. name.now) names.now)
+    ensures { EndsMerged task.entry together.now (map (λ name. name.now) names.now)
         (W.contents writer.old.stream) (W.contents writer.new.stream) result }
 {
     let files = match InputFiles::of(alloc, names, together) {
@@ -250,12 +259,12 @@ pub(crate) fn end_merged<T: Eprint, W: Write>(
 pub(crate) fn end_recorded<T: Eprint, W: Write>(
     rt: &T,
     alloc: Global,
-    task: RunTask,
+    task: RunTask<'_>,
     explain: bool,
     recorded: RawRecording,
     writer: &mut Named<'_, W>,
 ) -> u8
-    ensures { EndsRecorded task recorded (W.contents writer.old.stream) (W.contents writer.new.stream) result }
+    ensures { EndsRecorded task.entry recorded (W.contents writer.old.stream) (W.contents writer.new.stream) result }
 {
     match Together::of(alloc, recorded) {
         Ok(together) => end_merged(rt, alloc, task, explain, &together, &[], writer),

@@ -1,19 +1,29 @@
-//! The arrows of messages.
+//! The arrows of messages and of control messages.
 
 ghost use Rattle.std.specs.Prelude.{◌≡◌, ◌++◌, IfOk, OnOk};
-ghost use Rattle.fbl_pictures.specs.RunShapes.{IsPlacesOf, entry_arrow, event_arrow, in_time, message_arrow, taken_in};
+ghost use Rattle.fbl_pictures.specs.RunShapes.{AreEndsOf, AreReceiptPlaces, AreToldPlaces, arrow_of, control_arrow as control_arrow_of, entry_arrow, event_arrow as event_arrow_of, in_time, message_arrow as message_arrow_of, taken_in, told_in};
 ghost use Rattle.fbl_history.specs.Shapes.{drawn};
 
 use crate::run::columns::Columns;
+use crate::run::window::Window;
 use fbl_history::{ArrowKind, Shape};
-use fbl_runs::Entry;
+use fbl_runs::{ControlMessage, Entry};
 use fbl_trace::{Mark, Member, MessageName};
 use std::alloc::{AllocError, Global};
 use std::collections::HashMap;
 use std::hash::{BuildHasherDefault, FoldHasher};
 
-/// For each message that is received, the place of its receipt.
-type ReceiptPlaces = HashMap<MessageName, usize, BuildHasherDefault<FoldHasher>>;
+/// For each name of a message, a place.
+type Places<M> = HashMap<M, usize, BuildHasherDefault<FoldHasher>>;
+
+/// Where messages are received, and control messages taken.
+#[derive(Drop)]
+struct Ends {
+    /// For each message that is received, the place of its receipt.
+    receipts: Places<MessageName>,
+    /// For each control message that is taken, the place of its told.
+    tolds: Places<ControlMessage>,
+}
 
 /// The message that an entry takes, if it is a receipt.
 fn message_taken(entry: Entry) -> Option<MessageName>
@@ -26,9 +36,19 @@ fn message_taken(entry: Entry) -> Option<MessageName>
     })
 }
 
+/// The control message that an entry takes, if it is a told.
+fn control_taken(entry: Entry) -> Option<ControlMessage>
+    ensures { result ≡ told_in entry }
+{
+    match entry {
+        Entry::Told(message) => Some(message),
+        _ => None,
+    }
+}
+
 /// The place of each message's receipt.
-fn receipt_places(alloc: Global, entries: &[Entry]) -> Result<ReceiptPlaces, AllocError>
-    ensures { IfOk result (IsPlacesOf entries.now) }
+fn receipt_places(alloc: Global, entries: &[Entry]) -> Result<Places<MessageName>, AllocError>
+    ensures { IfOk result (AreReceiptPlaces entries.now) }
 {
     let mut places = HashMap::new(alloc);
     for place in 0..entries.len() {
@@ -41,10 +61,32 @@ fn receipt_places(alloc: Global, entries: &[Entry]) -> Result<ReceiptPlaces, All
     Ok(places)
 }
 
-/// Adds the shape of a message, in grey if its send has not come.
-fn push_in_time(shapes: &mut Vec<Shape>, has_come: bool, shape: Shape) -> Result<(), AllocError>
+/// The place of each control message's told.
+fn told_places(alloc: Global, entries: &[Entry]) -> Result<Places<ControlMessage>, AllocError>
+    ensures { IfOk result (AreToldPlaces entries.now) }
+{
+    let mut places = HashMap::new(alloc);
+    for place in 0..entries.len() {
+        if let Some(message) = control_taken(entries[place]) {
+            if !places.contains_key(&message) {
+                places.insert(message, place)?;
+            }
+        }
+    }
+    Ok(places)
+}
+
+/// Adds what is drawn of an entry, if anything is: in grey if the entry has not come.
+fn push_in_time(
+    shapes: &mut Vec<Shape>,
+    has_come: bool,
+    shape: Option<Shape>,
+) -> Result<(), AllocError>
     ensures { OnOk result (shapes.new.items ≡ shapes.old.items ++ in_time has_come shape) }
 {
+    let Some(shape) = shape else {
+        return Ok(());
+    };
     if has_come {
         shapes.push(shape)?;
     } else {
@@ -56,79 +98,123 @@ fn push_in_time(shapes: &mut Vec<Shape>, has_come: bool, shape: Shape) -> Result
 }
 
 /// The arrow of a message that is sent at a place, and is received at another or is in flight.
-fn arrow(place: usize, from: Member, to: Member, end: Option<usize>) -> Shape
-    ensures { result ≡ message_arrow place from to end }
+fn message_arrow(
+    window: &Window,
+    place: usize,
+    from: Member,
+    to: Member,
+    end: Option<usize>,
+) -> Option<Shape>
+    ensures { result ≡ message_arrow_of window.now place from to end }
 {
     match end {
-        Some(end) => Shape::Arrow {
-            from,
-            sent: place,
-            to,
-            received: end,
-            kind: ArrowKind::Message,
-        },
-        None => Shape::InFlight {
-            from,
-            sent: place,
-            to,
-            again: false,
-            undone: false,
-        },
+        Some(end) => window.arrow(from, place, to, end, ArrowKind::Message),
+        None => window.in_flight(from, place, to),
     }
 }
 
-/// Adds the arrow of an event, if it is a send, which has come or not.
-fn push_event_arrow(
-    shapes: &mut Vec<Shape>,
+/// The arrow of a control message that is told at a place, and is taken at another or by nobody.
+fn control_arrow(
+    window: &Window,
+    place: usize,
+    message: ControlMessage,
+    end: Option<usize>,
+) -> Option<Shape>
+    ensures { result ≡ control_arrow_of window.now place message end }
+{
+    match end {
+        Some(end) => window.arrow(message.from, place, message.to, end, ArrowKind::Control),
+        None => window.untaken(message, place),
+    }
+}
+
+/// The arrow of an event among these entries, if it is a send.
+fn event_arrow(
+    window: &Window,
     entries: &[Entry],
-    places: &ReceiptPlaces,
-    has_come: bool,
+    ends: &Ends,
     place: usize,
     event: Mark,
-) -> Result<(), AllocError>
-    requires { IsPlacesOf entries.now places.now }
-    ensures { OnOk result (shapes.new.items ≡ shapes.old.items ++ event_arrow entries.now has_come place event) }
+) -> Option<Shape>
+    requires { AreEndsOf entries.now ends.now }
+    ensures { result ≡ event_arrow_of window.now entries.now place event }
 {
-    // the contract alone names the entries, as those that the places are of
+    // the contract alone names the entries, as those that the ends are of
     let _entries = entries;
-    if let Mark::Send { from, ssn, to } = event {
-        let end = places.get(&MessageName { from, ssn }).copied();
-        push_in_time(shapes, has_come, arrow(place, from, to, end))?;
+    match event {
+        Mark::Send { from, ssn, to } => {
+            let end = ends.receipts.get(&MessageName { from, ssn }).copied();
+            message_arrow(window, place, from, to, end)
+        }
+        Mark::Receipt { .. } => None,
     }
-    Ok(())
 }
 
-/// Adds the arrow of an entry, if it is a send.
+/// The arrow of an entry, if it is a send or a tell.
+fn arrow(
+    window: &Window,
+    entries: &[Entry],
+    ends: &Ends,
+    place: usize,
+    entry: Entry,
+) -> Option<Shape>
+    requires { AreEndsOf entries.now ends.now }
+    ensures { result ≡ arrow_of window.now entries.now place entry }
+{
+    match entry {
+        Entry::Event(event) => event_arrow(window, entries, ends, place, event),
+        Entry::Tell(message) => {
+            let end = ends.tolds.get(&message).copied();
+            control_arrow(window, place, message, end)
+        }
+        Entry::Hold { .. } | Entry::Store { .. } | Entry::Told(_) => None,
+    }
+}
+
+/// Adds what is drawn of the arrow of an entry, if it is a send or a tell.
 fn push_arrow(
     shapes: &mut Vec<Shape>,
+    window: &Window,
     entries: &[Entry],
     moment: &Columns,
-    places: &ReceiptPlaces,
+    ends: &Ends,
     place: usize,
     entry: &Entry,
 ) -> Result<(), AllocError>
-    requires { IsPlacesOf entries.now places.now }
-    ensures { OnOk result (shapes.new.items ≡ shapes.old.items ++ entry_arrow entries.now moment.now place entry.now) }
+    requires { AreEndsOf entries.now ends.now }
+    ensures { OnOk result
+        (shapes.new.items ≡ shapes.old.items ++ entry_arrow window.now entries.now moment.now place entry.now) }
 {
-    if let Some(event) = entry.event() {
-        let has_come = moment.has_come(place, entry.member());
-        push_event_arrow(shapes, entries, places, has_come, place, event)?;
-    }
-    Ok(())
+    let has_come = moment.has_come(place, entry.member());
+    let arrow = arrow(window, entries, ends, place, *entry);
+    push_in_time(shapes, has_come, arrow)
 }
 
-/// Adds the arrows of all messages, where the moment is before these columns, if one is drawn.
+/// Adds what is drawn of the arrows of all messages and control messages, where the moment is before these columns, if one is drawn.
 pub(crate) fn push_arrows(
     shapes: &mut Vec<Shape>,
     alloc: Global,
+    window: &Window,
     entries: &[Entry],
     moment: &Columns,
 ) -> Result<(), AllocError>
-    ensures { OnOk result (shapes.new.items ≡ shapes.old.items ++ drawn (entry_arrow entries.now moment.now) 0 entries.now) }
+    ensures { OnOk result
+        (shapes.new.items ≡ shapes.old.items ++ drawn (entry_arrow window.now entries.now moment.now) 0 entries.now) }
 {
-    let places = receipt_places(alloc, entries)?;
+    let ends = Ends {
+        receipts: receipt_places(alloc, entries)?,
+        tolds: told_places(alloc, entries)?,
+    };
     for place in 0..entries.len() {
-        push_arrow(shapes, entries, moment, &places, place, &entries[place])?;
+        push_arrow(
+            shapes,
+            window,
+            entries,
+            moment,
+            &ends,
+            place,
+            &entries[place],
+        )?;
     }
     Ok(())
 }

@@ -1,6 +1,6 @@
 //! The marks of entries.
 
-ghost use Rattle.std.specs.Prelude.{◌≡◌, ◌++◌, ◌∷◌, [], IfOk, OnOk};
+ghost use Rattle.std.specs.Prelude.{◌≡◌, ◌≤◌, ◌+◌, ◌++◌, ◌∷◌, [], IfOk, OnOk, length};
 ghost use Rattle.fbl_history.specs.declared.shape.Glyph.{Glyph};
 ghost use Rattle.fbl_runs.specs.Clocks.{cut_of};
 ghost use Rattle.fbl_pictures.specs.RunShapes.{AreGlyphs, IsEventKind, IsGlyphOf, IsHeld, IsKind, IsReceiptKind, judged_kind};
@@ -98,24 +98,25 @@ impl Receipts<'_> {
         }
     }
 
-    /// Adds the glyph of the entry at the place.
+    /// Adds the glyph of the entry at the place, in this column.
     fn push_glyph(
         &self,
         glyphs: &mut Vec<Glyph>,
         place: usize,
+        column: usize,
         entry: &Entry,
     ) -> Result<(), AllocError>
         ensures { OnOk result
             ((mark : Glyph)
             × IsGlyphOf self.now.pasts.now
-            (cut_of self.now.clock.now) self.now.lines.now place entry.now mark
+            (cut_of self.now.clock.now) self.now.lines.now place column entry.now mark
             × (glyphs.new.items ≡ glyphs.old.items ++ mark ∷ [])) }
     {
         let member = entry.member();
         let has_come = self.lines.moment.has_come(place, member);
         let kind = self.entry_kind(has_come, *entry);
         glyphs.push(Glyph {
-            column: place,
+            column,
             member,
             kind,
             to_come: !has_come,
@@ -123,15 +124,21 @@ impl Receipts<'_> {
         Ok(())
     }
 
-    /// The glyphs of these entries of the run.
-    pub(crate) fn glyphs(&self, alloc: Global, entries: &[Entry]) -> Result<Vec<Glyph>, AllocError>
+    /// The glyphs of these entries of the run, the first of which stands at this place, one in each column.
+    pub(crate) fn glyphs(
+        &self,
+        alloc: Global,
+        first: usize,
+        entries: &[Entry],
+    ) -> Result<Vec<Glyph>, AllocError>
+        requires { first + length entries.now ≤ usize.MAX }
         ensures { IfOk result
             (λ glyphs. AreGlyphs self.now.pasts.now
-            (cut_of self.now.clock.now) self.now.lines.now 0 entries.now glyphs.items) }
+            (cut_of self.now.clock.now) self.now.lines.now first 0 entries.now glyphs.items) }
     {
         let mut glyphs = Vec::new(alloc);
-        for place in 0..entries.len() {
-            self.push_glyph(&mut glyphs, place, &entries[place])?;
+        for column in 0..entries.len() {
+            self.push_glyph(&mut glyphs, first + column, column, &entries[column])?;
         }
         Ok(glyphs)
     }

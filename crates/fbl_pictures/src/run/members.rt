@@ -6,6 +6,7 @@ ghost use Rattle.fbl_pictures.specs.RunShapes.{member_line, member_shapes, membe
 
 use crate::names::{line_kind, push_any, push_names};
 use crate::run::columns::Columns;
+use crate::run::window::Window;
 use fbl_history::{LineKind, Shape, Status};
 use fbl_trace::{Member, MemberSet};
 use std::alloc::AllocError;
@@ -33,71 +34,57 @@ fn status(is_struck: bool, start: Option<usize>) -> Status
 }
 
 /// The line of a member: of one that is struck at a moment, dashed from there.
-fn line(columns: usize, member: Member, is_struck: bool, moment: Option<usize>) -> Shape
-    ensures { result ≡ member_line columns member is_struck moment }
+fn line(window: &Window, member: Member, is_struck: bool, moment: Option<usize>) -> Shape
+    ensures { result ≡ member_line window.now member is_struck moment }
 {
     match moment {
-        Some(column) if is_struck => Shape::DownFrom {
-            member,
-            column,
-            end: columns,
-        },
-        _ => Shape::Line {
-            member,
-            start: None,
-            end: columns,
-            kind: line_kind(is_struck),
-        },
+        Some(place) if is_struck => window.down_from(member, place),
+        _ => window.member_line(member, line_kind(is_struck)),
     }
 }
 
-/// The line of an orphan from the column at which it starts: up to the moment, if one is drawn.
-fn orphan_line(columns: usize, member: Member, start: usize, moment: Option<usize>) -> Shape
-    ensures { result ≡ orphan_line_of columns member start moment }
+/// The line of an orphan from the place at which it starts, if it is one and the line is drawn: up to the moment, if there is one.
+fn orphan_line(
+    window: &Window,
+    member: Member,
+    start: Option<usize>,
+    moment: Option<usize>,
+) -> Option<Shape>
+    ensures { result ≡ orphan_line_of window.now member start moment }
 {
+    let start = start?;
     match moment {
-        Some(column) => Shape::OrphanUpTo {
-            member,
-            start,
-            column,
-        },
-        None => Shape::Line {
-            member,
-            start: Some(start),
-            end: columns,
-            kind: LineKind::Orphan,
-        },
+        Some(place) => window.orphan_up_to(member, start, place),
+        None => window.line(member, start, window.end, LineKind::Orphan),
     }
 }
 
 /// Adds a member's label, its names and its line.
 fn push_member(
     shapes: &mut Vec<Shape>,
-    columns: usize,
+    window: &Window,
     member: Member,
     is_struck: bool,
     start: Option<usize>,
     moment: Option<usize>,
 ) -> Result<(), AllocError>
-    ensures { OnOk result (shapes.new.items ≡ shapes.old.items ++ member_shapes columns member is_struck start moment) }
+    ensures { OnOk result (shapes.new.items ≡ shapes.old.items ++ member_shapes window.now member is_struck start moment) }
 {
-    push_names(shapes, columns, member, Some(status(is_struck, start)))?;
-    shapes.push(line(columns, member, is_struck, moment))?;
-    if let Some(place) = start {
-        shapes.push(orphan_line(columns, member, place, moment))?;
-    }
-    Ok(())
+    let status = status(is_struck, start);
+    push_names(shapes, window.columns(), member, Some(status))?;
+    shapes.push(line(window, member, is_struck, moment))?;
+    push_any(shapes, orphan_line(window, member, start, moment))
 }
 
-/// Adds the labels and the lines of so many members, in their order, over so many columns.
+/// Adds the labels and the lines of so many members, in their order.
 pub(crate) fn push_members(
     shapes: &mut Vec<Shape>,
     members: u8,
-    columns: usize,
+    window: &Window,
     lines: &Lines,
 ) -> Result<(), AllocError>
     requires { members ≤ 16 }
-    ensures { OnOk result (shapes.new.items ≡ shapes.old.items ++ members_drawn members columns lines.now) }
+    ensures { OnOk result (shapes.new.items ≡ shapes.old.items ++ members_drawn members window.now lines.now) }
 {
     for number in 0..members {
         let member = Member::at(number);
@@ -105,7 +92,7 @@ pub(crate) fn push_members(
         let moment = lines.moment.get(number);
         push_member(
             shapes,
-            columns,
+            window,
             member,
             lines.struck.has(member),
             start,
@@ -115,31 +102,33 @@ pub(crate) fn push_members(
     Ok(())
 }
 
-/// The part of a moment's line at a member, if there is one, where it crosses the next member's line here.
-fn moment_part(member: Member, column: Option<usize>, next: Option<usize>) -> Option<Shape>
-    ensures { result ≡ moment_part_of member column next }
+/// The part of a moment's line at a member, if it is drawn, where it crosses the next member's line here.
+fn moment_part(
+    window: &Window,
+    member: Member,
+    place: Option<usize>,
+    next: Option<usize>,
+) -> Option<Shape>
+    ensures { result ≡ moment_part_of window.now member place next }
 {
-    let column = column?;
-    Some(Shape::Moment {
-        member,
-        column,
-        next,
-    })
+    let place = place?;
+    window.moment(member, place, next)
 }
 
 /// Adds the line of a moment through the lines of so many members.
 pub(crate) fn push_moment(
     shapes: &mut Vec<Shape>,
     members: u8,
+    window: &Window,
     moment: &Columns,
 ) -> Result<(), AllocError>
     requires { members ≤ 16 }
-    ensures { OnOk result (shapes.new.items ≡ shapes.old.items ++ moment_drawn members moment.now) }
+    ensures { OnOk result (shapes.new.items ≡ shapes.old.items ++ moment_drawn members window.now moment.now) }
 {
     for number in 0..members {
-        let column = moment.get(number);
+        let place = moment.get(number);
         let next = moment.get(number + 1);
-        push_any(shapes, moment_part(Member::at(number), column, next))?;
+        push_any(shapes, moment_part(window, Member::at(number), place, next))?;
     }
     Ok(())
 }

@@ -7,20 +7,24 @@ mod finding;
 mod marks;
 mod members;
 mod paths;
+mod window;
 
-ghost use Rattle.std.specs.Prelude.{◌≡◌, ◌≤◌, ◌↔◌, true, IfOk, count_by, length, string_bytes};
+ghost use Rattle.std.specs.Prelude.{◌≡◌, ◌≤◌, ◌<◌, ◌↔◌, true, IfOk, IfSome, count_by, length, string_bytes};
 ghost use Rattle.fbl_input.specs.Faults.{PutsOut};
 ghost use Rattle.fbl_judge.specs.Audits.{IsAudit};
 ghost use Rattle.fbl_judge.specs.Unsafe.{IsSaidOf};
-ghost use Rattle.fbl_pictures.specs.RunPictures.{HasOrphan, IsAuditedPicture, IsFindingText, IsPlaceText, IsRunPicture, IsUnsafePicture, run_heading as run_heading_of, things as things_of};
+ghost use Rattle.fbl_pictures.specs.RunPictures.{HasOrphan, IsAuditedPicture, IsFindingText, IsPlaceText, IsRunPicture, IsUnsafePicture, counted as counted_of, drawn_around, run_heading as run_heading_of, things as things_of};
 ghost use Rattle.fbl_pictures.specs.RunShapes.{AreShapesOf, IsPlaceOf, is_event, shown_entries as shown_entries_of};
+ghost use Rattle.fbl_pictures.specs.Windows.{window_around};
 
-use crate::headings::{audit_words, escaped_text, heading, unsafe_words};
+use crate::headings::{audit_words, escaped_text, heading, part_words, unsafe_words};
+use crate::names::push_any;
 use crate::run::arrows::push_arrows;
 use crate::run::finding::Finding;
 use crate::run::marks::Receipts;
 use crate::run::members::{Lines, push_members, push_moment};
 use crate::run::paths::push_paths;
+use crate::run::window::Window;
 use crate::svg::picture_text;
 use fbl_history::Shape;
 use fbl_input::{OutputFault, Sources, put, spot_text};
@@ -28,6 +32,9 @@ use fbl_judge::{Audit, Pasts, UnsafeReceipt, audit_of, unsafe_receipts};
 use fbl_runs::{Entry, Judged};
 use std::alloc::{AllocError, Global};
 use std::io::Write;
+
+/// An unsafe log of more entries than these is drawn around its first unsafe moment.
+const MANY: usize = 200;
 
 /// How many of the entries are sends and receipts.
 fn count_events(entries: &[Entry]) -> usize
@@ -51,22 +58,31 @@ fn shown_entries<'a>(pasts: &Pasts<'a>) -> &'a [Entry]
     }
 }
 
-/// The shapes of what is found, under the marks.
+/// How many entries the picture of the run may have columns for: of a dump its sends and receipts, of a log all.
+pub fn column_count(pasts: &Pasts<'_>) -> usize
+    ensures { result ≡ length (shown_entries_of pasts.now) }
+{
+    shown_entries(pasts).len()
+}
+
+/// The shapes of what is found, within the window, under the marks.
 fn shapes_of(
     alloc: Global,
     pasts: &Pasts<'_>,
+    window: &Window,
     finding: &Finding<'_>,
     lines: &Lines,
 ) -> Result<Vec<Shape>, AllocError>
-    ensures { IfOk result (λ shapes. AreShapesOf pasts.now finding.now lines.now shapes.items) }
+    ensures { IfOk result (λ shapes. AreShapesOf pasts.now window.now finding.now lines.now shapes.items) }
 {
     let members = pasts.run().members();
     let entries = shown_entries(pasts);
     let mut shapes = Vec::new(alloc);
-    push_members(&mut shapes, members, entries.len(), lines)?;
-    push_arrows(&mut shapes, alloc, entries, &lines.moment)?;
-    push_moment(&mut shapes, members, &lines.moment)?;
-    push_paths(&mut shapes, alloc, pasts, finding, members)?;
+    push_any(&mut shapes, window.numbers())?;
+    push_members(&mut shapes, members, window, lines)?;
+    push_arrows(&mut shapes, alloc, window, entries, &lines.moment)?;
+    push_moment(&mut shapes, members, window, &lines.moment)?;
+    push_paths(&mut shapes, alloc, pasts, window, finding, members)?;
     Ok(shapes)
 }
 
@@ -80,33 +96,47 @@ fn things(judged: Judged) -> &'static str
     }
 }
 
-/// The heading of a picture of the run: its numbers, and these words.
-fn run_heading(alloc: Global, pasts: &Pasts<'_>, words: &str) -> Result<String, AllocError>
-    ensures { IfOk result (λ text. string_bytes text ≡ run_heading_of pasts.now words.now) }
+/// What the heading counts: the entries, and which of them are drawn if the window is a part.
+fn counted(alloc: Global, window: &Window, count: usize, things: &str) -> Result<String, AllocError>
+    ensures { IfOk result (λ text. string_bytes text ≡ counted_of window.now count things.now) }
 {
-    let run = pasts.run();
-    let count = shown_entries(pasts).len();
-    heading(
-        alloc,
-        run.members(),
-        run.f(),
-        count,
-        things(run.judged()),
-        words,
-    )
+    if window.is_numbered {
+        let last = window.end.saturating_sub(1);
+        part_words(alloc, things, window.first, last, count)
+    } else {
+        format!(in alloc; "{count} {things}")
+    }
 }
 
-/// The picture of what is found, with these words in its heading.
+/// The heading of a picture of the run: its numbers, which entries are drawn, and these words.
+fn run_heading(
+    alloc: Global,
+    pasts: &Pasts<'_>,
+    window: &Window,
+    words: &str,
+) -> Result<String, AllocError>
+    ensures { IfOk result (λ text. string_bytes text ≡ run_heading_of pasts.now window.now words.now) }
+{
+    let run = pasts.run();
+    let counted = counted(alloc, window, column_count(pasts), things(run.judged()))?;
+    heading(alloc, run.members(), run.f(), counted.as_str(), words)
+}
+
+/// The picture of what is found around the place, or of all of it, with these words in its heading.
 fn finding_text(
     alloc: Global,
     pasts: &Pasts<'_>,
+    around: Option<usize>,
     finding: &Finding<'_>,
     words: &str,
 ) -> Result<String, AllocError>
-    requires { IsPlaceOf pasts.now finding.now.at }
-    ensures { IfOk result (λ text. IsFindingText pasts.now finding.now words.now (string_bytes text)) }
+    requires at { IsPlaceOf pasts.now finding.now.at }
+    requires around { IfSome around (λ place. place < length (shown_entries_of pasts.now)) }
+    ensures { IfOk result (λ text. IsFindingText pasts.now around finding.now words.now (string_bytes text)) }
 {
-    let heading = run_heading(alloc, pasts, words)?;
+    let entries = shown_entries(pasts);
+    let window = Window::around(entries.len(), around);
+    let heading = run_heading(alloc, pasts, &window, words)?;
     let clock = finding.clock(pasts);
     let lines = finding.lines(pasts, &clock);
     let receipts = Receipts {
@@ -114,23 +144,28 @@ fn finding_text(
         clock: &clock,
         lines: &lines,
     };
-    let entries = shown_entries(pasts);
-    let shapes = shapes_of(alloc, pasts, finding, &lines)?;
-    let glyphs = receipts.glyphs(alloc, entries)?;
+    let shapes = shapes_of(alloc, pasts, &window, finding, &lines)?;
+    let glyphs = receipts.glyphs(alloc, window.first, &entries[window.first..window.end])?;
     picture_text(
         alloc,
         heading.as_str(),
         pasts.run().members(),
-        entries.len(),
+        window.columns(),
         shapes.as_slice(),
         glyphs.as_slice(),
     )
 }
 
-/// The picture of the run by its audit.
-fn audited_text(alloc: Global, pasts: &Pasts<'_>, audit: &Audit) -> Result<String, AllocError>
-    requires { IsAudit pasts.now audit.now }
-    ensures { IfOk result (λ text. IsAuditedPicture pasts.now (string_bytes text)) }
+/// The picture of the run by its audit, around the place, or of all of it.
+fn audited_text(
+    alloc: Global,
+    pasts: &Pasts<'_>,
+    around: Option<usize>,
+    audit: &Audit,
+) -> Result<String, AllocError>
+    requires audit { IsAudit pasts.now audit.now }
+    requires around { IfSome around (λ place. place < length (shown_entries_of pasts.now)) }
+    ensures { IfOk result (λ text. IsAuditedPicture pasts.now around (string_bytes text)) }
 {
     let words = audit_words(alloc, pasts.run().strike(), audit.lost.len(), audit.orphans)?;
     let finding = Finding {
@@ -139,7 +174,7 @@ fn audited_text(alloc: Global, pasts: &Pasts<'_>, audit: &Audit) -> Result<Strin
         receipts: audit.lost.as_slice(),
         at: None,
     };
-    finding_text(alloc, pasts, &finding, words.as_str())
+    finding_text(alloc, pasts, around, &finding, words.as_str())
 }
 
 /// The words for the moment at which a receipt is unsafe, if there is one.
@@ -160,15 +195,17 @@ fn place_text(
     }
 }
 
-/// The picture of the run with what is said of an unsafe receipt.
+/// The picture of the run with what is said of an unsafe receipt, around the place, or of all of it.
 fn unsafe_text(
     alloc: Global,
     pasts: &Pasts<'_>,
     sources: &Sources<'_>,
+    around: Option<usize>,
     said: &UnsafeReceipt,
 ) -> Result<String, AllocError>
-    requires { IsSaidOf pasts.now said.now.determinant said.now }
-    ensures { IfOk result (λ text. IsUnsafePicture pasts.now sources.now said.now (string_bytes text)) }
+    requires said { IsSaidOf pasts.now said.now.determinant said.now }
+    requires around { IfSome around (λ place. place < length (shown_entries_of pasts.now)) }
+    ensures { IfOk result (λ text. IsUnsafePicture pasts.now sources.now around said.now (string_bytes text)) }
 {
     let place = place_text(alloc, sources, said.at)?;
     let words = unsafe_words(
@@ -185,7 +222,7 @@ fn unsafe_text(
         receipts: &receipts,
         at: said.at,
     };
-    finding_text(alloc, pasts, &finding, words.as_str())
+    finding_text(alloc, pasts, around, &finding, words.as_str())
 }
 
 /// Whether the strike set leaves an orphan at the end at which the run is judged.
@@ -199,33 +236,60 @@ fn has_orphan(pasts: &Pasts<'_>, audit: &Audit) -> bool
     }
 }
 
-/// The picture of the run.
-fn run_text(alloc: Global, pasts: &Pasts<'_>, sources: &Sources<'_>) -> Result<String, AllocError>
-    ensures { IfOk result (λ text. IsRunPicture pasts.now sources.now (string_bytes text)) }
+/// The place around which an unsafe run is drawn: the one that is asked for, and else that of the moment, if there are many entries.
+fn place_around(pasts: &Pasts<'_>, asked: Option<usize>, at: Option<usize>) -> Option<usize>
+    ensures { result ≡ drawn_around (length (shown_entries_of pasts.now)) asked at }
+{
+    if asked.is_some() {
+        return asked;
+    }
+    if column_count(pasts) <= MANY {
+        return None;
+    }
+    at
+}
+
+/// The picture of the run, around the place that is asked for.
+fn run_text(
+    alloc: Global,
+    pasts: &Pasts<'_>,
+    sources: &Sources<'_>,
+    asked: Option<usize>,
+) -> Result<String, AllocError>
+    requires { IfSome asked (λ place. place < length (shown_entries_of pasts.now)) }
+    ensures { IfOk result (λ text. IsRunPicture pasts.now sources.now asked (string_bytes text)) }
 {
     let audit = audit_of(alloc, pasts)?;
     if has_orphan(pasts, &audit) {
-        return audited_text(alloc, pasts, &audit);
+        return audited_text(alloc, pasts, asked, &audit);
     }
     let said = unsafe_receipts(alloc, pasts)?;
     match said.first() {
-        Some(first) => unsafe_text(alloc, pasts, sources, first),
-        None => audited_text(alloc, pasts, &audit),
+        Some(first) => {
+            let around = place_around(pasts, asked, first.at);
+            unsafe_text(alloc, pasts, sources, around, first)
+        }
+        None => audited_text(alloc, pasts, asked, &audit),
     }
 }
 
 /// Draws the run, whose entries stand in these files, and writes the picture as SVG: a line for each member, a mark for each entry that is
-/// drawn and an arrow for each message. Where the run is unsafe, the picture shows the first unsafe receipt, at its moment if the run is
-/// judged at each; but if the strike set leaves an orphan at the end at which the run is judged, and where the run is safe, it shows what
-/// an audit finds. The time taken is nearly linear in the entries.
+/// drawn, and an arrow for each message and each control message. Where a place is given, the 30 entries before it and the 30 behind it are
+/// drawn with its entry, and stubs of the arrows that leave these. Where the run is unsafe, the picture shows the first unsafe receipt, at
+/// its moment if the run is judged at each, and around that if the run has more than 200 entries and no place is given; but if the strike
+/// set leaves an orphan at the end at which the run is judged, and where the run is safe, it shows what an audit finds. The time taken is
+/// nearly linear in the entries.
 pub fn write_run_picture<W: Write>(
     alloc: Global,
     pasts: &Pasts<'_>,
     sources: &Sources<'_>,
+    around: Option<usize>,
     writer: &mut W,
 ) -> Result<(), OutputFault>
-    ensures { PutsOut (λ _. IsRunPicture pasts.now sources.now) (W.contents writer.old) (W.contents writer.new) result }
+    requires { IfSome around (λ place. place < length (shown_entries_of pasts.now)) }
+    ensures { PutsOut (λ _. IsRunPicture pasts.now sources.now around)
+        (W.contents writer.old) (W.contents writer.new) result }
 {
-    let text = run_text(alloc, pasts, sources)?;
+    let text = run_text(alloc, pasts, sources, around)?;
     put(writer, text.as_bytes())
 }

@@ -7,51 +7,46 @@ ghost use Rattle.fbl_history.specs.declared.shape.Shape.{Shape};
 
 use crate::names::push_any;
 use crate::run::finding::Finding;
+use crate::run::window::Window;
 use fbl_history::{ArrowKind, LineKind, Shape};
 use fbl_judge::{Pasts, path_to};
 use fbl_runs::Entry;
 use fbl_trace::Member;
 use std::alloc::{AllocError, Global};
 
-/// A step from the entry at one place to that at another: along their member's line, or from a send to its receipt.
-fn step(start: usize, from: Member, end: usize, to: Member) -> Shape
-    ensures { result ≡ step_shape start from end to }
+/// A step from the entry at one place to that at another, if it is drawn: along their member's line, or from a send to its receipt.
+fn step(window: &Window, start: usize, from: Member, end: usize, to: Member) -> Option<Shape>
+    ensures { result ≡ step_shape window.now start from end to }
 {
     if from.number() == to.number() {
-        Shape::Line {
-            member: from,
-            start: Some(start),
-            end,
-            kind: LineKind::Path,
-        }
+        window.line(from, start, end, LineKind::Path)
     } else {
-        Shape::Arrow {
-            from,
-            sent: start,
-            to,
-            received: end,
-            kind: ArrowKind::Path,
-        }
+        window.arrow(from, start, to, end, ArrowKind::Path)
     }
 }
 
 /// The same, if there are both entries.
-fn step_between(entries: &[Entry], start: usize, end: usize) -> Option<Shape>
-    ensures { result ≡ step_between_of start (slice_get entries.now start) end (slice_get entries.now end) }
+fn step_between(window: &Window, entries: &[Entry], start: usize, end: usize) -> Option<Shape>
+    ensures { result ≡ step_between_of window.now start (slice_get entries.now start) end (slice_get entries.now end) }
 {
     let from = entries.get(start)?.member();
     let to = entries.get(end)?.member();
-    Some(step(start, from, end, to))
+    step(window, start, from, end, to)
 }
 
 /// Adds the steps of a path by these places.
-fn push_path(shapes: &mut Vec<Shape>, entries: &[Entry], path: &[usize]) -> Result<(), AllocError>
-    ensures { OnOk result (shapes.new.items ≡ shapes.old.items ++ path_shapes entries.now path.now) }
+fn push_path(
+    shapes: &mut Vec<Shape>,
+    window: &Window,
+    entries: &[Entry],
+    path: &[usize],
+) -> Result<(), AllocError>
+    ensures { OnOk result (shapes.new.items ≡ shapes.old.items ++ path_shapes window.now entries.now path.now) }
 {
     if let [first, others @ ..] = path {
         let mut start = *first;
         for end in others {
-            push_any(shapes, step_between(entries, start, *end))?;
+            push_any(shapes, step_between(window, entries, start, *end))?;
             start = *end;
         }
     }
@@ -63,16 +58,17 @@ fn push_path_to(
     shapes: &mut Vec<Shape>,
     alloc: Global,
     pasts: &Pasts<'_>,
+    window: &Window,
     finding: &Finding<'_>,
     member: Member,
 ) -> Result<(), AllocError>
     ensures { OnOk result
-        ((steps : List Shape) × AreStepsTo pasts.now finding.now member steps
+        ((steps : List Shape) × AreStepsTo pasts.now window.now finding.now member steps
         × (shapes.new.items ≡ shapes.old.items ++ steps)) }
 {
     if let Some(cause) = finding.cause(pasts, member) {
         if let Some(path) = path_to(alloc, pasts, &cause, member)? {
-            push_path(shapes, pasts.entries(), path.as_slice())?;
+            push_path(shapes, window, pasts.entries(), path.as_slice())?;
         }
     }
     Ok(())
@@ -83,16 +79,17 @@ pub(crate) fn push_paths(
     shapes: &mut Vec<Shape>,
     alloc: Global,
     pasts: &Pasts<'_>,
+    window: &Window,
     finding: &Finding<'_>,
     members: u8,
 ) -> Result<(), AllocError>
     requires { members ≤ 16 }
     ensures { OnOk result
-        ((paths : List Shape) × ArePathsDrawn pasts.now finding.now (range_with_len 0 members) paths
+        ((paths : List Shape) × ArePathsDrawn pasts.now window.now finding.now (range_with_len 0 members) paths
         × (shapes.new.items ≡ shapes.old.items ++ paths)) }
 {
     for number in 0..members {
-        push_path_to(shapes, alloc, pasts, finding, Member::at(number))?;
+        push_path_to(shapes, alloc, pasts, window, finding, Member::at(number))?;
     }
     Ok(())
 }

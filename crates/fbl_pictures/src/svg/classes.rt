@@ -34,6 +34,7 @@ pub(crate) fn arrow_class(kind: ArrowKind) -> &'static str {
         ArrowKind::Undone => "message undone",
         ArrowKind::Again => "message again",
         ArrowKind::AgainUndone => "message again undone",
+        ArrowKind::Control => "message control",
         ArrowKind::Path => "path",
     }
 }

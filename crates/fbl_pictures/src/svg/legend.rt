@@ -19,6 +19,9 @@ pub(crate) enum Sign {
     UndoneMessage,
     Again,
     InFlight,
+    Control,
+    Untaken,
+    Elsewhere,
     Down,
     Strike,
     Recovery,
@@ -77,6 +80,18 @@ const SIGNS: &[(Sign, &str)] = &[
     (
         Sign::InFlight,
         "<path class='message in-flight' d='M0 -4h20'/><text class='note' x='36' y='0'>message in flight</text>",
+    ),
+    (
+        Sign::Control,
+        "<path class='message control' d='M0 -4h28'/><text class='note' x='36' y='0'>control message, tell to told</text>",
+    ),
+    (
+        Sign::Untaken,
+        "<path class='message in-flight control' d='M0 -4h20'/><text class='note' x='36' y='0'>control message that nobody took</text>",
+    ),
+    (
+        Sign::Elsewhere,
+        "<path class='message leaving' d='M0 -4h20'/><text class='note' x='36' y='0'>arrow whose other end is not drawn</text>",
     ),
     (
         Sign::Down,
@@ -140,6 +155,7 @@ fn arrow_sign(kind: ArrowKind) -> Sign {
         ArrowKind::Message => Sign::Message,
         ArrowKind::Undone => Sign::UndoneMessage,
         ArrowKind::Again | ArrowKind::AgainUndone => Sign::Again,
+        ArrowKind::Control => Sign::Control,
         ArrowKind::Path => Sign::Path,
     }
 }
@@ -153,8 +169,10 @@ fn shape_sign(shape: Shape) -> Option<Sign> {
         Shape::Moment { .. } => Some(Sign::Moment),
         Shape::Arrow { kind, .. } => Some(arrow_sign(kind)),
         Shape::InFlight { .. } => Some(Sign::InFlight),
+        Shape::Untaken { .. } => Some(Sign::Untaken),
+        Shape::Leaving { .. } | Shape::Arriving { .. } => Some(Sign::Elsewhere),
         Shape::BeginToCome => Some(Sign::ToCome),
-        Shape::Label { .. } | Shape::Name { .. } | Shape::EndToCome => None,
+        Shape::Label { .. } | Shape::Name { .. } | Shape::Numbers { .. } | Shape::EndToCome => None,
     }
 }
 

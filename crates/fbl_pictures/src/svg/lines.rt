@@ -1,6 +1,6 @@
-//! The texts of labels, lines and arrows.
+//! The texts of labels, lines and arrows, and of the numbers of columns.
 
-use crate::svg::classes::{line_class, status_words, words_if};
+use crate::svg::classes::{line_class, status_words};
 use crate::svg::numbers::number_text;
 use crate::svg::places::Point;
 use fbl_history::{LineKind, Status};
@@ -85,27 +85,18 @@ pub(crate) fn moment_text(
     )
 }
 
-/// The text of a message in flight: a stub on its receiver's side, and the receiver's number.
-pub(crate) fn in_flight_text(
+/// The text of the numbers of so many columns, each above its own: they count from this one.
+pub(crate) fn numbers_text(
     alloc: Global,
-    start: Point,
-    is_down: bool,
-    to: Member,
-    again: bool,
-    undone: bool,
+    first: usize,
+    columns: usize,
 ) -> Result<String, AllocError> {
-    let (end, number) = if is_down {
-        (start.down(20), start.down(32))
-    } else {
-        (start.right(18).up(20), start.right(26).up(22))
-    };
-    let sent = words_if(again, " again");
-    let crossed = words_if(undone, " undone");
-    let class = format!(in alloc; "message in-flight{sent}{crossed}")?;
-    let mut text = segment_text(alloc, class.as_str(), start, end)?;
-    let to = to.number();
-    let words = format!(in alloc; "to {to}")?;
-    let receiver = number_text(alloc, number, undone, words.as_str())?;
-    text.push_str(receiver.as_str())?;
+    let mut text = String::new(alloc);
+    for column in 0..columns {
+        let above = Point::at(column, Member::at(0)).up(28);
+        let words = format!(in alloc; "{}", first as u128 + column as u128)?;
+        let number = number_text(alloc, above, false, words.as_str())?;
+        text.push_str(number.as_str())?;
+    }
     Ok(text)
 }

@@ -16,9 +16,10 @@ pub(crate) const LOOK: &str = "<style>
 .fbl .message.undone{stroke-dasharray:2 2}
 .fbl .message.again{marker-start:url(#fbl-dot)}
 .fbl .in-flight{stroke-dasharray:2 3;marker-end:none}
+.fbl .control{stroke-width:.8;stroke-dasharray:5 3}
 .fbl .orphan{stroke:#c44e00;stroke-width:4}
 .fbl .path{stroke:#c44e00;stroke-width:2.5;marker-end:url(#fbl-path-tip)}
-.fbl .line.path{marker-end:none}
+.fbl .line.path,.fbl .leaving{marker-end:none}
 .fbl .tip{fill:#767676}
 .fbl .path-tip{fill:#c44e00}
 .fbl .send{fill:#fff;stroke:#444;stroke-width:1.5}

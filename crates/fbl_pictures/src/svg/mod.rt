@@ -7,6 +7,7 @@ mod lines;
 mod look;
 mod numbers;
 mod places;
+mod stubs;
 
 ghost use Rattle.std.specs.Prelude.{◌≡◌, ◌++◌, List, ℕ, IfOk, OnOk, length, string_bytes};
 ghost use Rattle.std.specs.List.{concat};
@@ -16,10 +17,11 @@ use crate::svg::classes::{arrow_class, line_class};
 use crate::svg::glyphs::glyph_text;
 use crate::svg::legend::{ending_text, signs_of};
 use crate::svg::lines::{
-    down_from_text, in_flight_text, label_text, moment_text, name_text, segment_text,
+    down_from_text, label_text, moment_text, name_text, numbers_text, segment_text,
 };
 use crate::svg::look::LOOK;
 use crate::svg::places::{Point, height, width};
+use crate::svg::stubs::{arriving_text, in_flight_text, leaving_text, untaken_text};
 use fbl_history::{Glyph, LineKind, Shape};
 use std::alloc::{AllocError, Global};
 
@@ -47,7 +49,7 @@ fn shape_text(alloc: Global, shape: Shape) -> Result<String, AllocError> {
             start,
             column,
         } => {
-            let (start, end) = (Point::at(start, member), Point::before(column, member));
+            let (start, end) = (Point::start(start, member), Point::before(column, member));
             segment_text(alloc, line_class(LineKind::Orphan), start, end)
         }
         Shape::Moment {
@@ -71,10 +73,21 @@ fn shape_text(alloc: Global, shape: Shape) -> Result<String, AllocError> {
             to,
             again,
             undone,
-        } => {
-            let is_down = from.number() < to.number();
-            in_flight_text(alloc, Point::at(sent, from), is_down, to, again, undone)
-        }
+        } => in_flight_text(alloc, from, sent, to, again, undone),
+        Shape::Untaken { from, sent, to } => untaken_text(alloc, from, sent, to),
+        Shape::Leaving {
+            from,
+            sent,
+            to,
+            kind,
+        } => leaving_text(alloc, from, sent, to, kind),
+        Shape::Arriving {
+            from,
+            to,
+            received,
+            kind,
+        } => arriving_text(alloc, from, to, received, kind),
+        Shape::Numbers { first, columns } => numbers_text(alloc, first, columns),
         Shape::BeginToCome => String::from_str(alloc, "<g class='to-come'>\n"),
         Shape::EndToCome => String::from_str(alloc, "</g>\n"),
     }

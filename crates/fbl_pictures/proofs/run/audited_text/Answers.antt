@@ -14,5 +14,5 @@ returns c =
     let struck : c.strike.result ≡ run.strike = c.strike.ensures ∙ ap (λ (r : RunParts). r.strike) c.run.ensures.run in
     let struck_too = c.strike-2.ensures ∙ ap (λ (r : RunParts). r.strike) c.run-2.ensures.run in
     let words = c.as_str.ensures.value ∙ c.in_ok-words.ensures ∙ (λ i. audit_words (struck i) (lost i) audit.orphans) in
-    IfOk-weaker c.finding_text.result _ _ (λ text drawn. audited run audit _ _ (string_bytes text) drawn words c.requires
+    IfOk-weaker c.finding_text.result _ _ (λ text drawn. audited run c.args.around audit _ _ (string_bytes text) drawn words c.requires.audit
     (record { strike = struck_too; orphans = refl; receipts = c.as_slice.ensures.value; at = refl })) c.finding_text.ensures

@@ -1,5 +1,6 @@
 use Rattle.fbl_pictures.proofs.Common.{ℕ, Option, Some, None, ◌≡◌, ◌∙◌, ◌+◌, ◌∷◌, cond, sym, ap, arith, drop, position_from, option_or, at_drop_more, same_message, is_message, MessageName, takes, taken_in}
 use Rattle.std.specs.HashMap as hash_map
+use Rattle.fbl_history.proofs.ShapeLaws.{Decides-same_message}
 use Rattle.fbl_pictures.proofs.Steps.{old_message, new_message}
 use Rattle.fbl_pictures.proofs.run.arrows.receipt_places.Goals as goal
 
@@ -19,10 +20,10 @@ loop-place-preserved c m =
     elim c.match-message_taken.branch [
       | goal.in-Some+then-not-contains_key+in_ok-insert w ↦
           rw (w.places-is, w.in_ok-insert.ensures.updates.0 m)
-          (new_message old w.in-Some.message m i later (sym w.contains_key.ensures ∙ w.if-not-contains_key.true)
+          (new_message same_message old w.in-Some.message m (Decides-same_message w.in-Some.message m).0 i later (sym w.contains_key.ensures ∙ w.if-not-contains_key.true)
           ∙ taken (Some w.in-Some.message) w.in-Some.ensures ∙ was)
       | goal.in-Some+else-not-contains_key w ↦
-          rw w.places-is (old_message old w.in-Some.message m i later (sym w.contains_key.ensures ∙ w.if-not-contains_key.false)
+          rw w.places-is (old_message same_message old w.in-Some.message m (Decides-same_message w.in-Some.message m).0 i later (sym w.contains_key.ensures ∙ w.if-not-contains_key.false)
           ∙ taken (Some w.in-Some.message) w.in-Some.ensures ∙ was)
       | goal.in_default w ↦ rw w.places-is (taken None w.in_default.ensures ∙ was)
     ]

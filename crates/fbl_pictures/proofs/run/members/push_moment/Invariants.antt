@@ -3,4 +3,4 @@ use Rattle.fbl_pictures.proofs.run.members.push_moment.Given as goal
 
 abbrev pub invariant-loop-number : goal.invariant-loop-number
 invariant-loop-number l =
-    l.shapes.items ++ flat_map (moment_shapes l.moment) (range_with_len l.number (l.members - l.number)) ≡ l.fn.shapes.items ++ moment_drawn l.members l.moment
+    l.shapes.items ++ flat_map (moment_shapes l.window l.moment) (range_with_len l.number (l.members - l.number)) ≡ l.fn.shapes.items ++ moment_drawn l.members l.window l.moment

@@ -11,7 +11,7 @@ loop-number-preserved c rest are =
     let n = c.loop-number.number in
     let more : c.args.members - n ≡ suc (c.args.members - (n + 1)) = omega arith in
     let pushed = c.in_ok-push_path_to.ensures in
-    let to = subst (λ (m : ℕ). AreStepsTo c.args.pasts.now c.args.finding.now m pushed.0) c.at.ensures pushed.1 in
+    let to = subst (λ (m : ℕ). AreStepsTo c.args.pasts.now c.args.window.now c.args.finding.now m pushed.0) c.at.ensures pushed.1 in
     let found = c.loop-number.invariant (pushed.0 ++ rest) (rw more (pushed.0, to, rest, are, refl)) in
     (found.0, found.1, rw (pushed.2, append_assoc) found.2)
 

@@ -3,7 +3,7 @@ use Rattle.fbl_pictures.proofs.Common.{List, ◌++◌, Glyph, cut_of, drop}
 use Rattle.fbl_pictures.specs.RunShapes.{AreGlyphs}
 use Rattle.fbl_pictures.proofs.run.marks.Receipts.glyphs.Given as goal
 
-abbrev pub invariant-loop-place : goal.invariant-loop-place
-invariant-loop-place l =
-    (rest : List Glyph) → AreGlyphs l.self.pasts.now (cut_of l.self.clock.now) l.self.lines.now l.place (drop l.place l.entries) rest
-    → AreGlyphs l.self.pasts.now (cut_of l.self.clock.now) l.self.lines.now 0 l.entries (l.glyphs.items ++ rest)
+abbrev pub invariant-loop-column : goal.invariant-loop-column
+invariant-loop-column l =
+    (rest : List Glyph) → AreGlyphs l.self.pasts.now (cut_of l.self.clock.now) l.self.lines.now l.first l.column (drop l.column l.entries) rest
+    → AreGlyphs l.self.pasts.now (cut_of l.self.clock.now) l.self.lines.now l.first 0 l.entries (l.glyphs.items ++ rest)

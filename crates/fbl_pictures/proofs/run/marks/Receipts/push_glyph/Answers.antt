@@ -9,4 +9,4 @@ returns c =
     let lines = c.args.self.now.lines.now in
     let come = c.has_come-has_come.ensures ∙ ap (has_come lines.moment c.args.place) c.member-member.ensures in
     let kind = subst (λ (b : Bool). IsKind c.args.self.now.pasts.now (cut_of c.args.self.now.clock.now) lines.struck b c.args.entry.now c.entry_kind-kind.result) come c.entry_kind-kind.ensures in
-    (record { column = c.args.place; member = c.member-member.result; kind = c.entry_kind-kind.result; to_come = not c.has_come-has_come.result }, record { column = refl; member = c.member-member.ensures; kind = kind; to_come = ap not come }, c.in_ok-push.ensures.items)
+    (record { column = c.args.column; member = c.member-member.result; kind = c.entry_kind-kind.result; to_come = not c.has_come-has_come.result }, record { stands = refl; member = c.member-member.ensures; kind = kind; to_come = ap not come }, c.in_ok-push.ensures.items)
