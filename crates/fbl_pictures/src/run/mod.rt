@@ -8,11 +8,12 @@ mod marks;
 mod members;
 mod paths;
 
-ghost use Rattle.std.specs.Prelude.{◌≡◌, ◌≤◌, ◌↔◌, true, IfOk, count_by, length, string_bytes};
+ghost use Rattle.std.specs.Prelude.{◌≡◌, ◌≤◌, IfOk, count_by, length, string_bytes};
 ghost use Rattle.fbl_input.specs.Faults.{PutsOut};
+ghost use Rattle.fbl_runs.specs.declared.judged.Judged.TheVariants.{AtEachMoment, AtItsEnd};
 ghost use Rattle.fbl_judge.specs.Audits.{IsAudit};
 ghost use Rattle.fbl_judge.specs.Unsafe.{IsSaidOf};
-ghost use Rattle.fbl_pictures.specs.RunPictures.{HasOrphan, IsAuditedPicture, IsFindingText, IsPlaceText, IsRunPicture, IsUnsafePicture, run_heading as run_heading_of, things as things_of};
+ghost use Rattle.fbl_pictures.specs.RunPictures.{IsAuditedPicture, IsFindingText, IsPlaceText, IsRunPicture, IsUnsafePicture, run_heading as run_heading_of, things as things_of};
 ghost use Rattle.fbl_pictures.specs.RunShapes.{AreShapesOf, IsPlaceOf, is_event, shown_entries as shown_entries_of};
 
 use crate::headings::{audit_words, escaped_text, heading, unsafe_words};
@@ -24,7 +25,7 @@ use crate::run::paths::push_paths;
 use crate::svg::picture_text;
 use fbl_history::Shape;
 use fbl_input::{OutputFault, Sources, put, spot_text};
-use fbl_judge::{Audit, Pasts, UnsafeReceipt, audit_of, unsafe_receipts};
+use fbl_judge::{Audit, Pasts, UnsafeReceipt, audit_of, first_unsafe};
 use fbl_runs::{Entry, Judged};
 use std::alloc::{AllocError, Global};
 use std::io::Write;
@@ -188,14 +189,33 @@ fn unsafe_text(
     finding_text(alloc, pasts, &finding, words.as_str())
 }
 
-/// Whether the strike set leaves an orphan at the end at which the run is judged.
-fn has_orphan(pasts: &Pasts<'_>, audit: &Audit) -> bool
-    requires { IsAudit pasts.now audit.now }
-    ensures { (result ≡ true) ↔ HasOrphan pasts.now }
+/// The picture of a run that is judged at its end.
+fn end_text(alloc: Global, pasts: &Pasts<'_>, sources: &Sources<'_>) -> Result<String, AllocError>
+    requires { pasts.now.judged ≡ AtItsEnd }
+    ensures { IfOk result (λ text. IsRunPicture pasts.now sources.now (string_bytes text)) }
 {
-    match pasts.run().judged() {
-        Judged::AtItsEnd => !audit.orphans.is_empty(),
-        Judged::AtEachMoment => false,
+    let audit = audit_of(alloc, pasts)?;
+    if !audit.orphans.is_empty() {
+        return audited_text(alloc, pasts, &audit);
+    }
+    match first_unsafe(pasts) {
+        Some(first) => unsafe_text(alloc, pasts, sources, &first),
+        None => audited_text(alloc, pasts, &audit),
+    }
+}
+
+/// The picture of a run that is judged at each moment.
+fn moment_text(
+    alloc: Global,
+    pasts: &Pasts<'_>,
+    sources: &Sources<'_>,
+) -> Result<String, AllocError>
+    requires { pasts.now.judged ≡ AtEachMoment }
+    ensures { IfOk result (λ text. IsRunPicture pasts.now sources.now (string_bytes text)) }
+{
+    match first_unsafe(pasts) {
+        Some(first) => unsafe_text(alloc, pasts, sources, &first),
+        None => audited_text(alloc, pasts, &audit_of(alloc, pasts)?),
     }
 }
 
@@ -203,14 +223,9 @@ fn has_orphan(pasts: &Pasts<'_>, audit: &Audit) -> bool
 fn run_text(alloc: Global, pasts: &Pasts<'_>, sources: &Sources<'_>) -> Result<String, AllocError>
     ensures { IfOk result (λ text. IsRunPicture pasts.now sources.now (string_bytes text)) }
 {
-    let audit = audit_of(alloc, pasts)?;
-    if has_orphan(pasts, &audit) {
-        return audited_text(alloc, pasts, &audit);
-    }
-    let said = unsafe_receipts(alloc, pasts)?;
-    match said.first() {
-        Some(first) => unsafe_text(alloc, pasts, sources, first),
-        None => audited_text(alloc, pasts, &audit),
+    match pasts.run().judged() {
+        Judged::AtItsEnd => end_text(alloc, pasts, sources),
+        Judged::AtEachMoment => moment_text(alloc, pasts, sources),
     }
 }
 

@@ -13,21 +13,21 @@ ghost use Rattle.std.specs.List.{concat};
 ghost use Rattle.fbl_pictures.specs.Pictures.{IsPictureText};
 
 use crate::svg::classes::{arrow_class, line_class};
-use crate::svg::glyphs::glyph_text;
+use crate::svg::glyphs::push_glyph;
 use crate::svg::legend::{ending_text, signs_of};
 use crate::svg::lines::{
-    down_from_text, in_flight_text, label_text, moment_text, name_text, segment_text,
+    push_down_from, push_in_flight, push_label, push_moment, push_name, push_segment,
 };
 use crate::svg::look::LOOK;
 use crate::svg::places::{Point, height, width};
 use fbl_history::{Glyph, LineKind, Shape};
 use std::alloc::{AllocError, Global};
 
-/// The text of a shape.
-fn shape_text(alloc: Global, shape: Shape) -> Result<String, AllocError> {
+/// Writes a shape.
+fn push_shape(text: &mut String, alloc: Global, shape: Shape) -> Result<(), AllocError> {
     match shape {
-        Shape::Label { member, status } => label_text(alloc, member, status),
-        Shape::Name { column, member } => name_text(alloc, column, member),
+        Shape::Label { member, status } => push_label(text, member, status),
+        Shape::Name { column, member } => push_name(text, column, member),
         Shape::Line {
             member,
             start,
@@ -35,26 +35,26 @@ fn shape_text(alloc: Global, shape: Shape) -> Result<String, AllocError> {
             kind,
         } => {
             let (start, end) = (Point::start(start, member), Point::at(end, member));
-            segment_text(alloc, line_class(kind), start, end)
+            push_segment(text, line_class(kind), start, end)
         }
         Shape::DownFrom {
             member,
             column,
             end,
-        } => down_from_text(alloc, member, column, end),
+        } => push_down_from(text, member, column, end),
         Shape::OrphanUpTo {
             member,
             start,
             column,
         } => {
             let (start, end) = (Point::at(start, member), Point::before(column, member));
-            segment_text(alloc, line_class(LineKind::Orphan), start, end)
+            push_segment(text, line_class(LineKind::Orphan), start, end)
         }
         Shape::Moment {
             member,
             column,
             next,
-        } => moment_text(alloc, member, column, next),
+        } => push_moment(text, member, column, next),
         Shape::Arrow {
             from,
             sent,
@@ -63,7 +63,7 @@ fn shape_text(alloc: Global, shape: Shape) -> Result<String, AllocError> {
             kind,
         } => {
             let (start, end) = (Point::at(sent, from), Point::at(received, to));
-            segment_text(alloc, arrow_class(kind), start, end)
+            push_segment(text, arrow_class(kind), start, end)
         }
         Shape::InFlight {
             from,
@@ -73,34 +73,46 @@ fn shape_text(alloc: Global, shape: Shape) -> Result<String, AllocError> {
             undone,
         } => {
             let is_down = from.number() < to.number();
-            in_flight_text(alloc, Point::at(sent, from), is_down, to, again, undone)
+            push_in_flight(
+                text,
+                alloc,
+                Point::at(sent, from),
+                is_down,
+                to,
+                again,
+                undone,
+            )
         }
-        Shape::BeginToCome => String::from_str(alloc, "<g class='to-come'>\n"),
-        Shape::EndToCome => String::from_str(alloc, "</g>\n"),
+        Shape::BeginToCome => Ok(text.push_str("<g class='to-come'>\n")?),
+        Shape::EndToCome => Ok(text.push_str("</g>\n")?),
     }
 }
 
-/// Writes a text for each of the shapes.
+/// Writes a text for each of the shapes. Each is first written apart, in one text for all.
 fn push_shapes(text: &mut String, alloc: Global, shapes: &[Shape]) -> Result<(), AllocError>
     ensures { OnOk result
         ((texts : List (List ℕ)) × (length texts ≡ length shapes.now)
         × (string_bytes text.new ≡ string_bytes text.old ++ concat texts)) }
 {
+    let mut piece = String::new(alloc);
     for shape in shapes {
-        let piece = shape_text(alloc, *shape)?;
+        piece.clear();
+        push_shape(&mut piece, alloc, *shape)?;
         text.push_str(piece.as_str())?;
     }
     Ok(())
 }
 
-/// Writes a text for each of the glyphs.
+/// Writes a text for each of the glyphs, in the same way.
 fn push_glyphs(text: &mut String, alloc: Global, glyphs: &[Glyph]) -> Result<(), AllocError>
     ensures { OnOk result
         ((texts : List (List ℕ)) × (length texts ≡ length glyphs.now)
         × (string_bytes text.new ≡ string_bytes text.old ++ concat texts)) }
 {
+    let mut piece = String::new(alloc);
     for glyph in glyphs {
-        let piece = glyph_text(alloc, glyph)?;
+        piece.clear();
+        push_glyph(&mut piece, alloc, glyph)?;
         text.push_str(piece.as_str())?;
     }
     Ok(())
