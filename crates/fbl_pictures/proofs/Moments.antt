@@ -1,4 +1,4 @@
--- A least moment is within the run, who is an orphan, and what is said first of a run.
+-- A least moment is within the run, and who is an orphan.
 use Rattle.fbl_pictures.proofs.Common.{ℕ, ◌<◌, ◌==◌, ◌≤◌, ◌≡◌, ◌∙◌, ◌↔◌, true, false, not, false≢true, List, [], ◌∷◌, Option, Some, None, length, nat_tests, slice_get, refl, sym, ap, subst, arith, slice_get_within, log_of, Entry}
 use Rattle.std.specs.FinSet as set
 use Rattle.std.specs.Prelude.{Bool, IfSome, nat_lt, if◌then◌else◌}
@@ -10,7 +10,8 @@ use Rattle.fbl_runs.specs.Logs.{RunParts, run_of}
 use Rattle.fbl_runs.specs.Runs.{IsOrphanAt}
 use Rattle.fbl_runs.specs.declared.judged.Judged.{Judged}
 use Rattle.fbl_runs.specs.declared.judged.Judged.TheVariants.{AtEachMoment, AtItsEnd}
-use Rattle.fbl_runs.specs.Moments.{Cut, IsMoment, last_cut}
+use Rattle.fbl_runs.specs.Moments.{Cut}
+use Rattle.fbl_judge.proofs.LeastMoments.{least_within}
 use Rattle.fbl_judge.proofs.ReasonLaws.{said_moment}
 use Rattle.fbl_judge.proofs.SafeAlways.{first_is_receipt}
 use Rattle.fbl_judge.specs.Audits.{IsAudit, end_of}
@@ -20,23 +21,12 @@ use Rattle.fbl_judge.specs.declared.check.UnsafeReceipt.{UnsafeReceipt}
 use Rattle.fbl_pictures.specs.RunPictures.{HasOrphan, drawn_around}
 use Rattle.fbl_pictures.specs.RunShapes.{IsCutOf, IsPlaceOf, shown, shown_entries}
 
--- the cut of all entries is a moment
-last_is_moment : (entries : List Entry) → IsMoment (log_of entries) (last_cut (log_of entries))
-last_is_moment entries = record {
-  consistent = λ i j leads come. slice_get_within (log_of entries i.member) i.number leads.0 leads.2;
-  whole = λ i j step come.
-      let e = step.3 j.number step.2 (omega arith) in
-      let P : ℕ → Type 0 = λ m. j.number < length (log_of entries m) in
-      subst P step.1 (slice_get_within (log_of entries i.member) j.number e.0 e.1);
-}
-
--- so what has come is no more than all
+-- what has come is no more than all
 pub cut_within : (run : RunParts) (place : Option ℕ) (cut : Cut) → IsCutOf run place cut → (q : ℕ) → cut q ≤ length (log_of run.entries q)
 cut_within run None cut is q = omega (arith, is q)
 cut_within run (Some place) cut (i, stands, least) q =
     let entries = run.entries in
-    let here = stands_at entries place i stands.0 stands stands.1 in
-    least.least (last_cut (log_of entries)) (last_is_moment entries) (slice_get_within (log_of entries i.member) i.number stands.0 here) q
+    least_within (log_of entries) i cut least stands.0 (stands_at entries place i stands.0 stands stands.1) q
 
 -- a set of members has one, or none
 module _ (P : ℕ → Type 0) (members : Members) (are : (q : ℕ) → (set.contains members q ≡ true) ↔ P q) where
@@ -88,11 +78,3 @@ module _ (run : RunParts) (said : UnsafeReceipt) (is : IsSaidOf run said.determi
     by_count : (many : Bool) → IfSome (if many then said.at else None) (λ place. place < length (shown_entries run))
     by_count true = drawn_at run.judged said.at is.moment
     by_count false = tt
-
-pub first_of : (items : List UnsafeReceipt) (said : UnsafeReceipt) → Some said ≡ slice_get items 0 → (rest : List UnsafeReceipt) × (items ≡ said ∷ rest)
-first_of [] said is = absurd cc
-first_of (u ∷ items) said is = (let same : said ≡ u = cc in (items, ap (λ x. x ∷ items) (sym same)))
-
-pub nothing_of : (items : List UnsafeReceipt) → None ≡ slice_get items 0 → items ≡ []
-nothing_of [] is = refl
-nothing_of (u ∷ items) is = absurd cc

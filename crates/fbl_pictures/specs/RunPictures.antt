@@ -3,12 +3,11 @@ use Rattle.std.specs.Prelude.{ℕ, ◌≡◌, ◌⊎◌, ◌-◌, nat_lt, List, 
 use Rattle.fbl_input.specs.Sources.{IsSpotText}
 use Rattle.fbl_input.specs.declared.sources.Sources.{Sources}
 use Rattle.fbl_judge.specs.Audits.{IsAudit, end_of}
-use Rattle.fbl_judge.specs.Unsafe.{SaysUnsafe}
+use Rattle.fbl_judge.specs.Unsafe.{IsFirstUnsafe}
 use Rattle.fbl_judge.specs.declared.audit.Audit.{Audit}
 use Rattle.fbl_judge.specs.declared.check.UnsafeReceipt.{UnsafeReceipt}
 use Rattle.fbl_history.specs.declared.shape.Glyph.{Glyph}
 use Rattle.fbl_history.specs.declared.shape.Shape.{Shape}
-use Rattle.fbl_runs.specs.Entries.{receipts_in}
 use Rattle.fbl_runs.specs.Logs.{RunParts, run_of}
 use Rattle.fbl_runs.specs.Runs.{IsOrphanAt, IsSafe}
 use Rattle.fbl_runs.specs.declared.judged.Judged.{Judged}
@@ -74,10 +73,6 @@ abbrev pub IsUnsafePicture : RunParts → Sources → Option ℕ → UnsafeRecei
 IsUnsafePicture run sources around said text =
     (place : List ℕ) × IsPlaceText sources said.at place × (finding : Finding) × IsUnsafeFinding said finding
     × IsFindingText run around finding (unsafe_words said.determinant place said.strike said.orphans) text
-
--- it is the first that a check of the run says
-abbrev pub IsFirstUnsafe : RunParts → UnsafeReceipt → Type 0
-IsFirstUnsafe run said = (rest : List UnsafeReceipt) × SaysUnsafe run (receipts_in run.entries) (said ∷ rest)
 
 -- the strike set leaves an orphan at the end at which the run is judged
 abbrev pub HasOrphan : RunParts → Type 0

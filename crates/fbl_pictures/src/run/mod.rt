@@ -9,11 +9,12 @@ mod members;
 mod paths;
 mod window;
 
-ghost use Rattle.std.specs.Prelude.{◌≡◌, ◌≤◌, ◌<◌, ◌↔◌, true, IfOk, IfSome, count_by, length, string_bytes};
+ghost use Rattle.std.specs.Prelude.{◌≡◌, ◌≤◌, ◌<◌, IfOk, IfSome, count_by, length, string_bytes};
 ghost use Rattle.fbl_input.specs.Faults.{PutsOut};
+ghost use Rattle.fbl_runs.specs.declared.judged.Judged.TheVariants.{AtEachMoment, AtItsEnd};
 ghost use Rattle.fbl_judge.specs.Audits.{IsAudit};
 ghost use Rattle.fbl_judge.specs.Unsafe.{IsSaidOf};
-ghost use Rattle.fbl_pictures.specs.RunPictures.{HasOrphan, IsAuditedPicture, IsFindingText, IsPlaceText, IsRunPicture, IsUnsafePicture, counted as counted_of, drawn_around, run_heading as run_heading_of, things as things_of};
+ghost use Rattle.fbl_pictures.specs.RunPictures.{IsAuditedPicture, IsFindingText, IsPlaceText, IsRunPicture, IsUnsafePicture, counted as counted_of, drawn_around, run_heading as run_heading_of, things as things_of};
 ghost use Rattle.fbl_pictures.specs.RunShapes.{AreShapesOf, IsPlaceOf, is_event, shown_entries as shown_entries_of};
 ghost use Rattle.fbl_pictures.specs.Windows.{window_around};
 
@@ -28,7 +29,7 @@ use crate::run::window::Window;
 use crate::svg::picture_text;
 use fbl_history::Shape;
 use fbl_input::{OutputFault, Sources, put, spot_text};
-use fbl_judge::{Audit, Pasts, UnsafeReceipt, audit_of, unsafe_receipts};
+use fbl_judge::{Audit, Pasts, UnsafeReceipt, audit_of, first_unsafe};
 use fbl_runs::{Entry, Judged};
 use std::alloc::{AllocError, Global};
 use std::io::Write;
@@ -225,17 +226,6 @@ fn unsafe_text(
     finding_text(alloc, pasts, around, &finding, words.as_str())
 }
 
-/// Whether the strike set leaves an orphan at the end at which the run is judged.
-fn has_orphan(pasts: &Pasts<'_>, audit: &Audit) -> bool
-    requires { IsAudit pasts.now audit.now }
-    ensures { (result ≡ true) ↔ HasOrphan pasts.now }
-{
-    match pasts.run().judged() {
-        Judged::AtItsEnd => !audit.orphans.is_empty(),
-        Judged::AtEachMoment => false,
-    }
-}
-
 /// The place around which an unsafe run is drawn: the one that is asked for, and else that of the moment, if there are many entries.
 fn place_around(pasts: &Pasts<'_>, asked: Option<usize>, at: Option<usize>) -> Option<usize>
     ensures { result ≡ drawn_around (length (shown_entries_of pasts.now)) asked at }
@@ -249,6 +239,63 @@ fn place_around(pasts: &Pasts<'_>, asked: Option<usize>, at: Option<usize>) -> O
     at
 }
 
+/// The picture of the run with what is said of an unsafe receipt, around the place that is asked for, or around its moment if there are many
+/// entries.
+fn said_text(
+    alloc: Global,
+    pasts: &Pasts<'_>,
+    sources: &Sources<'_>,
+    asked: Option<usize>,
+    said: &UnsafeReceipt,
+) -> Result<String, AllocError>
+    requires said { IsSaidOf pasts.now said.now.determinant said.now }
+    requires asked { IfSome asked (λ place. place < length (shown_entries_of pasts.now)) }
+    ensures { IfOk result
+        (λ text. IsUnsafePicture pasts.now sources.now
+        (drawn_around (length (shown_entries_of pasts.now)) asked said.now.at) said.now (string_bytes text)) }
+{
+    let around = place_around(pasts, asked, said.at);
+    unsafe_text(alloc, pasts, sources, around, said)
+}
+
+/// The picture of a run that is judged at its end.
+fn end_text(
+    alloc: Global,
+    pasts: &Pasts<'_>,
+    sources: &Sources<'_>,
+    asked: Option<usize>,
+) -> Result<String, AllocError>
+    requires judged { pasts.now.judged ≡ AtItsEnd }
+    requires asked { IfSome asked (λ place. place < length (shown_entries_of pasts.now)) }
+    ensures { IfOk result (λ text. IsRunPicture pasts.now sources.now asked (string_bytes text)) }
+{
+    let audit = audit_of(alloc, pasts)?;
+    if !audit.orphans.is_empty() {
+        return audited_text(alloc, pasts, asked, &audit);
+    }
+    match first_unsafe(pasts) {
+        Some(first) => said_text(alloc, pasts, sources, asked, &first),
+        None => audited_text(alloc, pasts, asked, &audit),
+    }
+}
+
+/// The picture of a run that is judged at each moment.
+fn moment_text(
+    alloc: Global,
+    pasts: &Pasts<'_>,
+    sources: &Sources<'_>,
+    asked: Option<usize>,
+) -> Result<String, AllocError>
+    requires judged { pasts.now.judged ≡ AtEachMoment }
+    requires asked { IfSome asked (λ place. place < length (shown_entries_of pasts.now)) }
+    ensures { IfOk result (λ text. IsRunPicture pasts.now sources.now asked (string_bytes text)) }
+{
+    match first_unsafe(pasts) {
+        Some(first) => said_text(alloc, pasts, sources, asked, &first),
+        None => audited_text(alloc, pasts, asked, &audit_of(alloc, pasts)?),
+    }
+}
+
 /// The picture of the run, around the place that is asked for.
 fn run_text(
     alloc: Global,
@@ -259,17 +306,9 @@ fn run_text(
     requires { IfSome asked (λ place. place < length (shown_entries_of pasts.now)) }
     ensures { IfOk result (λ text. IsRunPicture pasts.now sources.now asked (string_bytes text)) }
 {
-    let audit = audit_of(alloc, pasts)?;
-    if has_orphan(pasts, &audit) {
-        return audited_text(alloc, pasts, asked, &audit);
-    }
-    let said = unsafe_receipts(alloc, pasts)?;
-    match said.first() {
-        Some(first) => {
-            let around = place_around(pasts, asked, first.at);
-            unsafe_text(alloc, pasts, sources, around, first)
-        }
-        None => audited_text(alloc, pasts, asked, &audit),
+    match pasts.run().judged() {
+        Judged::AtItsEnd => end_text(alloc, pasts, sources, asked),
+        Judged::AtEachMoment => moment_text(alloc, pasts, sources, asked),
     }
 }
 

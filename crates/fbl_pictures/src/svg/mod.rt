@@ -14,22 +14,22 @@ ghost use Rattle.std.specs.List.{concat};
 ghost use Rattle.fbl_pictures.specs.Pictures.{IsPictureText};
 
 use crate::svg::classes::{arrow_class, line_class};
-use crate::svg::glyphs::glyph_text;
+use crate::svg::glyphs::push_glyph;
 use crate::svg::legend::{ending_text, signs_of};
 use crate::svg::lines::{
-    down_from_text, label_text, moment_text, name_text, numbers_text, segment_text,
+    push_down_from, push_label, push_moment, push_name, push_numbers, push_segment,
 };
 use crate::svg::look::LOOK;
 use crate::svg::places::{Point, height, width};
-use crate::svg::stubs::{arriving_text, in_flight_text, leaving_text, untaken_text};
+use crate::svg::stubs::push_stub;
 use fbl_history::{Glyph, LineKind, Shape};
 use std::alloc::{AllocError, Global};
 
-/// The text of a shape.
-fn shape_text(alloc: Global, shape: Shape) -> Result<String, AllocError> {
+/// Writes a shape.
+fn push_shape(text: &mut String, alloc: Global, shape: Shape) -> Result<(), AllocError> {
     match shape {
-        Shape::Label { member, status } => label_text(alloc, member, status),
-        Shape::Name { column, member } => name_text(alloc, column, member),
+        Shape::Label { member, status } => push_label(text, member, status),
+        Shape::Name { column, member } => push_name(text, column, member),
         Shape::Line {
             member,
             start,
@@ -37,26 +37,26 @@ fn shape_text(alloc: Global, shape: Shape) -> Result<String, AllocError> {
             kind,
         } => {
             let (start, end) = (Point::start(start, member), Point::at(end, member));
-            segment_text(alloc, line_class(kind), start, end)
+            push_segment(text, line_class(kind), start, end)
         }
         Shape::DownFrom {
             member,
             column,
             end,
-        } => down_from_text(alloc, member, column, end),
+        } => push_down_from(text, member, column, end),
         Shape::OrphanUpTo {
             member,
             start,
             column,
         } => {
             let (start, end) = (Point::start(start, member), Point::before(column, member));
-            segment_text(alloc, line_class(LineKind::Orphan), start, end)
+            push_segment(text, line_class(LineKind::Orphan), start, end)
         }
         Shape::Moment {
             member,
             column,
             next,
-        } => moment_text(alloc, member, column, next),
+        } => push_moment(text, member, column, next),
         Shape::Arrow {
             from,
             sent,
@@ -65,55 +65,43 @@ fn shape_text(alloc: Global, shape: Shape) -> Result<String, AllocError> {
             kind,
         } => {
             let (start, end) = (Point::at(sent, from), Point::at(received, to));
-            segment_text(alloc, arrow_class(kind), start, end)
+            push_segment(text, arrow_class(kind), start, end)
         }
-        Shape::InFlight {
-            from,
-            sent,
-            to,
-            again,
-            undone,
-        } => in_flight_text(alloc, from, sent, to, again, undone),
-        Shape::Untaken { from, sent, to } => untaken_text(alloc, from, sent, to),
-        Shape::Leaving {
-            from,
-            sent,
-            to,
-            kind,
-        } => leaving_text(alloc, from, sent, to, kind),
-        Shape::Arriving {
-            from,
-            to,
-            received,
-            kind,
-        } => arriving_text(alloc, from, to, received, kind),
-        Shape::Numbers { first, columns } => numbers_text(alloc, first, columns),
-        Shape::BeginToCome => String::from_str(alloc, "<g class='to-come'>\n"),
-        Shape::EndToCome => String::from_str(alloc, "</g>\n"),
+        Shape::InFlight { .. }
+        | Shape::Untaken { .. }
+        | Shape::Leaving { .. }
+        | Shape::Arriving { .. } => push_stub(text, alloc, shape),
+        Shape::Numbers { first, columns } => push_numbers(text, alloc, first, columns),
+        Shape::BeginToCome => Ok(text.push_str("<g class='to-come'>\n")?),
+        Shape::EndToCome => Ok(text.push_str("</g>\n")?),
     }
 }
 
-/// Writes a text for each of the shapes.
+/// Writes a text for each of the shapes. Each is first written apart, in one text for all.
 fn push_shapes(text: &mut String, alloc: Global, shapes: &[Shape]) -> Result<(), AllocError>
     ensures { OnOk result
         ((texts : List (List ℕ)) × (length texts ≡ length shapes.now)
         × (string_bytes text.new ≡ string_bytes text.old ++ concat texts)) }
 {
+    let mut piece = String::new(alloc);
     for shape in shapes {
-        let piece = shape_text(alloc, *shape)?;
+        piece.clear();
+        push_shape(&mut piece, alloc, *shape)?;
         text.push_str(piece.as_str())?;
     }
     Ok(())
 }
 
-/// Writes a text for each of the glyphs.
+/// Writes a text for each of the glyphs, in the same way.
 fn push_glyphs(text: &mut String, alloc: Global, glyphs: &[Glyph]) -> Result<(), AllocError>
     ensures { OnOk result
         ((texts : List (List ℕ)) × (length texts ≡ length glyphs.now)
         × (string_bytes text.new ≡ string_bytes text.old ++ concat texts)) }
 {
+    let mut piece = String::new(alloc);
     for glyph in glyphs {
-        let piece = glyph_text(alloc, glyph)?;
+        piece.clear();
+        push_glyph(&mut piece, alloc, glyph)?;
         text.push_str(piece.as_str())?;
     }
     Ok(())

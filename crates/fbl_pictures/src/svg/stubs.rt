@@ -1,10 +1,10 @@
 //! The texts of stubs: of messages that nobody has received or taken, and of arrows whose other end is not drawn.
 
 use crate::svg::classes::{arrow_class, words_if};
-use crate::svg::lines::segment_text;
-use crate::svg::numbers::number_text;
+use crate::svg::lines::push_segment;
+use crate::svg::numbers::push_number;
 use crate::svg::places::Point;
-use fbl_history::ArrowKind;
+use fbl_history::Shape;
 use fbl_trace::Member;
 use std::alloc::{AllocError, Global};
 
@@ -52,74 +52,67 @@ impl Stub {
         Stub { start, end, beside }
     }
 
-    /// Its text, with these words, which are struck out if what was sent is undone.
-    fn text(
+    /// Writes it, with these words, which are struck out if what was sent is undone.
+    fn push(
         self,
-        alloc: Global,
+        text: &mut String,
         class: &str,
         words: &str,
         undone: bool,
-    ) -> Result<String, AllocError> {
-        let mut text = segment_text(alloc, class, self.start, self.end)?;
-        let said = number_text(alloc, self.beside, undone, words)?;
-        text.push_str(said.as_str())?;
-        Ok(text)
+    ) -> Result<(), AllocError> {
+        push_segment(text, class, self.start, self.end)?;
+        push_number(text, self.beside, undone, words)
     }
 }
 
-/// The text of a message in flight: a stub, and the receiver's number.
-pub(crate) fn in_flight_text(
-    alloc: Global,
-    from: Member,
-    sent: usize,
-    to: Member,
-    again: bool,
-    undone: bool,
-) -> Result<String, AllocError> {
-    let again = words_if(again, " again");
-    let crossed = words_if(undone, " undone");
-    let class = format!(in alloc; "message in-flight{again}{crossed}")?;
-    let receiver = to.number();
-    let words = format!(in alloc; "to {receiver}")?;
-    Stub::in_flight(from, sent, to).text(alloc, class.as_str(), words.as_str(), undone)
+/// The words for the member at the other end: to it, or from it.
+fn other_end(alloc: Global, way: &str, member: Member) -> Result<String, AllocError> {
+    let member = member.number();
+    format!(in alloc; "{way} {member}")
 }
 
-/// The text of a control message that nobody has taken: the same.
-pub(crate) fn untaken_text(
-    alloc: Global,
-    from: Member,
-    sent: usize,
-    to: Member,
-) -> Result<String, AllocError> {
-    let receiver = to.number();
-    let words = format!(in alloc; "to {receiver}")?;
-    Stub::in_flight(from, sent, to).text(alloc, "message in-flight control", words.as_str(), false)
-}
-
-/// The text of an arrow whose end is not drawn: a stub at its start, and its receiver's number.
-pub(crate) fn leaving_text(
-    alloc: Global,
-    from: Member,
-    sent: usize,
-    to: Member,
-    kind: ArrowKind,
-) -> Result<String, AllocError> {
-    let class = arrow_class(kind);
-    let class = format!(in alloc; "{class} leaving")?;
-    let receiver = to.number();
-    let words = format!(in alloc; "to {receiver}")?;
-    Stub::leaving(from, sent, to).text(alloc, class.as_str(), words.as_str(), false)
-}
-
-/// The text of an arrow whose start is not drawn: a stub at its end, and its sender's number.
-pub(crate) fn arriving_text(
-    alloc: Global,
-    from: Member,
-    to: Member,
-    received: usize,
-    kind: ArrowKind,
-) -> Result<String, AllocError> {
-    let sender = from.number();
-    let words = format!(in alloc; "from {sender}")?;
-    Stub::arriving(from, to, received).text(alloc, arrow_class(kind), words.as_str(), false)
+/// Writes a stub: of a message in flight, or of a control message that nobody has taken, with the receiver's number; of an arrow whose end is
+/// not drawn, at its start, with the receiver's number; or of one whose start is not drawn, at its end, with the sender's.
+pub(crate) fn push_stub(text: &mut String, alloc: Global, shape: Shape) -> Result<(), AllocError> {
+    match shape {
+        Shape::InFlight {
+            from,
+            sent,
+            to,
+            again,
+            undone,
+        } => {
+            let again = words_if(again, " again");
+            let crossed = words_if(undone, " undone");
+            let class = format!(in alloc; "message in-flight{again}{crossed}")?;
+            let words = other_end(alloc, "to", to)?;
+            Stub::in_flight(from, sent, to).push(text, class.as_str(), words.as_str(), undone)
+        }
+        Shape::Untaken { from, sent, to } => {
+            let words = other_end(alloc, "to", to)?;
+            let class = "message in-flight control";
+            Stub::in_flight(from, sent, to).push(text, class, words.as_str(), false)
+        }
+        Shape::Leaving {
+            from,
+            sent,
+            to,
+            kind,
+        } => {
+            let class = arrow_class(kind);
+            let class = format!(in alloc; "{class} leaving")?;
+            let words = other_end(alloc, "to", to)?;
+            Stub::leaving(from, sent, to).push(text, class.as_str(), words.as_str(), false)
+        }
+        Shape::Arriving {
+            from,
+            to,
+            received,
+            kind,
+        } => {
+            let words = other_end(alloc, "from", from)?;
+            Stub::arriving(from, to, received).push(text, arrow_class(kind), words.as_str(), false)
+        }
+        _ => Ok(()),
+    }
 }
