@@ -9,7 +9,7 @@ use Rattle.fbl_trace.specs.declared.trace.Determinant.{Determinant}
 use Rattle.fbl_trace.specs.declared.trace.Mark.{Mark}
 use Rattle.fbl_trace.specs.declared.trace.Mark.TheVariants.{Send, Receipt}
 use Rattle.fbl_trace.specs.declared.trace.MessageName.{MessageName}
-use Rattle.fbl_trace.specs.Events.{is_message, member_of, same_message}
+use Rattle.fbl_trace.specs.Events.{is_message, same_message}
 use Rattle.fbl_trace.specs.MemberSets.{Members}
 use Rattle.fbl_runs.specs.Clocks.{StandsAt}
 use Rattle.fbl_runs.specs.ControlMessages.{same_control}

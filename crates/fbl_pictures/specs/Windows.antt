@@ -1,5 +1,5 @@
 -- The part of a run that is drawn, and what is drawn in it of lines and arrows that go beyond.
-use Rattle.std.specs.Prelude.{ℕ, ◌+◌, ◌-◌, ◌||◌, min, nat_le, nat_lt, Bool, true, false, Option, Some, None, option_and_then, if◌then◌else◌}
+use Rattle.std.specs.Prelude.{ℕ, ◌+◌, ◌-◌, ◌||◌, min, nat_le, nat_lt, true, false, Option, Some, None, option_and_then, if◌then◌else◌}
 use Rattle.fbl_runs.specs.declared.control.ControlMessage.{ControlMessage}
 use Rattle.fbl_history.specs.declared.shape.ArrowKind.{ArrowKind}
 use Rattle.fbl_history.specs.declared.shape.LineKind.{LineKind}

@@ -1,4 +1,4 @@
-use Rattle.fbl_pictures.proofs.Common.{ℕ, List, Entry, ◌∙◌, Option, ap, length, log_of, subst, sym, cut_of}
+use Rattle.fbl_pictures.proofs.Common.{ℕ, Option, subst, sym, cut_of}
 use Rattle.fbl_pictures.specs.RunShapes.{IsCutOf, IsPlaceOf}
 use Rattle.fbl_pictures.proofs.run.finding.Finding.clock.Goals as goal
 
