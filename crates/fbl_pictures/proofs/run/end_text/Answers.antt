@@ -17,5 +17,5 @@ returns-in-Some c =
     let none : ¬ (HasOrphan c.args.pasts.now) = λ has. false≢true (ap not (sym c.if-not-is_empty.false) ∙ orphan.1 has) in
     IfOk-weaker c.said_text.result _ _ (λ text drawn. inr (none, (c.in-Some.first, c.in-Some.ensures, drawn))) c.said_text.ensures
 
-pub returns-in-None : goal.returns-in-None
-returns-in-None c = IfOk-weaker c.audited_text-in-None.result _ _ (λ text drawn. inl (inr c.in-None.ensures, drawn)) c.audited_text-in-None.ensures
+pub returns : goal.returns
+returns c = IfOk-weaker c.audited_text-in-None.result _ _ (λ text drawn. inl (inr c.in-None.ensures, drawn)) c.audited_text-in-None.ensures
