@@ -1,3 +1,2 @@
 pub mod HeldOutside
-pub mod EventLaws
 pub mod DumpRuns

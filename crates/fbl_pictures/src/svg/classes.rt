@@ -46,6 +46,5 @@ pub(crate) fn receipt_class(kind: ReceiptKind) -> &'static str {
         ReceiptKind::Recorded => "receipt recorded",
         ReceiptKind::Lost => "receipt lost",
         ReceiptKind::ToCome => "receipt to-come",
-        ReceiptKind::Undone => "receipt undone",
     }
 }

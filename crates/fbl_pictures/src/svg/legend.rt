@@ -26,7 +26,6 @@ pub(crate) enum Sign {
     Strike,
     Recovery,
     Checkpoint,
-    Restart,
     Orphan,
     Path,
     Moment,
@@ -105,10 +104,6 @@ const SIGNS: &[(Sign, &str)] = &[
     (
         Sign::Recovery,
         "<path class='recovery' d='M10 -13l9 16h-18z'/><text class='note' x='36' y='0'>recovery: the receipts it replays</text>",
-    ),
-    (
-        Sign::Restart,
-        "<path class='recovery' d='M10 -13l9 16h-18z'/><text class='note' x='36' y='0'>restart: the receipts it keeps</text>",
     ),
     (
         Sign::Checkpoint,
