@@ -8,6 +8,7 @@ from hostile_parts.logs import is_send, logs_of
 from hostile_parts.moments import receipt_of, words_of
 
 EVENTS, RECORDS, LEADERS = ("send", "receipt"), ("hold", "store"), ("receipt", "told", "restart")
+CONTROL = ("tell", "told")
 MOST_RESTARTS = 8
 
 
@@ -53,6 +54,11 @@ class History:
 
     def positions(self, *kinds):
         return [(member, number) for member, own in enumerate(self.logs) for number, entry in enumerate(own) if entry[0] in kinds]
+
+    @cached_property
+    def events_of(self):
+        """Each member's sends and receipts."""
+        return [[at for at in self.positions(*EVENTS) if at[0] == member] for member in range(len(self.logs))]
 
     def send_of(self, receipt):
         """The send with the number that stands in the life that the receipt names."""
@@ -138,7 +144,7 @@ def is_due(history, receipt):
 
 
 def obeys(members, before, entry):
-    """Whether the entry obeys the rules behind these, which do."""
+    """Whether the entry, no hold and no store, obeys the rules behind these, which do."""
     history, kind, own = History(tuple(map(tuple, logs_of(members, before)))), entry[0], entry[1]
     if own >= members:
         return False
@@ -152,16 +158,40 @@ def obeys(members, before, entry):
         return entry[2] < members and entry[2] != own and (own, entry[2], entry[3]) not in history.tells
     if kind == "told":
         return (entry[2], own, entry[3]) in history.tells and entry not in history.logs[own]
-    if kind == "restart":
-        kept = entry[3] + entry[4]
-        return entry[2] > history.lives[own] and kept <= len(standing) and sum(is_receipt[:kept]) == entry[3] and len(history.restarts) < MOST_RESTARTS
-    after = History(tuple(map(tuple, logs_of(members, [*before, entry]))))
-    return any(after.entry(at)[0] == "receipt" and receipt_of(after.entry(at)) == receipt_of(entry) for at in after.past((own, len(history.logs[own]))))
+    kept = entry[3] + entry[4]
+    return entry[2] > history.lives[own] and kept <= len(standing) and sum(is_receipt[:kept]) == entry[3] and len(history.restarts) < MOST_RESTARTS
 
 
-def first_bad(members, entries):
-    """The place of the first entry that breaks a rule."""
-    return next((place for place, entry in enumerate(entries) if not obeys(members, entries[:place], entry)), None)
+def first_bad(members, entries, kinds):
+    """The place of the first entry of these kinds that breaks a rule behind those of these kinds."""
+    chosen = [(place, entry) for place, entry in enumerate(entries) if entry[0] in kinds]
+    before = [entry for _, entry in chosen]
+    return next((place for count, (place, entry) in enumerate(chosen) if not obeys(members, before[:count], entry)), None)
+
+
+def first_unknown(members, entries):
+    """The place of the first hold or store that is of no member, or of a receipt that did not happen before it."""
+    history, counts = History(tuple(map(tuple, logs_of(members, entries)))), [0] * members
+    for place, entry in enumerate(entries):
+        at = (entry[1], counts[entry[1]]) if entry[1] < members else None
+        known = map(history.entry, history.past(at)) if at else ()
+        if entry[0] in RECORDS and not any(one[0] == "receipt" and receipt_of(one) == receipt_of(entry) for one in known):
+            return place
+        counts[entry[1]] += 1
+    return None
+
+
+def fault_of(log):
+    """The fault of a log, none if it obeys the rules. Where somebody restarts, sends, receipts, control messages and restarts are looked at
+    together, and else control messages behind the strike set."""
+    has_lives = any(entry[0] == "restart" or entry[0] == "receipt" and life_of(entry) for entry in log.entries)
+    first, then = ((*EVENTS, *CONTROL, "restart"), ()) if has_lives else (EVENTS, CONTROL)
+    place = first_bad(log.members, log.entries, first)
+    if place is None and any(member >= log.members for member in log.strike):
+        return "BadStrike"
+    place = first_bad(log.members, log.entries, then) if place is None else place
+    place = first_unknown(log.members, log.entries) if place is None else place
+    return None if place is None else f"BadEvent {place}"
 
 
 class Candidate(NamedTuple):
@@ -233,13 +263,12 @@ class CrashJudge:
 
     # ---- by closures
 
+    @cached_property
     def closed_sets(self):
         """The sets of restarts that have with each of them those that happened before it."""
         restarts = self.history.restarts
-        for size in range(len(restarts) + 1):
-            for some in map(frozenset, itertools.combinations(sorted(restarts), size)):
-                if all(other in some or restarts[other] not in self.history.past(restarts[one]) for one in some for other in restarts):
-                    yield some
+        sets = (frozenset(some) for size in range(len(restarts) + 1) for some in itertools.combinations(sorted(restarts), size))
+        return [some for some in sets if all(other in some or restarts[other] not in self.history.past(restarts[one]) for one in some for other in restarts)]
 
     def closure(self, positions):
         """The least moment that has these entries."""
@@ -256,12 +285,12 @@ class CrashJudge:
     def first_dependent(self, at, member, restarts):
         """The member's first event that depends on the receipt and that none of these restarts undoes."""
         undoers = {self.history.restarts[restart] for restart in restarts}
-        return next((own for own in self.history.positions(*EVENTS) if own[0] == member and at in self.history.depends_on(own)
+        return next((own for own in self.history.events_of[member] if at in self.history.depends_on(own)
                      and self.history.undone_by.get(own) not in undoers), None)
 
     def candidates(self, at):
         receipt = self.determinant(at)
-        for restarts in self.closed_sets():
+        for restarts in self.closed_sets:
             for member in range(self.log.members):
                 first = self.first_dependent(at, member, restarts)
                 if not first:
@@ -299,6 +328,16 @@ class CrashJudge:
     def text(self):
         """The lines of the check."""
         return "".join(self.unsafe_line(at) + self.undone_line(at) for at in self.receipts) or "safe\n"
+
+    def audit(self):
+        """The lines of the audit: of the receipts that stand at the last moment those that nobody outside the strike set holds, and who
+        depends on one."""
+        strike = frozenset(self.log.strike)
+        lost = [at for at in self.receipts if self.history.stands(at, self.last) and not self.history.is_stored(self.determinant(at), self.last)
+                and not any(self.history.holds(self.determinant(at), member, self.last) for member in range(self.log.members) if member not in strike)]
+        orphans = {member for at in lost for member in self.orphans(at, self.last, strike)}
+        named = "".join(f"determinant {' '.join(map(str, self.determinant(at)))}\n" for at in lost)
+        return f"lost {len(lost)}\n{named}orphans {words_of(orphans)}\n"
 
     def differences(self):
         """Where the candidates say something else than all moments and all sets do."""

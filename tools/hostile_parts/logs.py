@@ -4,8 +4,9 @@ import os
 import pathlib
 import random
 import tempfile
-from concurrent.futures import ThreadPoolExecutor
+from concurrent.futures import ProcessPoolExecutor
 from contextlib import contextmanager
+from functools import partial
 from typing import NamedTuple
 
 from hostile_parts.damage import mutated
@@ -174,10 +175,15 @@ class Cut(NamedTuple):
     parts: list
 
 
+def notes_of(judge, case):
+    """What the judge notes of a case: whether it is well, and what is told where it isn't."""
+    return [(is_well, "" if is_well else told) for is_well, told in judge(case)]
+
+
 def note_each(tally, judge, cases):
-    """Judges the cases, as many at a time as there are cores, and notes of each what is well and what is told of it if it isn't."""
-    with ThreadPoolExecutor(os.cpu_count()) as pool:
-        for notes in pool.map(judge, cases):
+    """Judges the cases, in as many processes as there are cores, and notes of each what is well and what is told of it if it isn't."""
+    with ProcessPoolExecutor(os.cpu_count()) as pool:
+        for notes in pool.map(partial(notes_of, judge), cases, chunksize=8):
             for is_well, told in notes:
                 tally.note(is_well, told)
 
@@ -280,13 +286,14 @@ def try_mutated_logs(tally):
 
 
 def try_logs_without_memory(refuser, _, tally):
-    """Of several files the whole is written, or their fault, or nothing where a request for memory is refused."""
+    """Of several files, and of a log with restarts, the whole is written, or their fault, or nothing where a request for memory is refused."""
     logs = [EXAMPLES / "logs" / f"member-{member}.json" for member in range(3)]
     late = [EXAMPLES / "wrong/member-0-send-last.json", *logs[1:]]
     moments = [EXAMPLES / "moments" / f"member-{member}.json" for member in range(3)]
+    restarts = [EXAMPLES / "restarts" / f"{name}.json" for name in ("undone", "one-of-two")]
     for words in (["merge", *logs], ["audit", *logs], ["check", "--explain", *logs], ["draw", *logs], ["merge", *late], ["merge", "--explain", *late],
                   ["merge", *moments], ["audit", "--explain", *moments], ["check", "--explain", *moments], ["draw", *moments],
-                  ["check", *moments[1:]], ["check", *moments[1:], *logs[:1]]):
+                  ["check", *moments[1:]], ["check", *moments[1:], *logs[:1]], *(["check", "--explain", log] for log in restarts)):
         wanted, refused = run(words), 0
         for variable in ("REFUSE_AT", "REFUSE_FROM"):
             for number, ran, met in refuser.refuse_each(words, variable=variable):

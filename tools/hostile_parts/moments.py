@@ -16,7 +16,7 @@ STORED_LOGS = 1500
 GREATER_LOGS = 300
 CUT_LOGS = 200
 EARLY_LOGS = 200
-MUTATED_LOGS = 300
+MUTATED_LOGS = 400
 DRAWN_LOGS = 300
 
 
@@ -458,10 +458,10 @@ def try_early_holds(tally):
 def try_mutated_moments(tally):
     """Texts of logs that are damaged give a fault or an answer."""
     source = random.Random(9)
-    texts = [path.read_bytes() for path in sorted((EXAMPLES / "moments").glob("*.json"))]
+    texts = [path.read_bytes() for folder in ("moments", "restarts") for path in sorted((EXAMPLES / folder).glob("*.json"))]
     for number in range(MUTATED_LOGS):
         word, given = source.choice(["merge", "audit", "check", "draw"]), mutated(source, texts)
         ran = run([word], given)
         is_fault = ran.status == 2 and ran.text == "" and ran.fault.startswith("fault: ") and ran.fault.count("\n") == 1
-        found_unsafe = word == "check" and ran.status == 1 and ran.text.startswith("unsafe ") and ran.fault == ""
+        found_unsafe = word == "check" and ran.status == 1 and ran.text.startswith(("unsafe ", "undone ")) and ran.fault == ""
         tally.note(is_fault or found_unsafe or (ran.status == 0 and ran.fault == ""), f"log {number} for {word}, {given!r:.600}: {ran}")

@@ -1,2 +1,3 @@
 pub mod HeldOutside
+pub mod EventLaws
 pub mod DumpRuns

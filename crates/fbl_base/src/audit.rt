@@ -8,11 +8,11 @@
 ghost use Rattle.std.specs.Prelude.{◌≡◌, ◌↔◌, ℕ, true, IfOk};
 ghost use Rattle.std.specs.FinSet as set;
 ghost use Rattle.fbl_dumps.specs.Losses.{IsDumpOrphan, lost_determinants};
-ghost use Rattle.fbl_base.specs.DumpRuns.{DumpLaw};
+ghost use Rattle.fbl_base.specs.DumpRuns.{DumpLaw, determinants};
 
 pub use fbl_dumps::{Dump, check_dump, checked_dump};
-pub use fbl_judge::Audit;
 use fbl_judge::Pasts;
+pub use fbl_judge::{Audit, LostReceipt};
 use fbl_runs::Run;
 use fbl_trace::{Determinant, MemberSet};
 use std::alloc::{AllocError, Global};
@@ -20,9 +20,11 @@ use std::alloc::{AllocError, Global};
 /// The audit of the dump: its lost receipts, in the order of the events, and the orphans. The time taken is linear in the events and the
 /// held pairs. `Err` comes only where there is no memory for the indexes or for the answer.
 pub fn audit_of(alloc: Global, dump: &Dump) -> Result<Audit, AllocError>
-    ensures lost { IfOk result (λ audit. audit.lost.items ≡ lost_determinants dump.now) }
+    ensures lost { IfOk result (λ audit. determinants audit.lost.items ≡ lost_determinants dump.now) }
     ensures orphans { IfOk result (λ audit. (q : ℕ) → (set.contains audit.orphans q ≡ true) ↔ IsDumpOrphan dump.now q) }
 {
+    // the dump obeys its rules
+    let _events = dump.events();
     let run = Run::of_dump(alloc, dump)?;
     let pasts = Pasts::of(alloc, &run)?;
     fbl_judge::audit_of(alloc, &pasts)
@@ -34,7 +36,11 @@ pub fn audit_of(alloc: Global, dump: &Dump) -> Result<Audit, AllocError>
 pub fn lost(alloc: Global, dump: &Dump) -> Result<Vec<Determinant>, AllocError>
     ensures { IfOk result (λ v. v.items ≡ lost_determinants dump.now) }
 {
-    let Audit { lost, .. } = audit_of(alloc, dump)?;
+    let audit = audit_of(alloc, dump)?;
+    let mut lost = Vec::new(alloc);
+    for receipt in audit.lost.iter() {
+        lost.push(receipt.determinant)?;
+    }
     Ok(lost)
 }
 

@@ -54,6 +54,8 @@ pub enum ReceiptKind {
     Lost,
     /// It has not come at the moment that is drawn, and is not judged.
     ToCome,
+    /// A restart undid it: it is crossed, and not judged.
+    Undone,
 }
 
 /// A line, an arrow or a name in a picture: marks stand over all of them. Columns count from 0, from the left; each member has a line, the first one at the top.
@@ -165,7 +167,7 @@ pub enum GlyphKind {
         /// Which of its sender's sends it is, from 1.
         ssn: u32,
         to: Member,
-        /// Whether a recovery took it out of the trace: it is crossed then.
+        /// Whether a recovery or a restart undid it: it is crossed then.
         undone: bool,
     },
     /// The member receives a message, in a history.
@@ -206,6 +208,15 @@ pub enum GlyphKind {
     },
     /// A checkpoint of the member is taken.
     Checkpoint,
+    /// The member is back after a crash, in a log.
+    Restart {
+        /// The life that begins.
+        life: u32,
+        /// How many receipts are kept.
+        receipts: u32,
+        /// How many sends are kept.
+        sends: u32,
+    },
 }
 
 /// A mark on a member's line.

@@ -1,5 +1,5 @@
 -- The items of the lists that scripts and dumps have, and the keys of both.
-use Rattle.std.specs.Prelude.{ℕ, List, [], ◌∷◌, Bool, true, false, not, Option, None, is_some, option_and_then, option_map, codes, if◌then◌else◌}
+use Rattle.std.specs.Prelude.{ℕ, List, [], ◌∷◌, Bool, true, false, not, Option, Some, None, is_some, option_and_then, option_map, codes, if◌then◌else◌}
 use Rattle.std.specs.List.{position}
 use Rattle.serde_json.specs.Data.{Data}
 use Rattle.serde_json.specs.Find.{as_object, get}
@@ -8,9 +8,8 @@ use Rattle.fbl_trace.specs.declared.trace.Start.{Start}
 use Rattle.fbl_trace.specs.declared.trace.Determinant.{Determinant}
 use Rattle.fbl_trace.specs.declared.trace.Mark.{Mark}
 use Rattle.fbl_trace.specs.declared.trace.Mark.TheVariants.{Send, Receipt}
-use Rattle.fbl_runs.specs.Entries.{mark_in}
 use Rattle.fbl_runs.specs.declared.entry.Entry.{Entry}
-use Rattle.fbl_runs.specs.declared.entry.Entry.TheVariants.{Event, Hold, Store, Tell, Told}
+use Rattle.fbl_runs.specs.declared.entry.Entry.TheVariants.{Event, Hold, LaterReceipt, Restart, Store, Tell, Told}
 use Rattle.fbl_input.specs.declared.key.Key.{Key}
 use Rattle.fbl_input.specs.declared.key.Key.TheVariants as keys
 use Rattle.fbl_input.specs.declared.input_kind.InputKind.{InputKind}
@@ -53,6 +52,27 @@ receipt_from (to ∷ rsn ∷ from ∷ ssn ∷ []) =
     (count_shape ssn)) (member_shape from)) (count_shape rsn)) (member_shape to)
 receipt_from _ = None
 
+-- `to, rsn, from, ssn, life` of a receipt that names a life of its sender
+abbrev pub later_receipt_from : List Data → Option Entry
+later_receipt_from (to ∷ rsn ∷ from ∷ ssn ∷ life ∷ []) =
+    option_and_then (λ p. option_and_then (λ r. option_and_then (λ q. option_and_then (λ s. option_map (λ l.
+    LaterReceipt (record { from = q; ssn = s; to = p; rsn = r }) l)
+    (count_shape life)) (count_shape ssn)) (member_shape from)) (count_shape rsn)) (member_shape to)
+later_receipt_from _ = None
+
+-- those of a receipt that names a life or none
+abbrev pub receipt_named : List Data → Option Entry
+receipt_named (to ∷ rsn ∷ from ∷ ssn ∷ life ∷ []) = later_receipt_from (to ∷ rsn ∷ from ∷ ssn ∷ life ∷ [])
+receipt_named rest = receipt_from rest
+
+-- `member, life, receipts, sends` of a restart
+abbrev pub restart_from : List Data → Option Entry
+restart_from (member ∷ life ∷ receipts ∷ sends ∷ []) =
+    option_and_then (λ m. option_and_then (λ l. option_and_then (λ r. option_map (λ s.
+    Restart (record { member = m; life = l; receipts = r; sends = s }))
+    (count_shape sends)) (count_shape receipts)) (count_shape life)) (member_shape member)
+restart_from _ = None
+
 -- `from, to, id` of a tell
 abbrev pub tell_from : List Data → Option Entry
 tell_from (from ∷ to ∷ id ∷ []) =
@@ -71,14 +91,16 @@ told_from _ = None
 abbrev pub control_named : Data → List Data → Option Entry
 control_named name rest = if is_text (codes "tell") name then tell_from rest else (if is_text (codes "told") name then told_from rest else None)
 
--- the entry with the name: `["send", from, ssn, to]`, `["receipt", to, rsn, from, ssn]`, `["hold", holder, from, ssn, to, rsn]`,
--- `["store", member, from, ssn, to, rsn]`, or a control message
+-- the entry with the name: `["send", from, ssn, to]`, `["receipt", to, rsn, from, ssn]`, `["receipt", to, rsn, from, ssn, life]`,
+-- `["restart", member, life, receipts, sends]`, `["hold", holder, from, ssn, to, rsn]`, `["store", member, from, ssn, to, rsn]`, or a
+-- control message
 abbrev pub entry_named : Data → List Data → Option Entry
 entry_named name rest =
     if is_text (codes "send") name then send_from rest
-    else (if is_text (codes "receipt") name then receipt_from rest
+    else (if is_text (codes "receipt") name then receipt_named rest
+    else (if is_text (codes "restart") name then restart_from rest
     else (if is_text (codes "hold") name then option_map (λ h. Hold h.0 h.1) (pair_from rest)
-    else (if is_text (codes "store") name then option_map (λ h. Store h.0 h.1) (pair_from rest) else control_named name rest)))
+    else (if is_text (codes "store") name then option_map (λ h. Store h.0 h.1) (pair_from rest) else control_named name rest))))
 
 abbrev pub entry_from : List Data → Option Entry
 entry_from [] = None
@@ -88,9 +110,14 @@ entry_from (name ∷ rest) = entry_named name rest
 abbrev pub entry_shape : Data → Option Entry
 entry_shape d = option_and_then entry_from (as_list d)
 
--- a send or a receipt
+-- the send or receipt that the entry is, if it names no life
+abbrev pub event_in : Entry → Option Mark
+event_in (Event e) = Some e
+event_in e = None
+
+-- a send or a receipt, which names no life
 abbrev pub event_shape : Data → Option Mark
-event_shape d = option_and_then mark_in (entry_shape d)
+event_shape d = option_and_then event_in (entry_shape d)
 
 -- whether the value is an event of an input of this kind
 abbrev pub is_event : InputKind → Data → Bool

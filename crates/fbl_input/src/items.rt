@@ -3,12 +3,12 @@
 ghost use Rattle.std.specs.Prelude.{◌≡◌, map, not};
 ghost use Rattle.std.specs.List.{position};
 ghost use Rattle.serde_json.specs.View.{view};
-ghost use Rattle.fbl_input.specs.Items.{bad_place, control_named, entry_named, is_item, pair_from, receipt_from, send_from, start_from, tell_from, told_from};
+ghost use Rattle.fbl_input.specs.Items.{bad_place, control_named, entry_named, event_in, is_item, later_receipt_from, pair_from, receipt_from, receipt_named, restart_from, send_from, start_from, tell_from, told_from};
 
 use crate::input_kind::InputKind;
 use crate::key::Key;
 use crate::shapes::{ByteShape, JsonShape, count_in, is_named, list_in, member_in};
-use fbl_runs::{ControlMessage, Entry};
+use fbl_runs::{ControlMessage, Entry, Restart};
 use fbl_trace::{Determinant, Mark, Member, Note, Start};
 use serde_json::Value;
 
@@ -99,6 +99,43 @@ fn receipt_of(list: &[Value]) -> Option<Entry>
     }
 }
 
+fn later_receipt_of(list: &[Value]) -> Option<Entry>
+    ensures { result ≡ later_receipt_from (map view list.now) }
+{
+    match list {
+        [to, rsn, from, ssn, life] => {
+            let to = member_in(to)?;
+            let rsn = count_in(rsn)?;
+            let from = member_in(from)?;
+            let ssn = count_in(ssn)?;
+            let life = count_in(life)?;
+            let determinant = Determinant { from, ssn, to, rsn };
+            Some(Entry::LaterReceipt { determinant, life })
+        }
+        _ => None,
+    }
+}
+
+fn restart_of(list: &[Value]) -> Option<Entry>
+    ensures { result ≡ restart_from (map view list.now) }
+{
+    match list {
+        [member, life, receipts, sends] => {
+            let member = member_in(member)?;
+            let life = count_in(life)?;
+            let receipts = count_in(receipts)?;
+            let sends = count_in(sends)?;
+            Some(Entry::Restart(Restart {
+                member,
+                life,
+                receipts,
+                sends,
+            }))
+        }
+        _ => None,
+    }
+}
+
 fn tell_of(list: &[Value]) -> Option<Entry>
     ensures { result ≡ tell_from (map view list.now) }
 {
@@ -127,6 +164,16 @@ fn told_of(list: &[Value]) -> Option<Entry>
     }
 }
 
+/// A receipt, which names a life of its sender or none.
+fn receipt_named(list: &[Value]) -> Option<Entry>
+    ensures { result ≡ receipt_named (map view list.now) }
+{
+    match list {
+        [_, _, _, _, _] => later_receipt_of(list),
+        _ => receipt_of(list),
+    }
+}
+
 /// The entry with the name, if it is of a control message, by what stands behind that.
 fn control_named(name: &Value, list: &[Value]) -> Option<Entry>
     ensures { result ≡ control_named (view name.now) (map view list.now) }
@@ -148,7 +195,10 @@ fn entry_named(name: &Value, list: &[Value]) -> Option<Entry>
         return send_of(list);
     }
     if is_named(name, "receipt") {
-        return receipt_of(list);
+        return receipt_named(list);
+    }
+    if is_named(name, "restart") {
+        return restart_of(list);
     }
     if is_named(name, "hold") {
         let (holder, determinant) = pair_of(list)?;
@@ -170,16 +220,19 @@ fn entry_named(name: &Value, list: &[Value]) -> Option<Entry>
 /// What a list of entries has to be, in words for a person.
 pub(crate) const ENTRIES_WANTED: &str =
     "a list of events [\"send\", from, number, to], [\"receipt\", to, number, from, number of the send], \
+    [\"receipt\", to, number, from, number of the send, life], \
     [\"hold\", holder, from, number of the send, to, number of the receipt], \
     [\"store\", member, from, number of the send, to, number of the receipt], \
-    [\"tell\", from, to, id] and [\"told\", to, from, id]";
+    [\"tell\", from, to, id], [\"told\", to, from, id] and [\"restart\", member, life, receipts, sends]";
 
 /// What each of them has to be.
 pub(crate) const ENTRY_WANTED: &str =
     "[\"send\", from, number, to], [\"receipt\", to, number, from, number of the send], \
+    [\"receipt\", to, number, from, number of the send, life], \
     [\"hold\", holder, from, number of the send, to, number of the receipt], \
     [\"store\", member, from, number of the send, to, number of the receipt], \
-    [\"tell\", from, to, id] or [\"told\", to, from, id]: members 0 to 15, numbers 0 to 4294967295";
+    [\"tell\", from, to, id], [\"told\", to, from, id] or [\"restart\", member, life, receipts, sends]: \
+    members 0 to 15, numbers 0 to 4294967295";
 
 /// An entry of a recorded run: a list that begins with its name.
 pub struct EntryShape;
@@ -206,7 +259,17 @@ pub(crate) const EVENT_WANTED: &str =
     "[\"send\", from, number, to] or [\"receipt\", to, number, from, number of the send]: \
     members 0 to 15, numbers 0 to 4294967295";
 
-/// A send or a receipt.
+/// The send or receipt that the entry is, if it names no life.
+fn event_in(entry: Entry) -> Option<Mark>
+    ensures { result ≡ event_in entry }
+{
+    match entry {
+        Entry::Event(event) => Some(event),
+        _ => None,
+    }
+}
+
+/// A send or a receipt, which names no life.
 pub struct EventShape;
 
 impl JsonShape<Mark> for EventShape {
@@ -215,7 +278,7 @@ impl JsonShape<Mark> for EventShape {
     ghost shape = { event_shape };
 
     fn in_value(value: &Value) -> Option<Mark> {
-        EntryShape::in_value(value)?.event()
+        event_in(EntryShape::in_value(value)?)
     }
 }
 

@@ -1,22 +1,24 @@
 -- What is lost at the last moment, and who is an orphan there.
-use Rattle.fbl_judge.proofs.Common.{ℕ, Bool, true, false, ◌≡◌, ◌==◌, ◌<◌, ◌≤◌, ◌+◌, ◌↔◌, inl, inr, List, [], ◌∷◌, length, Some, slice_get, refl, sym, ap, subst, ◌∙◌, arith}
-use Rattle.fbl_judge.proofs.Common.{cases_eq, false≢true, nat_tests, Determinant, Send, Receipt, receipt_of, Members, contains-union}
-use Rattle.fbl_judge.proofs.Common.{Entry, Event, Hold, Store, Tell, Told, log_of, Position, at, DependsAt, DependsOn, IsReceiptAt, LosesAt, IsOrphanAt}
+use Rattle.fbl_judge.proofs.Common.{ℕ, Bool, true, false, ◌≡◌, ◌==◌, ◌<◌, ◌≤◌, ◌+◌, ◌↔◌, ◌⊎◌, inl, inr, List, [], ◌∷◌, ◌++◌, Option, length, Some, None, slice_get, slice_get_within, sym, ap, subst, ◌∙◌, arith}
+use Rattle.fbl_judge.proofs.Common.{cases_eq, cases_lt, false≢true, nat_tests, Determinant, Members, contains-union, Entry, log_of, receipt_in, Position, at, DependsAt, IsReceiptAt, IsOrphanAt, StandsAt, seen, RunParts, run_of}
 use Rattle.std.specs.FinSet as set
+use Rattle.std.specs.List.{All}
+use Rattle.fbl_judge.proofs.Common.{zero, suc}
 use Rattle.std.specs.Cmp.{nat_cmp_total}
 use Rattle.fbl_trace.proofs.Sets.{len-remove_one, some_member}
-use Rattle.fbl_runs.specs.Clocks.{StandsAt, seen}
-use Rattle.fbl_runs.specs.Entries.{receipt_in}
-use Rattle.fbl_judge.specs.Audits.{DependsOnAny, IsFirstOnAny, end_of}
-use Rattle.fbl_judge.specs.Paths.{DependsSome, IsDependentPlace}
-use Rattle.fbl_trace.proofs.Gets.{At-front, At-push, At-seam}
-use Rattle.std.proofs.Common.{Option, None, min, ◌++◌, ◌⊎◌}
-use Rattle.std.proofs.lemmas.Bool.{cases_lt}
+use Rattle.fbl_runs.proofs.Listing.{stands_at}
+use Rattle.std.proofs.Common.{min}
 use Rattle.std.proofs.Math.Nat.{min-eq_left, min_comm}
-use Rattle.fbl_runs.specs.Logs.{RunParts, run_of}
-use Rattle.fbl_runs.proofs.Listing.{locate_all, seen-later, stands_at}
-
--- ---- the audit
+use Rattle.std.proofs.lemmas.Option.{get_or_from_slice_get}
+use Rattle.fbl_trace.proofs.Gets.{At-front, At-push, At-seam}
+use Rattle.fbl_runs.proofs.Listing.{seen-later}
+use Rattle.fbl_judge.proofs.Common.{Dependence, Precedes, Stands}
+use Rattle.fbl_judge.specs.Paths.{IsDependentPlace}
+use Rattle.fbl_judge.specs.Unsafe.{IsLeftOrphanAt}
+use Rattle.fbl_judge.proofs.Common.{Cut}
+use Rattle.fbl_judge.specs.Audits.{AreNamed, DependsOnAny, IsFirstOnAny, IsLost, IsNamedBy, end_of}
+use Rattle.fbl_judge.specs.declared.audit.LostReceipt.{LostReceipt}
+use Rattle.fbl_judge.proofs.Places.{one_entry, one_position, place_of, place_within, placed_at}
 
 -- no holder is left exactly where nobody outside the members holds it
 pub none_left : (holders members : Members) (Holds : ℕ → Type 0) → ((q : ℕ) → (set.contains holders q ≡ true) ↔ Holds q) → (b : Bool) → b ≡ (set.len (set.difference holders members) == 0)
@@ -40,134 +42,168 @@ none_left holders members Holds are b is = (
   outside : (q : ℕ) → (set.contains (set.difference holders members) q ≡ true) ↔ ((set.contains members q ≡ false) × (set.contains holders q ≡ true))
   outside q = grind (arith, set.contains-difference nat_cmp_total holders members q)
 
-pub receipt_is : (e : Entry) (d : Determinant) → receipt_in e ≡ Some d → e ≡ Event (receipt_of d)
-receipt_is (Event (Send from ssn to)) d is = cc
-receipt_is (Event (Receipt to rsn from ssn)) d is = (let same : ◌≡◌ {A = Determinant} (record { from = from; ssn = ssn; to = to; rsn = rsn }) d = cc in ap (λ (d : Determinant). Event (receipt_of d)) same)
-receipt_is (Hold q d') d is = cc
-receipt_is (Store q d') d is = cc
-receipt_is (Tell m) d is = cc
-receipt_is (Told m) d is = cc
+-- a receipt is named by one determinant
+pub one_determinant : (entries : List Entry) (i : Position) (a b : Determinant) → IsReceiptAt (log_of entries) a i → IsReceiptAt (log_of entries) b i → a ≡ b
+one_determinant entries i a b is_a is_b =
+    let entry : Some is_a.0 ≡ Some is_b.0 = sym is_a.1 ∙ is_b.1 in
+    let same : is_a.0 ≡ is_b.0 = (cc) in
+    let both : Some a ≡ Some b = sym is_a.2 ∙ ap receipt_in same ∙ is_b.2 in
+    cc
 
--- the receipt stands at the number of its place
-pub receipt_at : (entries : List Entry) (p number : ℕ) (e : Entry) (d : Determinant) → slice_get entries p ≡ Some e → receipt_in e ≡ Some d
-    → ((i : Position) → StandsAt entries p i → number ≡ i.number) → IsReceiptAt (log_of entries) d (at d.to number)
-receipt_at entries p number e d here receipt is =
-    let there : slice_get entries p ≡ Some (Event (receipt_of d)) = here ∙ ap Some (receipt_is e d receipt) in
-    let stands : StandsAt entries p (at d.to (seen entries p d.to)) = (Event (receipt_of d), there, refl, refl) in
-    subst (λ (k : ℕ). IsReceiptAt (log_of entries) d (at d.to k)) (sym (is (at d.to (seen entries p d.to)) stands))
-    (stands_at entries p (at d.to (seen entries p d.to)) (Event (receipt_of d)) stands there)
+-- what stands at the place of a receipt
+pub receipt_at : (entries : List Entry) (p : ℕ) (i : Position) (e : Entry) (d : Determinant) → slice_get entries p ≡ Some e → Some d ≡ receipt_in e → StandsAt entries p i → IsReceiptAt (log_of entries) d i
+receipt_at entries p i e d here is stands = (e, stands_at entries p i e stands here, sym is)
 
-one_receipt : (d d' : Determinant) → Event (receipt_of d) ≡ Event (receipt_of d') → d ≡ d'
-one_receipt d d' same = (let some : Some d ≡ Some d' = ap receipt_in same in cc)
+-- and at that of none
+pub no_receipt : (entries : List Entry) (p : ℕ) (i : Position) (e : Entry) (d : Determinant) → slice_get entries p ≡ Some e → None ≡ receipt_in e → StandsAt entries p i → ¬ (IsReceiptAt (log_of entries) d i)
+no_receipt entries p i e d here none stands is =
+    let same : e ≡ is.0 = one_entry entries p e is.0 here (placed_at entries p i is.0 stands is.1) in
+    let no' : None ≡ Some d = none ∙ ap receipt_in same ∙ is.2 in
+    cc
 
--- the member depends at the last moment on a receipt among the first p entries that the struck ones lose
+-- the member depends at the last moment on a receipt at one of the first p places that the struck ones lose
 abbrev pub DependsOnLost : RunParts → ℕ → ℕ → Type 0
-DependsOnLost log p q =
-    (i : ℕ) × (d : Determinant) × (i < p) × (slice_get log.entries i ≡ Some (Event (receipt_of d)))
-    × LosesAt (run_of log) (end_of log) log.strike d × DependsAt (log_of log.entries) (end_of log) d q
+DependsOnLost run p q = (place : ℕ) × (i : Position) × (place < p) × StandsAt run.entries place i × IsLost run i × DependsAt (log_of run.entries) (end_of run) i q
 
 -- the members are those that do
 abbrev pub AreDependents : RunParts → ℕ → Members → Type 0
-AreDependents log p members = (q : ℕ) → (set.contains members q ≡ true) ↔ DependsOnLost log p q
+AreDependents run p members = (q : ℕ) → (set.contains members q ≡ true) ↔ DependsOnLost run p q
 
-pub none_dependent : (log : RunParts) (members : Members) → members ≡ set.empty → AreDependents log 0 members
-none_dependent log members none q = (λ h. absurd (false≢true (sym (ap (λ s. set.contains s q) none ∙ set.contains-empty _ q) ∙ h)), λ h. absurd (let below = h.2 in omega (arith, below)))
+pub none_dependents : (run : RunParts) (members : Members) → members ≡ set.empty → AreDependents run 0 members
+none_dependents run members none q = (λ h. absurd (false≢true (sym (ap (λ s. set.contains s q) none ∙ set.contains-empty _ q) ∙ h)), λ h. absurd (let below = h.2 in omega (arith, below)))
 
 -- an entry that is no lost receipt adds nobody
-pub same_dependents : (log : RunParts) (p : ℕ) (e : Entry) (members : Members) → slice_get log.entries p ≡ Some e
-    → ((d : Determinant) → receipt_in e ≡ Some d → ¬ (LosesAt (run_of log) (end_of log) log.strike d)) → AreDependents log p members → AreDependents log (p + 1) members
-same_dependents log p e members here not are q = (
+pub same_dependents : (run : RunParts) (p : ℕ) (members : Members) → ((i : Position) → StandsAt run.entries p i → ¬ (IsLost run i)) → AreDependents run p members → AreDependents run (p + 1) members
+same_dependents run p members not are q = (
   λ h. (let r = (are q).0 h in (r.0, r.1, (let below = r.2 in omega (arith, below)), r.3, r.4, r.5)),
   λ h. elim (cases_eq h.0 p) [
-    | inl at_p ↦ absurd (
-        let there : slice_get log.entries p ≡ Some (Event (receipt_of h.1)) = subst (λ (i : ℕ). slice_get log.entries i ≡ Some (Event (receipt_of h.1))) at_p h.3 in
-        let same : e ≡ Event (receipt_of h.1) = (let some : Some e ≡ Some (Event (receipt_of h.1)) = sym here ∙ there in cc) in
-        not h.1 (ap receipt_in same) h.4)
+    | inl same ↦ absurd (not h.1 (subst (λ (p : ℕ). StandsAt run.entries p h.1) same h.3) h.4)
     | inr other ↦ (are q).1 (h.0, h.1, (let below = h.2 in omega (arith, below, other)), h.3, h.4, h.5)
   ],
 )
 
 -- a lost receipt adds those that depend on it
-pub more_dependents : (log : RunParts) (p : ℕ) (e : Entry) (d : Determinant) (members more all : Members) → slice_get log.entries p ≡ Some e → receipt_in e ≡ Some d
-    → LosesAt (run_of log) (end_of log) log.strike d → ((q : ℕ) → (set.contains more q ≡ true) ↔ DependsAt (log_of log.entries) (end_of log) d q) → all ≡ set.union members more
-    → AreDependents log p members → AreDependents log (p + 1) all
-more_dependents log p e d members more all here receipt lost depend union are q = subst (λ (s : Members). (set.contains s q ≡ true) ↔ DependsOnLost log (p + 1) q) (sym union) (
+pub more_dependents : (run : RunParts) (p : ℕ) (i : Position) (members more all : Members) → StandsAt run.entries p i → IsLost run i
+    → ((q : ℕ) → (set.contains more q ≡ true) ↔ DependsAt (log_of run.entries) (end_of run) i q) → all ≡ set.union members more
+    → AreDependents run p members → AreDependents run (p + 1) all
+more_dependents run p i members more all at_i lost depend union are q = subst (λ (s : Members). (set.contains s q ≡ true) ↔ DependsOnLost run (p + 1) q) (sym union) (
   λ h. elim ((contains-union members more q).0 h) [
     | inl old ↦ (let r = (are q).0 old in (r.0, r.1, (let below = r.2 in omega (arith, below)), r.3, r.4, r.5))
-    | inr new ↦ (p, d, omega arith, here ∙ ap Some (receipt_is e d receipt), lost, (depend q).0 new)
+    | inr new ↦ (p, i, omega arith, at_i, lost, (depend q).0 new)
   ],
   λ h. (contains-union members more q).1 (elim (cases_eq h.0 p) [
-    | inl at_p ↦ inr ((depend q).1 (
-        let there : slice_get log.entries p ≡ Some (Event (receipt_of h.1)) = subst (λ (i : ℕ). slice_get log.entries i ≡ Some (Event (receipt_of h.1))) at_p h.3 in
-        let same : Event (receipt_of h.1) ≡ Event (receipt_of d) = (let some : Some (Event (receipt_of h.1)) ≡ Some (Event (receipt_of d)) = sym there ∙ here ∙ ap Some (receipt_is e d receipt) in cc) in
-        subst (λ (d : Determinant). DependsAt (log_of log.entries) (end_of log) d q) (one_receipt h.1 d same) h.5))
+    | inl same ↦ inr ((depend q).1 (
+        let one = one_position run.entries p h.1 i (subst (λ (p : ℕ). StandsAt run.entries p h.1) same h.3) at_i in
+        subst (λ (i : Position). DependsAt (log_of run.entries) (end_of run) i q) one h.5))
     | inr other ↦ inl ((are q).1 (h.0, h.1, (let below = h.2 in omega (arith, below, other)), h.3, h.4, h.5))
   ]),
 )
 
 -- those of them that are left are the orphans
-pub orphans : (log : RunParts) (p : ℕ) (members left : Members) → length log.entries ≤ p → AreDependents log p members → left ≡ set.difference members log.strike
-    → (q : ℕ) → (set.contains left q ≡ true) ↔ IsOrphanAt (run_of log) (end_of log) log.strike q
-orphans log p members left all are is q = subst (λ (s : Members). (set.contains s q ≡ true) ↔ IsOrphanAt (run_of log) (end_of log) log.strike q) (sym is) (
+pub orphans : (run : RunParts) (p : ℕ) (members left : Members) → length run.entries ≤ p → AreDependents run p members → left ≡ set.difference members run.strike
+    → (q : ℕ) → (set.contains left q ≡ true) ↔ IsOrphanAt (run_of run) (end_of run) run.strike q
+orphans run p members left all are is q = subst (λ (s : Members). (set.contains s q ≡ true) ↔ IsOrphanAt (run_of run) (end_of run) run.strike q) (sym is) (
   λ h. (let out = outside.0 h in let r = (are q).0 out.1 in (out.0, (r.1, r.4, r.5))),
   λ h.
-      let d = h.1.0 in
-      let depends = h.1.2 in
-      let receipt = depends.1.0 in
-      let there = locate_all log.entries receipt.member receipt.number (Event (receipt_of d)) depends.1.1 in
-      outside.1 (h.0, (are q).1 (there.0, d, (let below = there.1 in omega (arith, below, all)), there.2, h.1.1, depends)),
+      let receipt = h.1.1.1.1 in
+      let there = place_of run.entries h.1.0 receipt.0 receipt.1 in
+      outside.1 (h.0, (are q).1 (there.0, h.1.0, (let below = place_within run.entries there.0 h.1.0 there.1 in omega (arith, below, all)), there.1, h.1.1, h.1.2)),
 ) where
-  outside : (set.contains (set.difference members log.strike) q ≡ true) ↔ ((set.contains log.strike q ≡ false) × (set.contains members q ≡ true))
-  outside = grind (arith, set.contains-difference nat_cmp_total members log.strike q)
+  outside : (set.contains (set.difference members run.strike) q ≡ true) ↔ ((set.contains run.strike q ≡ false) × (set.contains members q ≡ true))
+  outside = grind (arith, set.contains-difference nat_cmp_total members run.strike q)
+
+-- one that is named
+pub named_one : (run : RunParts) (i : Position) (receipt : LostReceipt) → IsNamedBy run i receipt → All (λ receipt. (i : Position) × IsNamedBy run i receipt) (receipt ∷ [])
+named_one run i receipt named zero d below = (i, named)
+named_one run i receipt named (suc k) d below = absurd (omega (arith, below))
+
+-- each that is named is at its place
+pub named_at : (run : RunParts) (lost : List LostReceipt) (k : ℕ) (receipt : LostReceipt) → AreNamed run lost → slice_get lost k ≡ Some receipt → (i : Position) × IsNamedBy run i receipt
+named_at run lost k receipt named here =
+    let within = slice_get_within lost k receipt here in
+    subst (λ (receipt : LostReceipt). (i : Position) × IsNamedBy run i receipt) (get_or_from_slice_get lost k receipt receipt here) (named k receipt within)
 
 -- ---- where orphans start
 
-module _ (run : RunParts) (front : List Determinant) (d : Determinant) (member : ℕ) where
-  -- the entry is the member's, and depends on the one receipt more
+module _ (run : RunParts) (cut : Cut) (front : List LostReceipt) (receipt : LostReceipt) (member : ℕ) (i : Position) (at_i : StandsAt run.entries receipt.place i) where
+  -- the entry is the member's, stands, and depends on the one receipt more
   abbrev DependsOnIt : ℕ → Type 0
-  DependsOnIt place = (j : Position) × StandsAt run.entries place j × (j.member ≡ member) × DependsOn (log_of run.entries) d j
+  DependsOnIt place = (j : Position) × StandsAt run.entries place j × (j.member ≡ member) × Stands (log_of run.entries) cut j × Precedes Dependence (log_of run.entries) i j
 
-  either : (place : ℕ) → DependsOnAny run (front ++ d ∷ []) member place → DependsOnAny run front member place ⊎ DependsOnIt place
-  either place depends = elim (At-push front d depends.3.0 depends.3.1 depends.3.2) [
-    | inl old ↦ inl (depends.0, depends.1, depends.2, (depends.3.0, depends.3.1, old, depends.3.3))
-    | inr new ↦ inr (depends.0, depends.1, depends.2, subst (λ (e : Determinant). DependsOn (log_of run.entries) e depends.0) (sym new.1) depends.3.3)
+  either : (place : ℕ) → DependsOnAny run cut (front ++ receipt ∷ []) member place → DependsOnAny run cut front member place ⊎ DependsOnIt place
+  either place depends = elim (At-push front receipt depends.4.0 depends.4.1 depends.4.3) [
+    | inl old ↦ inl (depends.0, depends.1, depends.2, depends.3, (depends.4.0, depends.4.1, depends.4.2, old, depends.4.4, depends.4.5))
+    | inr new ↦ inr (
+      depends.0,
+      depends.1,
+      depends.2,
+      depends.3,
+      (let own : StandsAt run.entries receipt.place depends.4.2 = subst (λ (r : LostReceipt). StandsAt run.entries r.place depends.4.2) (sym new.1) depends.4.4 in
+          subst (λ (k : Position). Precedes Dependence (log_of run.entries) k depends.0) (one_position run.entries receipt.place depends.4.2 i own at_i) depends.4.5),
+    )
   ]
 
-  of_front : (place : ℕ) → DependsOnAny run front member place → DependsOnAny run (front ++ d ∷ []) member place
-  of_front place depends = (depends.0, depends.1, depends.2, (depends.3.0, depends.3.1, At-front front (d ∷ []) depends.3.0 depends.3.1 depends.3.2, depends.3.3))
+  of_front : (place : ℕ) → DependsOnAny run cut front member place → DependsOnAny run cut (front ++ receipt ∷ []) member place
+  of_front place depends = (depends.0, depends.1, depends.2, depends.3, (depends.4.0, depends.4.1, depends.4.2, At-front front (receipt ∷ []) depends.4.0 depends.4.1 depends.4.3, depends.4.4, depends.4.5))
 
   -- where no entry of the member does, the first stays
-  pub any_none : (first : Option ℕ) → IsFirstOnAny run front member first → ¬ (DependsSome run d member) → IsFirstOnAny run (front ++ d ∷ []) member first
+  pub any_none : (first : Option ℕ) → IsFirstOnAny run cut front member first → ¬ (DependsAt (log_of run.entries) cut i member) → IsFirstOnAny run cut (front ++ receipt ∷ []) member first
   any_none first is none = by_first first is where
     no_one : (place : ℕ) → ¬ (DependsOnIt place)
-    no_one place it = none (it.0.number, subst (λ (m : ℕ). DependsOn (log_of run.entries) d (at m it.0.number)) it.2 it.3)
+    no_one place it = none (subst (DependsAt (log_of run.entries) cut i) it.2 (it.0.number, it.4, it.3))
 
-    by_first : (first : Option ℕ) → IsFirstOnAny run front member first → IsFirstOnAny run (front ++ d ∷ []) member first
+    by_first : (first : Option ℕ) → IsFirstOnAny run cut front member first → IsFirstOnAny run cut (front ++ receipt ∷ []) member first
     by_first None is = λ place depends. elim (either place depends) [ inl old ↦ is place old | inr new ↦ no_one place new ]
     by_first (Some f) is = (of_front f is.0, λ other below depends. elim (either other depends) [ inl old ↦ is.1 other below old | inr new ↦ no_one other new ])
 
   -- where one does, the first of the two
-  module _ (place : ℕ) (is : IsDependentPlace run d member place) where
-    it_at : DependsOnAny run (front ++ d ∷ []) member place
-    it_at = (at member is.0, is.1, refl, (length front, d, At-seam front d [], is.2.depends))
+  module _ (place : ℕ) (is : IsDependentPlace run i cut member place) where
+    it_at : DependsOnAny run cut (front ++ receipt ∷ []) member place
+    it_at = (is.0, is.1, is.2, is.3.stands, (length front, receipt, i, At-seam front receipt [], at_i, is.3.depends))
 
     none_before : (other : ℕ) → other < place → ¬ (DependsOnIt other)
     none_before other below it =
         let later = seen-later run.entries other place member it.1.0 it.1.1 (it.1.2 ∙ it.2) below in
-        let number : seen run.entries other member ≡ it.0.number = ap (seen run.entries other) (sym it.2) ∙ it.1.3 in
-        is.2.first it.0.number (let s = is.1.3 in omega (arith, later, number, s)) (subst (λ (m : ℕ). DependsOn (log_of run.entries) d (at m it.0.number)) it.2 it.3)
+        let a : seen run.entries other member ≡ it.0.number = ap (seen run.entries other) (sym it.2) ∙ it.1.3 in
+        let b : seen run.entries place member ≡ is.0.number = ap (seen run.entries place) (sym is.2) ∙ is.1.3 in
+        let own : it.0.member ≡ is.0.member = it.2 ∙ sym is.2 in
+        is.3.first it.0.number (omega (arith, later, a, b)) (subst (λ (m : ℕ). Precedes Dependence (log_of run.entries) i (at m it.0.number)) own it.4)
+        (subst (λ (m : ℕ). Stands (log_of run.entries) cut (at m it.0.number)) own it.3)
 
-    pub any_first : IsFirstOnAny run front member None → IsFirstOnAny run (front ++ d ∷ []) member (Some place)
+    pub any_first : IsFirstOnAny run cut front member None → IsFirstOnAny run cut (front ++ receipt ∷ []) member (Some place)
     any_first none = (it_at, λ other below depends. elim (either other depends) [ inl old ↦ none other old | inr new ↦ none_before other below new ])
 
-    pub any_min : (f least : ℕ) → least ≡ min f place → IsFirstOnAny run front member (Some f) → IsFirstOnAny run (front ++ d ∷ []) member (Some least)
+    pub any_min : (f least : ℕ) → least ≡ min f place → IsFirstOnAny run cut front member (Some f) → IsFirstOnAny run cut (front ++ receipt ∷ []) member (Some least)
     any_min f least same first = elim (cases_lt place f) [
       | inl less ↦
           let here : place ≡ least = sym (same ∙ min_comm f place ∙ min-eq_left (omega (arith, less))) in
-          subst (λ (p : ℕ). IsFirstOnAny run (front ++ d ∷ []) member (Some p)) here
+          subst (λ (p : ℕ). IsFirstOnAny run cut (front ++ receipt ∷ []) member (Some p)) here
           (it_at, λ other below depends. elim (either other depends) [ inl old ↦ first.1 other (omega (arith, below, less)) old | inr new ↦ none_before other below new ])
       | inr more ↦
           let here : f ≡ least = sym (same ∙ min-eq_left (omega (arith, more))) in
-          subst (λ (p : ℕ). IsFirstOnAny run (front ++ d ∷ []) member (Some p)) here
+          subst (λ (p : ℕ). IsFirstOnAny run cut (front ++ receipt ∷ []) member (Some p)) here
           (of_front f first.0, λ other below depends. elim (either other depends) [ inl old ↦ first.1 other below old | inr new ↦ none_before other (omega (arith, below, more)) new ])
     ]
+
+-- of those that depend on a receipt those that are not struck
+pub left_orphans : (run : RunParts) (cut : Cut) (i : Position) (dependents left : Members) → left ≡ set.difference dependents run.strike
+    → ((q : ℕ) → (set.contains dependents q ≡ true) ↔ DependsAt (log_of run.entries) cut i q) → (q : ℕ) → (set.contains left q ≡ true) ↔ IsLeftOrphanAt (run_of run) cut run.strike i q
+left_orphans run cut i dependents left is are q = subst (λ (s : Members). (set.contains s q ≡ true) ↔ IsLeftOrphanAt (run_of run) cut run.strike i q) (sym is) (
+  λ h. (let o = out.0 h in (o.0, (are q).0 o.1)),
+  λ h. out.1 (h.0, (are q).1 h.1),
+) where
+  out : (set.contains (set.difference dependents run.strike) q ≡ true) ↔ ((set.contains run.strike q ≡ false) × (set.contains dependents q ≡ true))
+  out = grind (arith, set.contains-difference nat_cmp_total dependents run.strike q)
+
+-- whether a set has a member
+pub some_one : (s : Members) (b : Bool) → b ≡ (set.len s == 0) → b ≡ false → (q : ℕ) × (set.contains s q ≡ true)
+some_one s b is not_empty = elim (cases_eq (set.len s) 0) [
+  | inl none ↦ absurd (let empty : (set.len s == 0) ≡ true = grind (arith, nat_tests, none) in false≢true (sym not_empty ∙ is ∙ empty))
+  | inr more ↦ some_member s (omega (arith, more))
+]
+
+pub no_one : (s : Members) (b : Bool) → b ≡ (set.len s == 0) → b ≡ true → (q : ℕ) → ¬ (set.contains s q ≡ true)
+no_one s b is empty q has =
+    let len : set.len s ≡ 0 = grind (arith, nat_tests, is, empty) in
+    let one = len-remove_one s q has in
+    omega (arith, one, len)

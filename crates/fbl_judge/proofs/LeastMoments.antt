@@ -1,220 +1,228 @@
--- The least moment at which a receipt has come.
-use Rattle.fbl_judge.proofs.Common.{ℕ, zero, suc, cond, ◌≡◌, ◌==◌, ◌<◌, ◌≤◌, ◌⊎◌, ◌↔◌, inl, inr, List, [], ◌∷◌, max, Some, None, slice_get, refl, sym, ap, subst, ◌∙◌, arith}
-use Rattle.fbl_judge.proofs.Common.{nat_tests, cases_eq, cases_lt, slice_get_within, WellFormed, Determinant, Mark, Send, Receipt, send_of, receipt_of}
-use Rattle.fbl_judge.proofs.Common.{HappenedBefore, Entry, Event, Hold, Store, Tell, Told, IsArrival, IsRecord, Passes, Logs, log_of, marks, IsAt, Leads, Position, Precedes, at, itself, step, Cut, HasCome}
-use Rattle.fbl_judge.proofs.Common.{IsInStepOf, IsMoment, IsLeastMoment, IsReceiptAt, last_cut, length}
-use Rattle.fbl_runs.specs.Clocks.{IsClock}
-use Rattle.fbl_runs.specs.ControlMessages.{AreTold}
-use Rattle.fbl_runs.specs.Entries.{recorded_in}
-use Rattle.fbl_runs.specs.Indexes.{EndsStep}
-use Rattle.fbl_runs.proofs.ClockLaws.{Precedes-joined, clock_of, last_there, own_precedes, there_before}
+-- The least moment at which an entry has come.
+use Rattle.fbl_judge.proofs.Common.{ℕ, zero, suc, Bool, true, false, ◌≡◌, ◌<◌, ◌≤◌, ◌⊎◌, ◌↔◌, inl, inr, List, [], ◌∷◌, None, Some, slice_get, length, refl, sym, ap, subst, ◌∙◌, arith, cases_lt, false≢true, slice_get_within}
+use Rattle.fbl_judge.proofs.Common.{AreEntries, HappenedBefore, Entry, Event, Hold, LaterReceipt, Receipt, Restart, Send, Store, Tell, Told, IsArrival, IsRecord, Logs, log_of, recorded_in, IsAt, Leads, Position, Precedes, at, itself, step, Cut, HasCome, IsInStepOf, IsLeastMoment, IsMoment}
+use Rattle.fbl_runs.specs.Precedence.{IsPast}
+use Rattle.fbl_runs.proofs.ClockLaws.{has_past}
+use Rattle.fbl_judge.specs.Laws.{LeastMomentLaw}
+use Rattle.fbl_judge.proofs.MomentLaws.{arrival_no_record, first_there, joined, leads_first, moment_closed, own_before, same_at, step_there, to_record}
 
--- what says that nothing is held or stored is no hold or store
-no_record : (e : Entry) → recorded_in e ≡ None → ¬ (IsRecord e)
-no_record e none record' = (let some : None ≡ Some record'.0 = sym none ∙ record'.1 in cc)
+-- ---- the steps of a log's first entries
 
-arrival_no_record : (a : Entry) → IsArrival a → ¬ (IsRecord a)
-arrival_no_record (Event m) arrives = no_record (Event m) refl
-arrival_no_record (Told m) arrives = no_record (Told m) refl
-arrival_no_record (Tell m) arrives = absurd arrives
-arrival_no_record (Hold q d) arrives = absurd arrives
-arrival_no_record (Store q d) arrives = absurd arrives
+-- an entry is a hold or a store, or an arrival, or neither
+data Kind (e : Entry) : Type 0 where
+  is_record : IsRecord e → Kind e
+  is_arrival : IsArrival e → ¬ (IsRecord e) → Kind e
+  is_other : ¬ (IsRecord e) → ¬ (IsArrival e) → Kind e
 
--- a message passes from no arrival and from no hold or store
-send_no_arrival : (s r : Mark) → send_of r ≡ Some s → ¬ (IsArrival (Event s))
-send_no_arrival s (Send from ssn to) takes arrives = cc
-send_no_arrival s (Receipt to rsn from ssn) takes arrives = (let is : Send from ssn to ≡ s = cc in subst (λ (x : Mark). IsArrival (Event x)) (sym is) arrives)
+none_kept : (e : Entry) → recorded_in e ≡ None → ¬ (IsRecord e)
+none_kept e none is = (let some : None ≡ Some is.0 = sym none ∙ is.1 in cc)
 
-passer_no_arrival : (a b : Entry) → Passes HappenedBefore a b → ¬ (IsArrival a)
-passer_no_arrival a b (inl (s, r, is, _, takes)) arrives = send_no_arrival s r takes (subst IsArrival is arrives)
-passer_no_arrival a b (inr (m, is, _)) arrives = subst IsArrival is arrives
+kind : (e : Entry) → Kind e
+kind (Hold q d) = is_record (d, refl)
+kind (Store q d) = is_record (d, refl)
+kind (Event (Send from ssn to)) = is_other (none_kept (Event (Send from ssn to)) refl) (λ no'. no')
+kind (Event (Receipt to rsn from ssn)) = is_arrival tt (none_kept (Event (Receipt to rsn from ssn)) refl)
+kind (LaterReceipt d life) = is_arrival tt (none_kept (LaterReceipt d life) refl)
+kind (Tell m) = is_other (none_kept (Tell m) refl) (λ no'. no')
+kind (Told m) = is_arrival tt (none_kept (Told m) refl)
+kind (Restart r) = is_arrival tt (none_kept (Restart r) refl)
 
-passer_no_record : (a b : Entry) → Passes HappenedBefore a b → ¬ (IsRecord a)
-passer_no_record a b (inl (s, r, is, _, takes)) = no_record a (ap recorded_in is)
-passer_no_record a b (inr (m, is, _)) = no_record a (ap recorded_in is)
+abbrev RecordAt : List Entry → ℕ → Type 0
+RecordAt log x = (e : Entry) × (slice_get log x ≡ Some e) × IsRecord e
 
--- nor to one
-passed_no_record : (a b : Entry) → Passes HappenedBefore a b → ¬ (IsRecord b)
-passed_no_record a b (inl (s, r, _, is, takes)) = no_record b (ap recorded_in is)
-passed_no_record a b (inr (m, _, is)) = no_record b (ap recorded_in is)
+abbrev ArrivalAt : List Entry → ℕ → Type 0
+ArrivalAt log x = (e : Entry) × (slice_get log x ≡ Some e) × IsArrival e
 
--- one entry stands at a position
-same_at : (logs : Logs) (i : Position) (a b : Entry) → IsAt logs i a → IsAt logs i b → a ≡ b
-same_at logs i a b at_a at_b = (let same : Some a ≡ Some b = sym at_a ∙ at_b in cc)
+-- it is one of the first c, or of a step of one of them, or, where a step is open, of that
+abbrev Reached : Bool → List Entry → ℕ → ℕ → Type 0
+Reached open' log c k =
+    (k < c) ⊎ ((open' ≡ true) × ((x : ℕ) → x ≤ k → RecordAt log x)) ⊎ ((l : ℕ) × (l < c) × ArrivalAt log l × (l < k) × ((x : ℕ) → l < x → x ≤ k → RecordAt log x))
 
--- a path stays in one log, or leaves it by a message
-pub leaves : {logs : Logs} {i j : Position} → Precedes HappenedBefore logs i j
-    → ((i.member ≡ j.member) × (i.number ≤ j.number))
-    ⊎ ((t : Position) × (a : Entry) × (b : Entry) × IsAt logs t a × Passes HappenedBefore a b × (i.member ≡ t.member) × (i.number ≤ t.number) × Precedes HappenedBefore logs t j)
-leaves (itself h) = inl (refl, omega arith)
-leaves (step {j = u} p leads) = elim (leaves p) [
-  | inr (t, a, b, is, carries, same, behind, q) ↦ inr (t, a, b, is, carries, same, behind, step q leads)
-  | inl (same, behind) ↦ elim leads.4 [
-    | inl own ↦ inl (same ∙ own.0, omega (arith, behind, own.1))
-    | inr carries ↦ inr (u, leads.0, leads.1, leads.2, carries, same, behind, step (itself leads.2) leads)
+-- where a step is open, it ends at what is no hold or store
+ended : (e : Entry) (log : List Entry) → ¬ (IsRecord e) → (end : ℕ) × ((k : ℕ) → (k < end) ↔ Reached true (e ∷ log) zero k)
+ended e log none = (
+  0,
+  λ k. (
+    λ h. absurd (omega (arith, h)),
+    elim [
+      | inl h ↦ h
+      | inr (inl h) ↦ absurd (let r = h.1 zero (omega arith) in let same : e ≡ r.0 = (let s : Some e ≡ Some r.0 = r.1 in cc) in none (subst IsRecord (sym same) r.2))
+      | inr (inr h) ↦ absurd (let l = h.1 in omega (arith, l))
+    ],
+  ),
+)
+
+-- and has one entry more that is
+open_end : (e : Entry) (log : List Entry) → Kind e → (end : ℕ) × ((k : ℕ) → (k < end) ↔ Reached true log zero k) → (end : ℕ) × ((k : ℕ) → (k < end) ↔ Reached true (e ∷ log) zero k)
+open_end e log (is_other none not') rest = ended e log none
+open_end e log (is_arrival arrives none) rest = ended e log none
+open_end e log (is_record own) rest = (
+  suc rest.0,
+  elim [
+    | zero ↦ (λ h. inr (inl (refl, elim [ zero ↦ λ upto. (e, refl, own) | suc x ↦ λ upto. absurd (omega (arith, upto)) ])), λ h. omega arith)
+    | suc k ↦ (
+      λ h. elim ((rest.1 k).0 (omega (arith, h))) [
+        | inl r ↦ absurd (omega (arith, r))
+        | inr (inl r) ↦ inr (inl (refl, elim [ zero ↦ λ upto. (e, refl, own) | suc x ↦ λ upto. r.1 x (omega (arith, upto)) ]))
+        | inr (inr r) ↦ absurd (let l = r.1 in omega (arith, l))
+      ],
+      elim [
+        | inl r ↦ absurd (omega (arith, r))
+        | inr (inl r) ↦ (let less = (rest.1 k).1 (inr (inl (refl, λ x upto. r.1 (suc x) (omega (arith, upto))))) in omega (arith, less))
+        | inr (inr r) ↦ absurd (let l = r.1 in omega (arith, l))
+      ],
+    )
+  ],
+)
+
+-- with an entry before them, behind which a step is open or not
+with_rest : (open' next : Bool) (e : Entry) (log : List Entry) (c : ℕ) → ((next ≡ true) ↔ ((open' ≡ true) × IsRecord e) ⊎ IsArrival e) → (end : ℕ) × ((k : ℕ) → (k < end) ↔ Reached next log c k)
+    → (end : ℕ) × ((k : ℕ) → (k < end) ↔ Reached open' (e ∷ log) (suc c) k)
+with_rest open' next e log c is rest = (
+  suc rest.0,
+  elim [
+    | zero ↦ (λ h. inl (omega arith), λ h. omega arith)
+    | suc k ↦ (
+      λ h. elim ((rest.1 k).0 (omega (arith, h))) [
+        | inl r ↦ inl (omega (arith, r))
+        | inr (inl r) ↦ elim (is.0 r.0) [
+          | inl o ↦ inr (inl (o.0, elim [ zero ↦ λ upto. (e, refl, o.1) | suc x ↦ λ upto. r.1 x (omega (arith, upto)) ]))
+          | inr a ↦ inr (inr (zero, omega arith, (e, refl, a), omega arith, elim [ zero ↦ λ after upto. absurd (omega (arith, after)) | suc x ↦ λ after upto. r.1 x (omega (arith, upto)) ]))
+        ]
+        | inr (inr r) ↦ inr (inr (suc r.0, (let l = r.1 in omega (arith, l)), r.2, (let l = r.3 in omega (arith, l)), elim [ zero ↦ λ after upto. absurd (omega (arith, after)) | suc x ↦ λ after upto. r.4 x (omega (arith, after)) (omega (arith, upto)) ]))
+      ],
+      elim [
+        | inl r ↦ (let less = (rest.1 k).1 (inl (omega (arith, r))) in omega (arith, less))
+        | inr (inl r) ↦
+            let own = r.1 zero (omega arith) in
+            let same : e ≡ own.0 = (let s : Some e ≡ Some own.0 = own.1 in cc) in
+            let less = (rest.1 k).1 (inr (inl (is.1 (inl (r.0, subst IsRecord (sym same) own.2)), λ x upto. r.1 (suc x) (omega (arith, upto))))) in
+            omega (arith, less)
+        | inr (inr r) ↦ (let less = (rest.1 k).1 (by_place k r.0 r.1 r.2 r.3 r.4) in omega (arith, less))
+      ],
+    )
+  ],
+) where
+  by_place : (k l : ℕ) → l < suc c → ArrivalAt (e ∷ log) l → l < suc k → ((x : ℕ) → l < x → x ≤ suc k → RecordAt (e ∷ log) x) → Reached next log c k
+  by_place k zero below arrival before records =
+      let same : e ≡ arrival.0 = (let s : Some e ≡ Some arrival.0 = arrival.1 in cc) in
+      inr (inl (is.1 (inr (subst IsArrival (sym same) arrival.2)), λ x upto. records (suc x) (omega arith) (omega (arith, upto))))
+  by_place k (suc l) below arrival before records = inr (inr (l, omega (arith, below), arrival, omega (arith, before), λ x after upto. records (suc x) (omega (arith, after)) (omega (arith, upto))))
+
+with_kind : (open' : Bool) (e : Entry) (log : List Entry) (c : ℕ) → Kind e → ((next : Bool) → (end : ℕ) × ((k : ℕ) → (k < end) ↔ Reached next log c k)) → (end : ℕ) × ((k : ℕ) → (k < end) ↔ Reached open' (e ∷ log) (suc c) k)
+with_kind open' e log c (is_arrival arrives none) rest = with_rest open' true e log c (λ h. inr arrives, λ h. refl) (rest true)
+with_kind open' e log c (is_other none not') rest = with_rest open' false e log c (λ h. absurd (false≢true h), elim [ inl h ↦ absurd (none h.1) | inr h ↦ absurd (not' h) ]) (rest false)
+with_kind open' e log c (is_record own) rest = with_rest open' open' e log c (λ h. inl (h, own), elim [ inl h ↦ h.0 | inr h ↦ absurd (arrival_no_record e h own) ]) (rest open')
+
+-- so many are
+reaches : (log : List Entry) (open' : Bool) (c : ℕ) → c ≤ length log → (end : ℕ) × ((k : ℕ) → (k < end) ↔ Reached open' log c k)
+reaches [] open' zero within = (
+  0,
+  λ k. (
+    λ h. absurd (omega (arith, h)),
+    elim [
+      | inl h ↦ h
+      | inr (inl h) ↦ absurd (let r = h.1 k (omega arith) in let none : slice_get [] k ≡ Some r.0 = r.1 in cc)
+      | inr (inr h) ↦ absurd (let l = h.1 in omega (arith, l))
+    ],
+  ),
+)
+reaches [] open' (suc c) within = absurd (omega (arith, within))
+reaches (e ∷ log) false zero within = (
+  0,
+  λ k. (
+    λ h. absurd (omega (arith, h)),
+    elim [
+      | inl h ↦ h
+      | inr (inl h) ↦ absurd (false≢true h.0)
+      | inr (inr h) ↦ absurd (let l = h.1 in omega (arith, l))
+    ],
+  ),
+)
+reaches (e ∷ log) true zero within = open_end e log (kind e) (reaches log true zero (omega arith))
+reaches (e ∷ log) open' (suc c) within = with_kind open' e log c (kind e) (λ next. reaches log next c (omega (arith, within)))
+
+-- ---- the past and its steps
+
+module _ (n : ℕ) (entries : List Entry) (are : AreEntries n entries) (j : Position) (e : Entry) (here : IsAt (log_of entries) j e) where
+  abbrev logs : Logs
+  logs = log_of entries
+
+  past : (cut : Cut) × IsPast entries j cut
+  past = has_past n entries are.lawful j e here
+
+  within : (q : ℕ) → past.0 q ≤ length (logs q)
+  within q = elim (cases_lt (length (logs q)) (past.0 q)) [
+    | inr fine ↦ fine
+    | inl more ↦ absurd (
+        let a = first_there ((past.1 (at q (length (logs q)))).0 more) in
+        let below = slice_get_within (logs q) (length (logs q)) a.0 a.1 in
+        omega (arith, below))
   ]
-]
 
--- a moment has all that precede what has come
-pub moment_closed : {logs : Logs} {i j : Position} (cut : Cut) → IsMoment logs cut → Precedes HappenedBefore logs i j → HasCome cut j → HasCome cut i
-moment_closed cut moment (itself h) come = come
-moment_closed cut moment (step {j} {k} p leads) come = moment_closed cut moment p (moment.consistent j k leads come)
+  cut : Cut
+  cut q = (reaches (logs q) false (past.0 q) (within q)).0
 
--- the position is the same where its parts are
-same_position : (logs : Logs) (i j : Position) → i.member ≡ j.member → i.number ≡ j.number → i ≡ j
-same_position logs i j m k = λ x. record { member = m x; number = k x }
+  abbrev pub IsIn : Position → Type 0
+  IsIn i = Precedes HappenedBefore logs i j ⊎ ((k : Position) × Precedes HappenedBefore logs k j × IsInStepOf logs k i)
 
--- the cut has what precedes the receipt, and its step
-abbrev pub IsCutOf : Logs → Position → Cut → Type 0
-IsCutOf logs j cut = (i : Position) → HasCome cut i ↔ Precedes HappenedBefore logs i j ⊎ IsInStepOf logs j i
-
-module _ (logs : Logs) (d : Determinant) (j : Position) (here : IsReceiptAt logs d j) (cut : Cut) (of : IsCutOf logs j cut) where
-  step_there : (i k : Position) → IsInStepOf logs i k → (e : Entry) × IsAt logs k e × IsRecord e
-  step_there i k in_step = (let r = in_step.3 k.number in_step.2 (omega arith) in (let P : ℕ → Type 0 = λ m. (e : Entry) × IsAt logs (at m k.number) e × IsRecord e in subst P in_step.1 r))
-
-  own_before : (i : Position) (k : Position) (a b : Entry) → i.member ≡ k.member → i.number ≤ k.number → IsAt logs i a → IsAt logs k b → Precedes HappenedBefore logs i k
-  own_before i k a b same behind at_i at_k =
-      let P : ℕ → Type 0 = λ m. IsAt logs (at m i.number) a → Precedes HappenedBefore logs (at m i.number) k in
-      subst P (sym same) (λ at_i'. own_precedes logs k.member i.number k.number a b at_i' at_k behind) at_i
+  has : (i : Position) → HasCome cut i ↔ IsIn i
+  unfolding cut
+  has i =
+      let r = (reaches (logs i.member) false (past.0 i.member) (within i.member)).1 i.number in (
+        λ come. elim (r.0 come) [
+          | inl p ↦ inl ((past.1 i).0 p)
+          | inr (inl h) ↦ absurd (false≢true h.0)
+          | inr (inr h) ↦ inr (at i.member h.0, (past.1 (at i.member h.0)).0 h.1, (h.2, refl, h.3, h.4))
+        ],
+        elim [
+          | inl p ↦ r.1 (inl ((past.1 i).1 p))
+          | inr (k, p, in_step) ↦ r.1 (inr (inr (of_step k p in_step)))
+        ],
+      ) where
+        of_step : (k : Position) → Precedes HappenedBefore logs k j → IsInStepOf logs k i
+            → (l : ℕ) × (l < past.0 i.member) × ArrivalAt (logs i.member) l × (l < i.number) × ((x : ℕ) → l < x → x ≤ i.number → RecordAt (logs i.member) x)
+        of_step k p in_step =
+            let P : ℕ → Type 0 = λ m. (l : ℕ) × (l < past.0 m) × ArrivalAt (logs m) l × (l < i.number) × ((x : ℕ) → l < x → x ≤ i.number → RecordAt (logs m) x) in
+            subst P in_step.1 (k.number, (past.1 k).1 p, in_step.0, in_step.2, in_step.3)
 
   consistent : (i k : Position) → Leads HappenedBefore logs i k → HasCome cut k → HasCome cut i
-  consistent i k leads come = elim ((of k).0 come) [
-    | inl p ↦ (of i).1 (inl (Precedes-joined (step (itself leads.2) leads) p))
-    | inr in_step ↦ elim leads.4 [
-      | inr passes ↦ (let r = step_there j k in_step in absurd (passed_no_record leads.0 leads.1 passes (subst IsRecord (same_at logs k r.0 leads.1 r.1 leads.3) r.2)))
-      | inl own ↦ (of i).1 (elim (cases_lt j.number i.number) [
-        | inl behind ↦ inr (in_step.0, in_step.1 ∙ sym own.0, behind, λ x after upto. in_step.3 x after (omega (arith, upto, own.1)))
-        | inr before ↦ inl (own_before i j leads.0 (Event (receipt_of d)) (own.0 ∙ sym in_step.1) before leads.2 here)
-      ])
-    ]
+  consistent i k leads come = elim ((has k).0 come) [
+    | inl p ↦ (has i).1 (inl (joined (step (itself (leads_first HappenedBefore logs i k leads).1) leads) p))
+    | inr (x, p, in_step) ↦
+        let b = step_there logs x k in_step in
+        let own = to_record logs i k b.0 b.1 b.2 leads in
+        let a = in_step.0 in
+        (has i).1 (elim (cases_lt x.number i.number) [
+          | inl behind ↦ inr (x, p, (in_step.0, in_step.1 ∙ sym own.4, behind, λ y after upto. in_step.3 y after (let less = own.5 in omega (arith, upto, less))))
+          | inr before ↦ inl (joined (own_before logs i x own.0 a.0 (own.4 ∙ sym in_step.1) before own.2 a.1) p)
+        ])
   ]
 
   whole : (i k : Position) → IsInStepOf logs i k → HasCome cut i → HasCome cut k
-  whole i k in_step come =
-      let there = step_there i k in_step in
-      elim ((of i).0 come) [
-        | inr of_j ↦ (let r = step_there j i of_j in absurd (arrival_no_record in_step.0.0 in_step.0.2 (subst IsRecord (same_at logs i r.0 in_step.0.0 r.1 in_step.0.1) r.2)))
-        | inl p ↦ (of k).1 (elim (leaves p) [
-          | inl (same, behind) ↦ elim (cases_eq i.number j.number) [
-            | inl equal ↦ (let is : i ≡ j = same_position logs i j same equal in inr (rw is at in_step))
-            | inr ne ↦ inl (own_before k j there.0 (Event (receipt_of d)) (sym in_step.1 ∙ same) (before j (Event (receipt_of d)) here (no_record (Event (receipt_of d)) refl) same (omega (arith, behind, ne)) in_step) there.1 here)
-          ]
-          | inr (t, a, b, is, passes, same, behind, q) ↦ elim (cases_eq i.number t.number) [
-            | inl equal ↦
-                let is_t : i ≡ t = same_position logs i t same equal in
-                absurd (passer_no_arrival a b passes (subst IsArrival (same_at logs t in_step.0.0 a (subst (λ (x : Position). IsAt logs x in_step.0.0) is_t in_step.0.1) is) in_step.0.2))
-            | inr ne ↦ inl (Precedes-joined (own_before k t there.0 a (sym in_step.1 ∙ same) (before t a is (passer_no_record a b passes) same (omega (arith, behind, ne)) in_step) there.1 is) q)
-          ]
-        ])
-      ] where
-        -- what is no hold or store and stands behind the first entry of a step stands behind the step
-        before : (t : Position) (a : Entry) → IsAt logs t a → ¬ (IsRecord a) → i.member ≡ t.member → i.number < t.number → IsInStepOf logs i k → k.number ≤ t.number
-        before t a is none same after in_step = elim (cases_lt k.number t.number) [
-          | inl below ↦ omega (arith, below)
-          | inr past ↦
-              let r = in_step.3 t.number after past in
-              let P : ℕ → Type 0 = λ m. IsAt logs (at m t.number) r.0 in
-              absurd (none (subst IsRecord (same_at logs t r.0 a (subst P same r.1) is) r.2))
-        ]
+  whole i k in_step come = elim ((has i).0 come) [
+    | inl p ↦ (has k).1 (inr (i, p, in_step))
+    | inr (x, p, behind) ↦ absurd (
+        let b = step_there logs x i behind in
+        let a = in_step.0 in
+        arrival_no_record a.0 a.2 (subst IsRecord (same_at logs i b.0 a.0 b.1 a.1) b.2))
+  ]
 
-  -- the cut is the least moment
-  pub least_moment : IsLeastMoment logs j cut
-  least_moment = record {
+  least : IsLeastMoment logs j cut
+  least = record {
     moment = record { consistent = consistent; whole = whole };
-    has = (of j).1 (inl (itself here));
+    has = (has j).1 (inl (itself here));
     least = λ other moment come q. elim (cases_lt (other q) (cut q)) [
       | inr fine ↦ fine
-      | inl more ↦ absurd (elim ((of (at q (other q))).0 more) [
-        | inl p ↦ (let c = moment_closed other moment p come in omega (arith, c))
-        | inr in_step ↦ (let c = moment.whole j (at q (other q)) in_step come in omega (arith, c))
+      | inl less ↦ absurd (elim ((has (at q (other q))).0 less) [
+        | inl p ↦ (let x = moment_closed other moment p come in omega (arith, x))
+        | inr (k, p, in_step) ↦ (let x = moment.whole k (at q (other q)) in_step (moment_closed other moment p come) in omega (arith, x))
       ])
     ];
   }
 
--- ---- where a step ends
+  pub has_least : (cut : Cut) × IsLeastMoment (log_of entries) j cut × ((i : Position) → HasCome cut i ↔ IsIn i)
+  has_least = (cut, least, has)
 
--- the holds and stores with which a list begins
-records_first : (log : List Entry) → (count : ℕ) × ((k : ℕ) → k < count → (e : Entry) × (slice_get log k ≡ Some e) × IsRecord e) × ((e : Entry) → slice_get log count ≡ Some e → ¬ (IsRecord e))
-records_first [] = (0, λ k below. absurd (omega (arith, below)), λ e is. cc)
-records_first (Event m ∷ log) = (0, λ k below. absurd (omega (arith, below)), λ e is. (let same : Event m ≡ e = cc in no_record e (ap recorded_in (sym same))))
-records_first (Tell m ∷ log) = (0, λ k below. absurd (omega (arith, below)), λ e is. (let same : Tell m ≡ e = cc in no_record e (ap recorded_in (sym same))))
-records_first (Told m ∷ log) = (0, λ k below. absurd (omega (arith, below)), λ e is. (let same : Told m ≡ e = cc in no_record e (ap recorded_in (sym same))))
-records_first (Hold q d ∷ log) = (let r = records_first log in (suc r.0, elim [ zero ↦ λ below. (Hold q d, refl, (d, refl)) | suc k ↦ λ below. r.1 k (omega (arith, below)) ], r.2))
-records_first (Store q d ∷ log) = (let r = records_first log in (suc r.0, elim [ zero ↦ λ below. (Store q d, refl, (d, refl)) | suc k ↦ λ below. r.1 k (omega (arith, below)) ], r.2))
-
-step_end : (log : List Entry) (l : ℕ) → (end : ℕ) × EndsStep log l end
-step_end [] l = (suc l, record { after = omega arith; records = λ k a b. absurd (omega (arith, a, b)); last = λ e is. cc })
-step_end (x ∷ log) zero =
-    let r = records_first log in
-    (suc r.0, record { after = omega arith; records = elim [ zero ↦ λ a b. absurd (omega (arith, a)) | suc k ↦ λ a b. r.1 k (omega (arith, b)) ]; last = r.2 })
-step_end (x ∷ log) (suc l) =
-    let r = step_end log l in (
-      suc r.0,
-      record {
-        after = (let a = r.1.after in omega (arith, a));
-        records = elim [ zero ↦ λ a b. absurd (omega (arith, a)) | suc k ↦ λ a b. r.1.records k (omega (arith, a)) (omega (arith, b)) ];
-        last = r.1.last;
-      },
-    )
-
--- the cut of a receipt: the clock with it, and its member's entries to the end of its step
-pub cut_of_step : (logs : Logs) (d : Determinant) (m l end : ℕ) (clock cut : Cut) → IsReceiptAt logs d (at m l) → IsClock HappenedBefore logs m (suc l) clock → EndsStep (logs m) l end
-    → ((i : Position) → HasCome cut i ↔ HasCome clock i ⊎ ((i.member ≡ m) × (i.number < end))) → IsCutOf logs (at m l) cut
-cut_of_step logs d m l end clock cut here is_clock ends joins i = (
-  λ come. elim ((joins i).0 come) [
-    | inl old ↦ (let w = is_clock.only i old in let there = last_there w.2 in inl (Precedes-joined w.2 (own_precedes logs m w.0 l there.0 (Event (receipt_of d)) there.1 here (omega (arith, w.1)))))
-    | inr own ↦ from_own own.0 own.1
-  ],
-  elim [
-    | inl p ↦ (joins i).1 (inl (is_clock.all i (l, omega arith, p)))
-    | inr in_step ↦ (joins i).1 (inr (sym in_step.1, within in_step))
-  ],
-) where
-  within : IsInStepOf logs (at m l) i → i.number < end
-  within in_step = elim (cases_lt i.number end) [
-    | inl below ↦ below
-    | inr past ↦ (let r = in_step.3 end ends.after past in absurd (ends.last r.0 r.1 r.2))
-  ]
-
-  from_own : i.member ≡ m → i.number < end → Precedes HappenedBefore logs i (at m l) ⊎ IsInStepOf logs (at m l) i
-  from_own same below = elim (cases_lt l i.number) [
-    | inl behind ↦ inr ((Event (receipt_of d), here, tt), sym same, behind, λ k after upto. ends.records k after (omega (arith, upto, below)))
-    | inr before ↦
-        let a = there_before logs m i.number l (Event (receipt_of d)) here before in
-        let P : ℕ → Type 0 = λ x. Precedes HappenedBefore logs (at x i.number) (at m l) in
-        inl (subst P (sym same) (own_precedes logs m i.number l a.0 (Event (receipt_of d)) a.1 here before))
-  ]
-
-pub max_or : (a b k : ℕ) → (k < max a b) ↔ (k < a) ⊎ (k < b)
-max_or a b k = grind arith
-
--- each receipt has a least moment
-pub has_least : (n : ℕ) (entries : List Entry) → WellFormed n (marks entries) → AreTold n entries → (d : Determinant) (j : Position) → IsReceiptAt (log_of entries) d j
-    → (cut : Cut) × IsLeastMoment (log_of entries) j cut × IsCutOf (log_of entries) j cut
-has_least n entries obeys told d j here =
-    let clock = clock_of HappenedBefore n entries obeys told j.member (suc j.number) (let within = slice_get_within (log_of entries j.member) j.number (Event (receipt_of d)) here in omega (arith, within)) in
-    let end = step_end (log_of entries j.member) j.number in
-    let cut : Cut = λ q. max (clock.0 q) (cond (q == j.member) end.0 0) in
-    let of = cut_of_step (log_of entries) d j.member j.number end.0 clock.0 cut here clock.1 end.1 (λ i. joins clock.0 end.0 i) in
-    (cut, least_moment (log_of entries) d j here cut of, of) where
-      joins : (clock : Cut) (end : ℕ) (i : Position) → (i.number < max (clock i.member) (cond (i.member == j.member) end 0)) ↔ HasCome clock i ⊎ ((i.member ≡ j.member) × (i.number < end))
-      joins clock end i =
-          let both = max_or (clock i.member) (cond (i.member == j.member) end 0) i.number in
-          let own : (i.number < cond (i.member == j.member) end 0) ↔ (i.member ≡ j.member) × (i.number < end) = grind (arith, nat_tests) in (
-            λ come. elim (both.0 come) [ inl x ↦ inl x | inr x ↦ inr (own.0 x) ],
-            λ h. both.1 (elim h [ inl x ↦ inl x | inr x ↦ inr (own.1 x) ]),
-          )
-
--- ---- what has come is no more than all
-
-last_is_moment : (logs : Logs) → IsMoment logs (last_cut logs)
-last_is_moment logs = record {
-  consistent = λ i j leads come. slice_get_within (logs i.member) i.number leads.0 leads.2;
-  whole = λ i j step come.
-      let e = step.3 j.number step.2 (omega arith) in
-      let P : ℕ → Type 0 = λ m. j.number < length (logs m) in
-      subst P step.1 (slice_get_within (logs i.member) j.number e.0 e.1);
-}
-
-pub least_within : (logs : Logs) (j : Position) (cut : Cut) → IsLeastMoment logs j cut → (e : Entry) → IsAt logs j e → (q : ℕ) → cut q ≤ length (logs q)
-least_within logs j cut least e here q = least.least (last_cut logs) (last_is_moment logs) (slice_get_within (logs j.member) j.number e here) q
+pub least_moment_law : LeastMomentLaw
+least_moment_law n entries are j e here = has_least n entries are j e here

@@ -1,94 +1,198 @@
--- What the clocks of the entries say.
-use Rattle.fbl_judge.proofs.Common.{Causality, Dependence, HappenedBefore, ℕ, suc, Bool, true, false, cond, ◌≡◌, ◌==◌, ◌<◌, ◌≤◌, ◌+◌, ◌⊎◌, ◌↔◌, inl, inr, List, length, Some, slice_get, max, refl, sym, ap, subst, ◌∙◌, arith}
-use Rattle.fbl_judge.proofs.Common.{nat_tests, cases_eq, cases_lt, eqb-true, slice_get_within, Determinant, receipt_of, Entry, Event, Logs, log_of, IsAt, Position, Precedes, at, Cut, HasCome}
-use Rattle.std.proofs.Common.{nat_lt}
-use Rattle.fbl_runs.specs.Clocks.{IsClock, PrecedesSome, StandsAt, seen}
-use Rattle.fbl_judge.specs.Pasts.{IsFirstAfter, IsLeastMomentOfReceipt}
+-- The past of an entry and its step: what they have, and their join with a moment that has their restarts.
+use Rattle.fbl_judge.proofs.Common.{ℕ, zero, suc, cond, ◌≡◌, ◌≢◌, ◌==◌, ◌<◌, ◌≤◌, ◌+◌, ◌⊎◌, ◌↔◌, inl, inr, List, max, Some, None, slice_get, length, take, refl, sym, ap, subst, ◌∙◌, arith, nat_tests, cases_eq, cases_lt, slice_get_within}
+use Rattle.fbl_judge.proofs.Common.{HappenedBefore, Entry, Restart, IsArrival, IsRecord, Logs, log_of, IsAt, Leads, Position, Precedes, at, itself, step, Cut, HasCome, HasRestarted, IsInStepOf, IsMoment}
+use Rattle.fbl_runs.specs.declared.entry.Restart as restart
 use Rattle.fbl_runs.specs.Indexes.{EndsStep}
-use Rattle.fbl_runs.proofs.ClockLaws.{first_there, last_there}
-use Rattle.fbl_runs.proofs.Listing.{placed, stands_at}
-use Rattle.fbl_judge.proofs.LeastMoments.{cut_of_step, least_moment, max_or}
+use Rattle.fbl_runs.specs.Precedence.{IsPast}
+use Rattle.fbl_judge.specs.Views.{IsPastAndStep}
+use Rattle.fbl_judge.proofs.MomentLaws.{arrival_no_record, first_there, joined, last_there, leads_first, leads_last, leaves, leaves_no_record, max_or, moment_closed, own_before, same_at, same_position, some_at, step_there, to_record}
 
--- an entry precedes one of the member's first ones where it has come by their clock
-pub precedes_iff : (logs : Logs) (source k m count n : ℕ) (cut : Cut) → IsClock Dependence logs m count cut → n ≡ cut source → (nat_lt k n ≡ true) ↔ PrecedesSome Dependence logs (at source k) m count
-precedes_iff logs source k m count n cut clock is = (
-  λ h. clock.only (at source k) (let lt : k < n = grind (arith, nat_tests, h) in omega (arith, lt, is)),
-  λ p. (let come : k < cut source = clock.all (at source k) p in let lt : k < n = omega (arith, come, is) in grind (arith, nat_tests, lt)),
+-- a restart is no hold or store
+pub restart_no_record : (logs : Logs) (i : Position) (r : restart.Restart) → IsAt logs i (Restart r) → ¬ ((e : Entry) × IsAt logs i e × IsRecord e)
+restart_no_record logs i r here (e, here', record') = arrival_no_record (Restart r) tt (subst IsRecord (same_at logs i e (Restart r) here' here) record')
+
+module _ (logs : Logs) (j : Position) (e : Entry) (here : IsAt logs j e) (arrives : IsArrival e) (cut : Cut) (of : IsPastAndStep logs j cut) where
+  -- what leads to what has come has come
+  pub past_consistent : (i k : Position) → Leads HappenedBefore logs i k → HasCome cut k → HasCome cut i
+  past_consistent i k leads come = elim ((of k).0 come) [
+    | inl p ↦ (of i).1 (inl (joined (step (itself (leads_first HappenedBefore logs i k leads).1) leads) p))
+    | inr in_step ↦
+        let b = step_there logs j k in_step in
+        let own = to_record logs i k b.0 b.1 b.2 leads in
+        (of i).1 (elim (cases_lt j.number i.number) [
+          | inl behind ↦ inr (in_step.0, in_step.1 ∙ sym own.4, behind, λ x after upto. in_step.3 x after (let less = own.5 in omega (arith, upto, less)))
+          | inr before ↦ inl (own_before logs i j own.0 e (own.4 ∙ sym in_step.1) before own.2 here)
+        ])
+  ]
+
+  -- a restart that has come is one that happened before the entry
+  pub past_restart : (i : Position) → HasRestarted logs cut i → Precedes HappenedBefore logs i j
+  past_restart i (r, at_i, come) = elim ((of i).0 come) [
+    | inl p ↦ p
+    | inr in_step ↦ absurd (restart_no_record logs i r at_i (step_there logs j i in_step))
+  ]
+
+  -- so what has come has its step, unless it is a restart of which the step may not have come
+  pub past_whole : (i k : Position) → IsInStepOf logs i k → HasCome cut i → HasCome cut k ⊎ ((r : restart.Restart) × IsAt logs i (Restart r) × (i ≢ j))
+  past_whole i k in_step come =
+      let there = step_there logs i k in_step in
+      elim ((of i).0 come) [
+        | inr behind ↦
+            let b = step_there logs j i behind in
+            let a = in_step.0 in
+            absurd (arrival_no_record a.0 a.2 (subst IsRecord (same_at logs i b.0 a.0 b.1 a.1) b.2))
+        | inl p ↦ by_leaving there p (leaves p)
+      ] where
+        by_leaving : (e : Entry) × IsAt logs k e × IsRecord e → Precedes HappenedBefore logs i j
+            → ((i.member ≡ j.member) × (i.number ≤ j.number))
+            ⊎ ((t : Position) × (a : Entry) × IsAt logs t a × ((¬ (IsArrival a) × ¬ (IsRecord a)) ⊎ ((r : restart.Restart) × (a ≡ Restart r))) × (i.member ≡ t.member) × (i.number ≤ t.number) × Precedes HappenedBefore logs t j)
+            → HasCome cut k ⊎ ((r : restart.Restart) × IsAt logs i (Restart r) × (i ≢ j))
+        by_leaving there p (inl (same, behind)) = inl (elim (cases_eq i.number j.number) [
+          | inl number ↦ (of k).1 (inr (subst (λ (x : Position). IsInStepOf logs x k) (same_position i j same number) in_step))
+          | inr ne ↦ elim (cases_lt k.number j.number) [
+            | inl before ↦ (of k).1 (inl (own_before logs k j there.0 e (sym in_step.1 ∙ same) (omega (arith, before)) there.1 here))
+            | inr after ↦ absurd (
+                let r = in_step.3 j.number (omega (arith, behind, ne)) after in
+                let here' : IsAt logs (at i.member j.number) e = subst (λ (m : ℕ). IsAt logs (at m j.number) e) (sym same) here in
+                arrival_no_record e arrives (subst IsRecord (same_at logs (at i.member j.number) r.0 e r.1 here') r.2))
+          ]
+        ])
+        by_leaving there p (inr (t, a, at_t, kind, same, behind, q)) = elim (cases_eq i.number t.number) [
+          | inr ne ↦ inl (elim (cases_lt k.number t.number) [
+            | inl before ↦ (of k).1 (inl (joined (own_before logs k t there.0 a (sym in_step.1 ∙ same) (omega (arith, before)) there.1 at_t) q))
+            | inr after ↦ absurd (
+                let r = in_step.3 t.number (omega (arith, behind, ne)) after in
+                let at_t' : IsAt logs (at i.member t.number) a = subst (λ (m : ℕ). IsAt logs (at m t.number) a) (sym same) at_t in
+                leaves_no_record a kind (subst IsRecord (same_at logs (at i.member t.number) r.0 a r.1 at_t') r.2))
+          ])
+          | inl number ↦
+              let is : i ≡ t = same_position i t same number in
+              let at_i : IsAt logs i a = subst (λ (x : Position). IsAt logs x a) (sym is) at_t in
+              elim kind [
+                | inl no' ↦ absurd (let x = in_step.0 in no'.0 (subst IsArrival (same_at logs i x.0 a x.1 at_i) x.2))
+                | inr (r, is_restart) ↦ elim (same_or i j) [
+                  | inl here' ↦ inl ((of k).1 (inr (subst (λ (x : Position). IsInStepOf logs x k) here' in_step)))
+                  | inr ne ↦ inr (r, subst (λ (x : Entry). IsAt logs i x) is_restart at_i, ne)
+                ]
+              ]
+        ] where
+          same_or : (i j : Position) → (i ≡ j) ⊎ (i ≢ j)
+          same_or i j = elim (cases_eq i.member j.member) [
+            | inr ne ↦ inr (λ same. ne (ap (λ (x : Position). x.member) same))
+            | inl m ↦ elim (cases_eq i.number j.number) [
+              | inl k ↦ inl (same_position i j m k)
+              | inr ne ↦ inr (λ same. ne (ap (λ (x : Position). x.number) same))
+            ]
+          ]
+
+  -- a moment that has the entry has all of it
+  pub past_within : (moment : Cut) → IsMoment logs moment → HasCome moment j → (i : Position) → HasCome cut i → HasCome moment i
+  past_within moment is come i has = elim ((of i).0 has) [
+    | inl p ↦ moment_closed moment is p come
+    | inr in_step ↦ is.whole j i in_step come
+  ]
+
+  -- the entry has come
+  pub past_has : HasCome cut j
+  past_has = (of j).1 (inl (itself here))
+
+  -- what has come is there
+  pub past_there : (i : Position) → HasCome cut i → (a : Entry) × IsAt logs i a
+  past_there i come = elim ((of i).0 come) [
+    | inl p ↦ first_there p
+    | inr in_step ↦ (let r = step_there logs j i in_step in (r.0, r.1))
+  ]
+
+  pub past_length : (q : ℕ) → cut q ≤ length (logs q)
+  past_length q = elim (cases_lt (length (logs q)) (cut q)) [
+    | inr fine ↦ fine
+    | inl more ↦ absurd (let a = past_there (at q (length (logs q))) more in let below = slice_get_within (logs q) (length (logs q)) a.0 a.1 in omega (arith, below))
+  ]
+
+  -- with a moment that has the restarts of its past it makes a moment
+  pub joined_moment : (base more : Cut) → IsMoment logs base → ((q : ℕ) → more q ≡ max (base q) (cut q)) → ((i : Position) → HasRestarted logs cut i → i ≢ j → HasCome base i) → IsMoment logs more
+  joined_moment base more moment join has = record {
+    consistent = λ i k leads come. elim (parts k come) [
+      | inl x ↦ whole' i (inl (moment.consistent i k leads x))
+      | inr x ↦ whole' i (inr (past_consistent i k leads x))
+    ];
+    whole = λ i k in_step come. elim (parts i come) [
+      | inl x ↦ whole' k (inl (moment.whole i k in_step x))
+      | inr x ↦ elim (past_whole i k in_step x) [
+        | inl y ↦ whole' k (inr y)
+        | inr (r, at_i, ne) ↦ whole' k (inl (moment.whole i k in_step (has i (r, at_i, x) ne)))
+      ]
+    ];
+  } where
+    parts : (i : Position) → HasCome more i → HasCome base i ⊎ HasCome cut i
+    parts i come = (max_or (base i.member) (cut i.member) i.number).0 (subst (λ (x : ℕ). i.number < x) (join i.member) come)
+
+    whole' : (i : Position) → HasCome base i ⊎ HasCome cut i → HasCome more i
+    whole' i h = subst (λ (x : ℕ). i.number < x) (sym (join i.member)) ((max_or (base i.member) (cut i.member) i.number).1 h)
+
+  -- it has what each has
+  pub joined_parts : (base more : Cut) → ((q : ℕ) → more q ≡ max (base q) (cut q)) → (i : Position) → HasCome more i ↔ HasCome base i ⊎ HasCome cut i
+  joined_parts base more join i = (
+    λ come. (max_or (base i.member) (cut i.member) i.number).0 (subst (λ (x : ℕ). i.number < x) (join i.member) come),
+    λ h. subst (λ (x : ℕ). i.number < x) (sym (join i.member)) ((max_or (base i.member) (cut i.member) i.number).1 h),
+  )
+
+  -- and a moment that has both has it
+  pub joined_within : (base more other : Cut) → ((q : ℕ) → more q ≡ max (base q) (cut q)) → ((q : ℕ) → base q ≤ other q) → IsMoment logs other → HasCome other j → (q : ℕ) → more q ≤ other q
+  joined_within base more other join under is come q = elim (cases_lt (other q) (more q)) [
+    | inr fine ↦ fine
+    | inl less ↦ absurd (elim ((joined_parts base more join (at q (other q))).0 less) [
+      | inl x ↦ (let b = under q in omega (arith, b, x))
+      | inr x ↦ (let y = past_within other is come (at q (other q)) x in omega (arith, y))
+    ])
+  ]
+
+-- ---- the past and the step, from the past and the end of the step
+
+-- behind an arrival the holds and stores up to the end of its step are just its step
+pub step_of_end : (logs : Logs) (j : Position) (e : Entry) → IsAt logs j e → IsArrival e → (end : ℕ) → EndsStep (logs j.member) j.number end → (i : Position)
+    → ((i.member ≡ j.member) × (i.number < end)) ↔ ((i.member ≡ j.member) × (i.number ≤ j.number)) ⊎ IsInStepOf logs j i
+step_of_end logs j e here arrives end ends i = (
+  λ h. elim (cases_lt j.number i.number) [
+    | inr before ↦ inl (h.0, before)
+    | inl behind ↦ inr ((e, here, arrives), sym h.0, behind, λ k after upto. ends.records k after (let x = h.1 in omega (arith, upto, x)))
+  ],
+  elim [
+    | inl (same, before) ↦ (same, (let after = ends.after in omega (arith, before, after)))
+    | inr in_step ↦ (
+      sym in_step.1,
+      elim (cases_lt i.number end) [
+        | inl fine ↦ fine
+        | inr past ↦ absurd (
+            let r = in_step.3 end ends.after past in
+            ends.last r.0 r.1 r.2)
+      ],
+    )
+  ],
 )
 
--- of the member's first entries the last is the first that the other precedes
-pub first_after : (logs : Logs) (i : Position) (m k : ℕ) → ¬ (PrecedesSome Dependence logs i m k) → PrecedesSome Dependence logs i m (k + 1) → IsFirstAfter logs i (at m k)
-first_after logs i m k none some = record {
-  precedes = elim (cases_eq some.0 k) [
-    | inl same ↦ subst (λ (k : ℕ). Precedes Dependence logs i (at m k)) same some.2
-    | inr ne ↦ absurd (none (some.0, (let below = some.1 in omega (arith, below, ne)), some.2))
-  ];
-  first = λ l earlier precedes. none (l, earlier, precedes);
-}
+pub past_and_step_of : (logs : Logs) (j : Position) (e : Entry) → IsAt logs j e → IsArrival e → (end : ℕ) → EndsStep (logs j.member) j.number end → (past cut : Cut)
+    → ((i : Position) → HasCome past i ↔ Precedes HappenedBefore logs i j) → ((q : ℕ) → cut q ≡ max (past q) (cond (q == j.member) end 0)) → IsPastAndStep logs j cut
+past_and_step_of logs j e here arrives end ends past cut is counts i = (
+  λ come. elim (both.0 (subst (λ (x : ℕ). i.number < x) (counts i.member) come)) [
+    | inl x ↦ inl ((is i).0 x)
+    | inr x ↦ elim ((step_of_end logs j e here arrives end ends i).0 (own.0 x)) [
+      | inr in_step ↦ inr in_step
+      | inl (same, before) ↦ inl (
+          let b = there (logs i.member) i.number (let w = slice_get_within (logs j.member) j.number e here in let l = ap (λ (m : ℕ). length (logs m)) same in omega (arith, w, l, before)) in
+          own_before logs i j b.0 e same before b.1 here)
+    ]
+  ],
+  λ h. subst (λ (x : ℕ). i.number < x) (sym (counts i.member)) (both.1 (elim h [
+    | inl p ↦ inl ((is i).1 p)
+    | inr in_step ↦ inr (own.1 ((step_of_end logs j e here arrives end ends i).1 (inr in_step)))
+  ])),
+) where
+  both : (i.number < max (past i.member) (cond (i.member == j.member) end 0)) ↔ (i.number < past i.member) ⊎ (i.number < cond (i.member == j.member) end 0)
+  both = max_or (past i.member) (cond (i.member == j.member) end 0) i.number
 
--- what precedes none of the member's entries
-pub none_after : (logs : Logs) (i : Position) (m count : ℕ) → length (logs m) ≤ count → ¬ (PrecedesSome Dependence logs i m count) → (k : ℕ) → ¬ (Precedes Dependence logs i (at m k))
-none_after logs i m count all none k precedes =
-    let there = last_there precedes in
-    let within = slice_get_within (logs m) k there.0 there.1 in
-    none (k, omega (arith, within, all), precedes)
+  own : (i.number < cond (i.member == j.member) end 0) ↔ (i.member ≡ j.member) × (i.number < end)
+  own = grind (arith, nat_tests)
 
--- a clock has no more entries than there are
-pub clock_within : (c : Causality) (logs : Logs) (m count : ℕ) (cut : Cut) → IsClock c logs m count cut → (q : ℕ) → cut q ≤ length (logs q)
-clock_within c logs m count cut clock q = elim (cases_lt (length (logs q)) (cut q)) [
-  | inr fine ↦ fine
-  | inl more ↦
-      let w = clock.only (at q (length (logs q))) more in
-      let there = first_there w.2 in
-      absurd (let below = slice_get_within (logs q) (length (logs q)) there.0 there.1 in omega (arith, below))
-]
-
--- nor has a step
-pub step_within : (log : List Entry) (l end : ℕ) → l < length log → EndsStep log l end → end ≤ length log
-step_within log l end within ends = elim (cases_lt (length log) end) [
-  | inr fine ↦ fine
-  | inl more ↦ (let r = ends.records (length log) within more in absurd (let below = slice_get_within log (length log) r.0 r.1 in omega (arith, below)))
-]
-
--- the clock with the entry, up to the end of its step, is the least moment at which the entry has come
-pub moment_of : (logs : Logs) (m l end : ℕ) (clock cut : Cut) → IsClock HappenedBefore logs m (l + 1) clock → EndsStep (logs m) l end → ((q : ℕ) → cut q ≡ max (clock q) (cond (q == m) end 0))
-    → IsLeastMomentOfReceipt logs (at m l) cut
-moment_of logs m l end clock cut is_clock ends counts r here = least_moment logs r (at m l) here cut (cut_of_step logs r m l end clock cut here with_clock ends joins) where
-  with_clock : IsClock HappenedBefore logs m (suc l) clock
-  with_clock = (let same : l + 1 ≡ suc l = omega arith in subst (λ (k : ℕ). IsClock HappenedBefore logs m k clock) same is_clock)
-
-  joins : (i : Position) → HasCome cut i ↔ HasCome clock i ⊎ ((i.member ≡ m) × (i.number < end))
-  joins i =
-      let both = max_or (clock i.member) (cond (i.member == m) end 0) i.number in
-      let own : (i.number < cond (i.member == m) end 0) ↔ (i.member ≡ m) × (i.number < end) = grind (arith, nat_tests) in
-      let count = counts i.member in (
-        λ come. elim (both.0 (subst (λ (x : ℕ). i.number < x) count come)) [ inl x ↦ inl x | inr x ↦ inr (own.0 x) ],
-        λ h. subst (λ (x : ℕ). i.number < x) (sym count) (both.1 (elim h [ inl x ↦ inl x | inr x ↦ inr (own.1 x) ])),
-      )
-
-pub moment_within : (logs : Logs) (m l end : ℕ) (clock cut : Cut) → l < length (logs m) → IsClock HappenedBefore logs m (l + 1) clock → EndsStep (logs m) l end → ((q : ℕ) → cut q ≡ max (clock q) (cond (q == m) end 0))
-    → (q : ℕ) → cut q ≤ length (logs q)
-moment_within logs m l end clock cut within is_clock ends counts q = at_member (q == m) refl where
-  at_member : (b : Bool) → (q == m) ≡ b → cut q ≤ length (logs q)
-  at_member true own =
-      let same : q ≡ m = eqb-true q m own in
-      let count : cut q ≡ max (clock q) end = counts q ∙ ap (λ b. max (clock q) (cond b end 0)) own in
-      let lengths : length (logs q) ≡ length (logs m) = ap (λ q. length (logs q)) same in
-      let below = clock_within HappenedBefore logs m (l + 1) clock is_clock q in
-      let step = step_within (logs m) l end within ends in
-      omega (arith, count, lengths, below, step)
-  at_member false other =
-      let count : cut q ≡ max (clock q) 0 = counts q ∙ ap (λ b. max (clock q) (cond b end 0)) other in
-      let below = clock_within HappenedBefore logs m (l + 1) clock is_clock q in
-      omega (arith, count, below)
-
--- a receipt that is in no log is not listed
-pub receipt_number_none : (entries : List Entry) (d : Determinant) → ((k : ℕ) → ¬ (slice_get (log_of entries d.to) k ≡ Some (Event (receipt_of d)))) → (place : ℕ) → ¬ (slice_get entries place ≡ Some (Event (receipt_of d)))
-receipt_number_none entries d none place here = none (seen entries place d.to) (placed entries place (Event (receipt_of d)) d.to here refl)
-
--- what stands at the place of a position is what is there
-pub placed_at : (entries : List Entry) (p : ℕ) (i : Position) (e : Entry) → StandsAt entries p i → IsAt (log_of entries) i e → slice_get entries p ≡ Some e
-placed_at entries p i e stands here =
-    let there = stands_at entries p i stands.0 stands stands.1 in
-    let same : stands.0 ≡ e = (let some : Some stands.0 ≡ Some e = sym there ∙ here in cc) in
-    stands.1 ∙ ap Some same
+  there : (log : List Entry) (k : ℕ) → k < length log → (b : Entry) × (slice_get log k ≡ Some b)
+  there log k within = some_at log k (omega (arith, within))

@@ -1,20 +1,22 @@
 -- What the reason of an unsafe receipt is said of.
-use Rattle.fbl_judge.proofs.Common.{ℕ, true, ◌≡◌, ◌↔◌, ◌-◌, inl, inr, arith, cases_eq, cases_lt, refl, Option, Some, None, sym, ap, subst, ◌∙◌, Determinant, Entry, entry_member, log_of, slice_get, Position, at, Cut, HasCome, Members, DependsOn, IsFirstDependent, IsLeastMoment}
-use Rattle.std.proofs.Common.{IfOk, Result, Ok, Err, get_or, ◌<◌, ◌+◌, ◌++◌, ◌∷◌, [], List, length, take}
+use Rattle.fbl_judge.proofs.Common.{ℕ, true, ◌≡◌, ◌-◌, ◌<◌, ◌≤◌, ◌+◌, ◌++◌, ◌∷◌, ◌∙◌, [], inl, inr, List, length, take, arith, cases_eq, cases_lt, refl, Option, Some, None, sym, ap, subst, false≢true, slice_get_within}
+use Rattle.fbl_judge.proofs.Common.{Determinant, Entry, entry_member, log_of, Position, at, Cut, HasCome, Members, DependsAt, HappenedBefore, IsAt, IsMoment, IsLeastDependent, SameRestarts, StandsAt, AreEntries, cut_of, seen, RunParts}
+use Rattle.std.proofs.Common.{IfOk, Result, Ok, Err, get_or, min}
 use Rattle.std.specs.List.{AllZip}
 use Rattle.std.proofs.lemmas.List.{take_more}
 use Rattle.std.specs.FinSet as set
-use Rattle.fbl_runs.specs.Clocks.{StandsAt, seen}
-use Rattle.fbl_runs.specs.Logs.{RunParts}
+use Rattle.fbl_trace.specs.MemberSets.{contains-insert_other}
+use Rattle.fbl_runs.specs.Logs.{IsRun}
+use Rattle.fbl_runs.specs.Records.{IsNextRecord, IsRecordAt}
 use Rattle.fbl_runs.specs.declared.judged.Judged.{Judged}
 use Rattle.fbl_runs.specs.declared.judged.Judged.TheVariants.{AtEachMoment, AtItsEnd}
-use Rattle.fbl_judge.specs.Audits.{end_of}
-use Rattle.fbl_judge.specs.Paths.{DependsIn}
-use Rattle.fbl_judge.specs.Records.{IsNextRecord, IsRecordAt}
-use Rattle.fbl_judge.specs.Reasons.{IsReasonAt, IsToCome}
+use Rattle.fbl_runs.proofs.Listing.{locate_all, some_entry}
+use Rattle.fbl_judge.specs.Reasons.{IsReasonAt, IsToCome, cut_in}
+use Rattle.std.proofs.lemmas.List.{get_or_past}
 use Rattle.fbl_judge.specs.Unsafe.{IsSaidAt, IsSaidOf}
 use Rattle.fbl_judge.specs.declared.check.UnsafeReceipt.{UnsafeReceipt}
 use Rattle.fbl_judge.specs.declared.reason.Reason.{Reason}
+use Rattle.fbl_judge.proofs.FromRuns.{last_there, leads_there}
 use Rattle.fbl_judge.proofs.PathLaws.{same_paths}
 
 -- two that are so of a result
@@ -22,51 +24,73 @@ pub ok_both : {A E : Type 0} (P Q R : A → Type 0) (r : Result A E) → IfOk r 
 ok_both P Q R (Ok x) p q f = f x p q
 ok_both P Q R (Err e) p q f = tt
 
--- what has no place is said of the end
-pub said_end : (run : RunParts) (d : Determinant) (said : UnsafeReceipt) (is : IsSaidOf run d said) → said.at ≡ None → is.cut ≡ end_of run
-said_end run d said is none = by_judged run.judged said.at none is.moment where
-  by_judged : (j : Judged) (o : Option ℕ) → o ≡ None → IsSaidAt run d said.strike j o is.cut → is.cut ≡ end_of run
-  by_judged AtItsEnd None no' end = end
-  by_judged AtItsEnd (Some p) no' end = cc
-  by_judged AtEachMoment None no' end = absurd end
-  by_judged AtEachMoment (Some p) no' end = cc
-
--- and what has one of the moment of its entry
-pub said_moment : (run : RunParts) (d : Determinant) (said : UnsafeReceipt) (is : IsSaidOf run d said) (place : ℕ) → said.at ≡ Some place
-    → (j : Position) × StandsAt run.entries place j × IsFirstDependent (log_of run.entries) d j × IsLeastMoment (log_of run.entries) j is.cut
-said_moment run d said is place some = by_judged run.judged said.at some is.moment where
-  by_judged : (j : Judged) (o : Option ℕ) → o ≡ Some place → IsSaidAt run d said.strike j o is.cut
-      → (j : Position) × StandsAt run.entries place j × IsFirstDependent (log_of run.entries) d j × IsLeastMoment (log_of run.entries) j is.cut
-  by_judged AtEachMoment (Some p) same moment =
-      let here : p ≡ place = cc in
-      (moment.0, subst (λ (p : ℕ). StandsAt run.entries p moment.0) here moment.1, moment.2.candidate.first, moment.2.candidate.moment)
-  by_judged AtEachMoment None same moment = absurd moment
-  by_judged AtItsEnd (Some p) same moment = absurd moment
-  by_judged AtItsEnd None same moment = cc
-
 -- a reason at the same cut with paths to the same members in other words
-pub same_reason : (run : RunParts) (a b : Cut) (P Q : ℕ → Type 0) (reason : Reason) → a ≡ b → ((q : ℕ) → P q ↔ Q q) → IsReasonAt run a P reason → IsReasonAt run b Q reason
-same_reason run a b P Q reason cut same is = subst (λ (b : Cut). IsReasonAt run b Q reason) cut (record {
+pub same_reason : (run : RunParts) (i : Position) (a b : Cut) (P Q : ℕ → Type 0) (reason : Reason) → a ≡ b → ((q : ℕ) → (P q → Q q) × (Q q → P q)) → IsReasonAt run i a P reason → IsReasonAt run i b Q reason
+same_reason run i a b P Q reason cut same is = subst (λ (b : Cut). IsReasonAt run i b Q reason) cut (record {
   moment = is.moment;
   holders = is.holders;
   next = is.next;
-  paths = same_paths run reason.determinant P Q same 0 reason.paths.items is.paths;
+  paths = same_paths run i a P Q same 0 reason.paths.items is.paths;
 })
 
--- at the end those are shown that it leaves as orphans
-pub shown_at_end : (run : RunParts) (d : Determinant) (said : UnsafeReceipt) (is : IsSaidOf run d said) (q : ℕ) → DependsIn run d said.orphans q ↔ (set.contains said.orphans q ≡ true)
-shown_at_end run d said is q = (λ h. h.0, λ h. (h, (let left = (is.orphans q).0 h in (left.1.0, left.1.1))))
+-- the moments with these restarts have no more entries than there are, if they are least
+module _ (entries : List Entry) (i : Position) (q : ℕ) (cut : Cut) (least : IsLeastDependent (log_of entries) i q cut) where
+  abbrev within : Cut
+  within p = min (cut p) (length (log_of entries p))
 
--- at a moment the member of its entry is
-pub shown_at_moment : (run : RunParts) (d : Determinant) (place : ℕ) (j : Position) → StandsAt run.entries place j → DependsOn (log_of run.entries) d j → (members : Members)
-    → ((q : ℕ) → (set.contains members q ≡ true) ↔ (q ≡ j.member)) → (q : ℕ) → DependsIn run d members q ↔ ((e : Entry) × (slice_get run.entries place ≡ Some e) × (entry_member e ≡ q))
-shown_at_moment run d place j stands depends members are q = (
-  λ h. (stands.0, stands.1, stands.2 ∙ sym ((are q).0 h.0)),
-  λ h.
-      let same : stands.0 ≡ h.0 = (let some : Some stands.0 ≡ Some h.0 = sym stands.1 ∙ h.1 in cc) in
-      let own : q ≡ j.member = sym h.2 ∙ ap entry_member (sym same) ∙ stands.2 in
-      ((are q).1 own, (j.number, subst (λ (m : ℕ). DependsOn (log_of run.entries) d (at m j.number)) (sym own) depends)),
-)
+  there : (k : Position) (e : Entry) → IsAt (log_of entries) k e → HasCome cut k → HasCome within k
+  there k e here come = (let room = slice_get_within (log_of entries k.member) k.number e here in omega (arith, come, room))
+
+  come_before : (k : Position) → HasCome within k → HasCome cut k
+  come_before k come = omega (arith, come)
+
+  moment : IsMoment (log_of entries) within
+  moment = record {
+    consistent = λ a b leads come. (let ends = leads_there HappenedBefore (log_of entries) a b leads in there a ends.0.0 ends.0.1 (least.moment.consistent a b leads (come_before b come)));
+    whole = λ a b step come. (
+        let last = step.3 b.number step.2 (omega arith) in
+        there b last.0 (subst (λ (m : ℕ). IsAt (log_of entries) (at m b.number) last.0) step.1 last.1) (least.moment.whole a b step (come_before a come)));
+  }
+
+  restarts : SameRestarts (log_of entries) cut within
+  restarts k = (
+    λ come. (come.0, come.1, there k _ come.1 come.2),
+    λ come. (come.0, come.1, come_before k come.2),
+  )
+
+  depends : DependsAt (log_of entries) within i q
+  depends =
+      let k = least.depends.0 in
+      let end = last_there least.depends.1 in
+      let standing = least.depends.2 in (
+        k,
+        least.depends.1,
+        (there (at q k) end.0 end.1 standing.0, λ number r past below here. standing.1 number r past (come_before (at q number) below) here),
+      )
+
+  pub least_within : (p : ℕ) → cut p ≤ length (log_of entries p)
+  least_within p = (let less = least.least within moment restarts depends p in omega (arith, less))
+
+-- nor has the moment of what is said
+pub said_within : (run : RunParts) (i : Position) (said : UnsafeReceipt) (is : IsSaidOf run i said) → (q : ℕ) → cut_of said.moment q ≤ length (log_of run.entries q)
+said_within run i said is q = by_judged run.judged said.at is.moment where
+  by_judged : (j : Judged) (o : Option ℕ) → IsSaidAt run i said j o → cut_of said.moment q ≤ length (log_of run.entries q)
+  by_judged AtItsEnd None end = (let same = ap (λ (cut : Cut). cut q) end.0 in omega (arith, same))
+  by_judged AtItsEnd (Some p) no' = absurd no'
+  by_judged AtEachMoment None no' = absurd no'
+  by_judged AtEachMoment (Some p) moment = least_within run.entries i moment.0 (cut_of said.moment) moment.1.candidate.moment q
+
+-- those shown depend on the receipt there
+pub shown_depends : (run : RunParts) (i : Position) (said : UnsafeReceipt) (is : IsSaidOf run i said) → (q : ℕ) → set.contains said.shown q ≡ true → DependsAt (log_of run.entries) (cut_of said.moment) i q
+shown_depends run i said is q has = by_judged run.judged said.at is.moment where
+  by_judged : (j : Judged) (o : Option ℕ) → IsSaidAt run i said j o → DependsAt (log_of run.entries) (cut_of said.moment) i q
+  by_judged AtItsEnd None end = (let left = (is.orphans q).0 (ap (λ (s : Members). set.contains s q) (sym end.1) ∙ has) in left.1)
+  by_judged AtItsEnd (Some p) no' = absurd no'
+  by_judged AtEachMoment None no' = absurd no'
+  by_judged AtEachMoment (Some p) moment = elim (cases_eq q moment.0) [
+    | inl same ↦ subst (DependsAt (log_of run.entries) (cut_of said.moment) i) (sym same) moment.1.candidate.moment.depends
+    | inr ne ↦ absurd (false≢true (sym (contains-insert_other set.empty moment.0 q ne ∙ set.contains-empty _ q) ∙ ap (λ (s : Members). set.contains s q) (sym moment.2) ∙ has))
+  ]
 
 -- one more with its reason
 pub reasons_more : {X R : Type 0} (IsReason : X → R → Type 0) (xs : List X) (i : ℕ) (x : X) (reasons : List R) (r : R) → i < length xs → x ≡ get_or xs i x
@@ -127,3 +151,31 @@ is_to_come entries cut d p record' not = (
     let i = at (entry_member record'.0) (seen entries p (entry_member record'.0)) in
     let stands : StandsAt entries p i = (record'.0, record'.1, refl, refl) in
     (record', (i, stands, not i stands)))
+
+-- ---- the moment
+
+-- no entry is of a member above 15
+pub no_entries : (n : ℕ) (entries : List Entry) → AreEntries n entries → (q : ℕ) → 16 ≤ q → length (log_of entries q) ≡ 0
+no_entries n entries are q past = elim (cases_eq (length (log_of entries q)) 0) [
+  | inl none ↦ none
+  | inr some ↦ absurd (
+      let e = some_entry (log_of entries q) 0 (omega (arith, some)) in
+      let w = locate_all entries q 0 e.0 e.1 in
+      let below = are.members w.0 e.0 w.2 in
+      let own = w.3 in
+      let size = are.size in
+      omega (arith, below, own, size, past))
+]
+
+-- the counts of the 16 members are the moment
+pub counts_are : (run : RunParts) → IsRun run → (cut : Cut) (counts : List ℕ) → length counts ≡ 16 → ((q : ℕ) → q < 16 → get_or counts q 0 ≡ cut q) → ((q : ℕ) → cut q ≤ length (log_of run.entries q)) → cut_in counts ≡ cut
+counts_are run rules cut counts room is below = λ x q. each q x where
+  each : (q : ℕ) → get_or counts q 0 ≡ cut q
+  each q = elim (cases_lt q 16) [
+    | inl less ↦ is q less
+    | inr past ↦
+        let none = no_entries run.members run.entries rules.lawful q past in
+        let least = below q in
+        let end = get_or_past counts q 0 (omega (arith, room, past)) in
+        omega (arith, none, least, end)
+  ]

@@ -1,30 +1,32 @@
 -- What is said of a receipt is so, and nothing is said where it is safe.
-use Rattle.fbl_judge.proofs.Common.{Dependence, ℕ, zero, suc, Bool, true, false, ◌≡◌, ◌<◌, ◌≤◌, ◌+◌, ◌⊎◌, ◌↔◌, inl, inr, List, [], ◌∷◌, ◌++◌, Option, Some, None, drop, slice_get, take, take-append-drop, append-nil, refl, sym, ap, subst, ◌∙◌, arith}
-use Rattle.fbl_judge.proofs.Common.{cases_lt, false≢true, Determinant, receipt_of, AllBelow, Members, contains-union}
-use Rattle.fbl_judge.proofs.Common.{Entry, Event, Logs, log_of, IsAt, Position, Precedes, at, Cut, DependsOn, DependsAt, HoldsAt, IsFirstDependent, IsLeastMoment, IsReceiptAt}
-use Rattle.fbl_judge.proofs.Common.{AreEntries, AreStruckOrHold, IsJudgedAt, IsMoment, IsSafe, Run, bound, filter_map-At, last_cut, len-within}
+use Rattle.fbl_judge.proofs.Common.{Dependence, ℕ, zero, suc, Bool, true, false, ◌≡◌, ◌≢◌, ◌<◌, ◌≤◌, ◌+◌, ◌⊎◌, ◌↔◌, inl, inr, List, [], ◌∷◌, ◌++◌, Option, Some, None, MatchOption, drop, length, slice_get, take, take-append-drop, append-nil, refl, sym, ap, subst, ◌∙◌, arith}
+use Rattle.fbl_judge.proofs.Common.{cases_lt, false≢true, slice_get_within, Determinant, AllBelow, Members, contains-union}
+use Rattle.fbl_judge.proofs.Common.{Entry, Restart, Logs, entry_member, log_of, receipt_in, IsAt, Position, Precedes, at, Cut, DependsAt, HasCome, HasRestarted, HoldsAt, IsLeastDependent, IsMoment, IsReceiptAt, SameRestarts, Stands}
+use Rattle.fbl_judge.proofs.Common.{AreEntries, AreStruckOrHold, IsJudgedAt, IsSafe, LosesAt, Run, bound, last_cut, len-within}
 use Rattle.fbl_trace.specs.MemberSets.{same_from_contains}
 use Rattle.std.specs.FinSet as set
-use Rattle.std.proofs.Common.{MatchOption, below_more}
+use Rattle.std.proofs.Common.{slice_index}
 use Rattle.std.proofs.lemmas.Bool.{cases_order}
 use Rattle.std.specs.Cmp.{nat_cmp_total}
 use Rattle.fbl_judge.specs.declared.check.Candidate.{Candidate}
 use Rattle.fbl_judge.specs.declared.check.UnsafeReceipt.{UnsafeReceipt}
-use Rattle.fbl_runs.specs.Clocks.{PrecedesSome, StandsAt, cut_of}
-use Rattle.fbl_runs.specs.Entries.{receipt_in, receipts_in}
-use Rattle.fbl_judge.specs.Pasts.{IsFirstAfter}
+use Rattle.fbl_judge.specs.declared.view.View.{View}
+use Rattle.fbl_runs.specs.Clocks.{StandsAt, cut_of, seen}
+use Rattle.fbl_runs.specs.Rules.{restarts}
 use Rattle.fbl_runs.specs.Logs.{RunParts, run_of}
-use Rattle.fbl_judge.specs.Unsafe.{ComesFirst, IsCandidate, IsFewer, IsFirstCandidate, IsLeastLoss, IsLeastStrike, IsLeftOrphanAt, IsSaidAt, IsSaidOf, IsUnsafe, IsUnsafeAt, ListsFirst, SaysUnsafe}
-use Rattle.fbl_judge.specs.Candidates.{HasNoCandidate, IsCandidateOf, IsCoveredBelow, IsFirstBelow, IsFirstOf, IsLeastIn, IsSaidAtEnd, IsSaidFirst, IsSaidWith, IsUnsafeAtEnd}
+use Rattle.fbl_judge.specs.Unsafe.{ComesFirst, HasFewerRestarts, IsCandidate, IsFewer, IsFirstCandidate, IsLeastLoss, IsLeastStrike, IsLeftOrphanAt, IsNamed, IsReceiptPlace, IsSaidAt, IsSaidOf, IsUnsafe, IsUnsafeAt, ListsFirst, RestartsFirst, SaysUnsafe, restarts_at, restarts_below}
+use Rattle.fbl_judge.specs.Candidates.{HasFewer, HasMoreAtFirst, IsAlike, IsAny, IsBefore, IsCandidateOf, IsFirstAmong, IsFirstOf, IsLeastIn, IsLeastOut, IsLeastUnlike, IsOfLesser, IsOfMember, IsOfViews, IsReceiptHere, IsSaidAtEnd, IsSaidFirst, IsSaidWith, IsUnsafeAtEnd, NoneDepends}
+use Rattle.fbl_judge.specs.Views.{IsView}
 use Rattle.fbl_runs.specs.declared.judged.Judged.{Judged}
 use Rattle.fbl_runs.specs.declared.judged.Judged.TheVariants.{AtEachMoment, AtItsEnd}
-use Rattle.fbl_trace.proofs.Gets.{drop_next, take-more}
+use Rattle.fbl_trace.proofs.Gets.{At-push, drop_next, take-more}
 use Rattle.fbl_trace.proofs.Sets.{len-remove_one}
-use Rattle.fbl_runs.proofs.Common.{filter_map-append}
-use Rattle.fbl_runs.proofs.ClockLaws.{last_there}
-use Rattle.fbl_runs.proofs.Listing.{locate_all, one_position}
-use Rattle.fbl_judge.proofs.SafeAlways.{loses, lost_contains, may_be_lost, none_depends, of_group, struck_or_hold}
-use Rattle.fbl_runs.proofs.TableLaws.{received_own}
+use Rattle.fbl_runs.proofs.ClockLaws.{one_position}
+use Rattle.fbl_runs.proofs.LeadsLaws.{here_stands, stands_somewhere}
+use Rattle.fbl_runs.proofs.Listing.{stands_at}
+use Rattle.fbl_judge.proofs.MomentLaws.{first_there, happened, holds_later, last_there, moment_closed, stands_earlier, stored_later}
+use Rattle.fbl_judge.proofs.SafeAlways.{come_there, loses, lost_contains, may_be_lost, none_beyond, of_group, some_least_dependent, some_struck_or_hold}
+use Rattle.fbl_judge.proofs.ViewLaws.{count_same, sum_same}
 
 -- ---- at one cut
 
@@ -41,18 +43,11 @@ same_members P a b of_a of_b = same_from_contains a b (λ q. same (set.contains 
 pub one_set : (run : Run) (cut : Cut) (d : Determinant) (a b : Members) → AreStruckOrHold run cut d a → AreStruckOrHold run cut d b → a ≡ b
 one_set run cut d = same_members (λ q. (set.contains run.strike q ≡ true) ⊎ HoldsAt run.logs cut d q)
 
--- a member has one first entry
-pub one_first : (logs : Logs) (d : Determinant) (q k l : ℕ) → IsFirstDependent logs d (at q k) → IsFirstDependent logs d (at q l) → k ≡ l
-one_first logs d q k l of_k of_l = elim (cases_lt k l) [
-  | inl before ↦ absurd (of_l.first k before of_k.depends)
-  | inr after ↦ elim (cases_lt l k) [ inl before ↦ absurd (of_k.first l before of_l.depends) | inr same ↦ omega (arith, same, after) ]
-]
-
--- two least moments are the same
-pub one_least : (logs : Logs) (j : Position) (a b : Cut) → IsLeastMoment logs j a → IsLeastMoment logs j b → a ≡ b
-one_least logs j a b least_a least_b =
-    let same = λ (q : ℕ). both_ways (a q) (b q) (least_a.least b least_b.moment least_b.has q) (least_b.least a least_a.moment least_a.has q) in
-    λ i q. same q i where
+-- two least moments with the same restarts are the same
+pub one_least : (logs : Logs) (i : Position) (q : ℕ) (a b : Cut) → IsLeastDependent logs i q a → IsLeastDependent logs i q b → SameRestarts logs a b → a ≡ b
+one_least logs i q a b of_a of_b same =
+    let equal = λ (p : ℕ). both_ways (a p) (b p) (of_a.least b of_b.moment same of_b.depends p) (of_b.least a of_a.moment (λ r. ((same r).1, (same r).0)) of_a.depends p) in
+    λ i p. equal p i where
       both_ways : (x y : ℕ) → x ≤ y → y ≤ x → x ≡ y
       both_ways x y below above = omega arith
 
@@ -83,12 +78,8 @@ fewer_joined a b c (inl ab) (inr bc) = inl (let e = bc.0 in omega (arith, ab, e)
 fewer_joined a b c (inr ab) (inl bc) = inl (let e = ab.0 in omega (arith, bc, e))
 fewer_joined a b c (inr ab) (inr bc) = inr (ab.0 ∙ bc.0, lists_joined a b c ab.1 bc.1)
 
-fewer_first : (a b c : Members) (q p : ℕ) → IsFewer a b → ComesFirst b q c p → IsFewer a c
-fewer_first a b c q p ab (inl bc) = fewer_joined a b c ab bc
-fewer_first a b c q p ab (inr bc) = subst (λ (c : Members). IsFewer a c) bc.0 ab
-
 -- of two sets, the first of which is within the other, the lists are the same or the other's comes first
-pub within_first : (a b : Members) (o : Option ℕ) → ((q : ℕ) → set.contains a q ≡ true → set.contains b q ≡ true) → MatchOption o ((q : ℕ) → set.contains b q ≡ true → set.contains a q ≡ true) (IsLeastIn b a)
+pub within_first : (a b : Members) (o : Option ℕ) → ((q : ℕ) → set.contains a q ≡ true → set.contains b q ≡ true) → MatchOption o ((q : ℕ) → set.contains b q ≡ true → set.contains a q ≡ true) (IsLeastOut b a)
     → (a ≡ b) ⊎ ListsFirst b a
 within_first a b None within back = inl (same_members (λ q. set.contains b q ≡ true) a b (λ q. (within q, back q)) (λ q. (λ h. h, λ h. h)))
 within_first a b (Some m) within is = inr (m, is.own, is.out, λ k below. same (set.contains b k) refl (set.contains a k) refl (is.least k below) (within k)) where
@@ -99,7 +90,7 @@ within_first a b (Some m) within is = inr (m, is.own, is.out, λ k below. same (
   same false is_b true is_c p q = absurd (false≢true (sym is_b ∙ q is_c))
 
 -- neither of two can be before the other
-not_both : (a b : Members) → IsFewer a b → IsFewer b a → ⊥
+pub not_both : (a b : Members) → IsFewer a b → IsFewer b a → ⊥
 not_both a b (inl ab) (inl ba) = omega (arith, ab, ba)
 not_both a b (inl ab) (inr ba) = (let e = ba.0 in omega (arith, ab, e))
 not_both a b (inr ab) (inl ba) = (let e = ab.0 in omega (arith, ba, e))
@@ -107,324 +98,389 @@ not_both a b (inr ab) (inr ba) = itself (lists_joined a b a ab.1 ba.1) where
   itself : ListsFirst a a → ⊥
   itself l = false≢true (sym l.2 ∙ l.1)
 
--- so of all candidates one comes first
-pub one_comes_first : (a b : Members) (p q : ℕ) → ComesFirst a p b q → ComesFirst b q a p → (a ≡ b) × (p ≡ q)
-one_comes_first a b p q (inl ab) (inl ba) = absurd (not_both a b ab ba)
-one_comes_first a b p q (inl ab) (inr ba) = absurd (let same = subst (λ (b : Members). IsFewer a b) ba.0 ab in not_both a a same same)
-one_comes_first a b p q (inr ab) (inl ba) = absurd (let same = subst (λ (a : Members). IsFewer b a) ab.0 ba in not_both b b same same)
-one_comes_first a b p q (inr ab) (inr ba) = (ab.0, (let x = ab.1 in let y = ba.1 in omega (arith, x, y)))
+-- where neither is before the other they are the same
+pub same_strike_of : (a b : Members) → (a ≡ b) ⊎ IsFewer b a → (b ≡ a) ⊎ IsFewer a b → a ≡ b
+same_strike_of a b (inl same) other = same
+same_strike_of a b (inr before) (inl same) = sym same
+same_strike_of a b (inr before) (inr after) = absurd (not_both a b after before)
+
+-- of three moments, with as many restarts each, the list of the first comes before that of the third
+restarts_joined : (logs : Logs) (a b c : Cut) → RestartsFirst logs a b → RestartsFirst logs b c → RestartsFirst logs a c
+restarts_joined logs a b c ab bc = elim (cases_order ab.0 bc.0) [
+  | inl same ↦ (ab.0, (let x = ab.1 in let y : restarts_at logs c ab.0 < restarts_at logs b ab.0 = subst (λ (m : ℕ). restarts_at logs c m < restarts_at logs b m) (sym same) bc.1 in omega (arith, x, y)), λ k below. ab.2 k below ∙ bc.2 k (omega (arith, below, same)))
+  | inr (inl less) ↦ (ab.0, (let x = ab.1 in let y = bc.2 ab.0 less in omega (arith, x, y)), λ k below. ab.2 k below ∙ bc.2 k (omega (arith, below, less)))
+  | inr (inr more) ↦ (bc.0, (let x = bc.1 in let y = ab.2 bc.0 more in omega (arith, x, y)), λ k below. ab.2 k (omega (arith, below, more)) ∙ bc.2 k below)
+]
+
+lists_of_three : (logs : Logs) (a b c : Cut) → RestartsFirst logs a b ⊎ ((k : ℕ) → restarts_at logs a k ≡ restarts_at logs b k) → RestartsFirst logs b c ⊎ ((k : ℕ) → restarts_at logs b k ≡ restarts_at logs c k)
+    → RestartsFirst logs a c ⊎ ((k : ℕ) → restarts_at logs a k ≡ restarts_at logs c k)
+lists_of_three logs a b c (inl ab) (inl bc) = inl (restarts_joined logs a b c ab bc)
+lists_of_three logs a b c (inl ab) (inr bc) = inl (ab.0, (let x = ab.1 in let y = bc ab.0 in omega (arith, x, y)), λ k below. ab.2 k below ∙ bc k)
+lists_of_three logs a b c (inr ab) (inl bc) = inl (bc.0, (let x = bc.1 in let y = ab bc.0 in omega (arith, x, y)), λ k below. ab k ∙ bc.2 k below)
+lists_of_three logs a b c (inr ab) (inr bc) = inr (λ k. ab k ∙ bc k)
+
+restarts_of_three : (logs : Logs) (a b c : Cut) → HasFewerRestarts logs a b → HasFewerRestarts logs b c → HasFewerRestarts logs a c
+restarts_of_three logs a b c (inl ab) (inl bc) = inl (omega (arith, ab, bc))
+restarts_of_three logs a b c (inl ab) (inr bc) = inl (let e = bc.0 in omega (arith, ab, e))
+restarts_of_three logs a b c (inr ab) (inl bc) = inl (let e = ab.0 in omega (arith, bc, e))
+restarts_of_three logs a b c (inr ab) (inr bc) = inr (ab.0 ∙ bc.0, lists_of_three logs a b c ab.1 bc.1)
+
+-- of three candidates the first comes before the third
+pub comes_joined : (logs : Logs) (a b c : Members) (p q s : ℕ) (x y z : Cut) → ComesFirst logs a p x b q y → ComesFirst logs b q y c s z → ComesFirst logs a p x c s z
+comes_joined logs a b c p q s x y z (inl ab) (inl bc) = inl (fewer_joined a b c ab bc)
+comes_joined logs a b c p q s x y z (inl ab) (inr bc) = inl (subst (λ (c : Members). IsFewer a c) bc.0 ab)
+comes_joined logs a b c p q s x y z (inr ab) (inl bc) = inl (subst (λ (a : Members). IsFewer a c) (sym ab.0) bc)
+comes_joined logs a b c p q s x y z (inr ab) (inr bc) = inr (ab.0 ∙ bc.0, by_orphans ab.1 bc.1) where
+  by_orphans : (p < q) ⊎ ((p ≡ q) × HasFewerRestarts logs x y) → (q < s) ⊎ ((q ≡ s) × HasFewerRestarts logs y z) → (p < s) ⊎ ((p ≡ s) × HasFewerRestarts logs x z)
+  by_orphans (inl pq) (inl qs) = inl (omega (arith, pq, qs))
+  by_orphans (inl pq) (inr qs) = inl (let e = qs.0 in omega (arith, pq, e))
+  by_orphans (inr pq) (inl qs) = inl (let e = pq.0 in omega (arith, qs, e))
+  by_orphans (inr pq) (inr qs) = inr (pq.0 ∙ qs.0, restarts_of_three logs x y z pq.1 qs.1)
+
+-- as many restarts of each member come at moments with the same
+pub same_counts : (logs : Logs) (a b : Cut) → SameRestarts logs a b → (q : ℕ) → restarts_at logs a q ≡ restarts_at logs b q
+same_counts logs a b same q = elim (cases_lt (a q) (b q)) [
+  | inl less ↦ count_same (logs q) (a q) (b q) (omega (arith, less)) (λ k r after before here. (let x = ((same (at q k)).1 (r, here, before)).2 in omega (arith, x, after)))
+  | inr more ↦ sym (count_same (logs q) (b q) (a q) (omega (arith, more)) (λ k r after before here. (let x = ((same (at q k)).0 (r, here, before)).2 in omega (arith, x, after))))
+]
+
+-- where no log is, nobody restarts
+no_restarts : (log : List Entry) (a : ℕ) → length log ≡ 0 → restarts (take a log) ≡ 0
+no_restarts [] zero none = refl
+no_restarts [] (suc a) none = refl
+no_restarts (e ∷ log) a none = absurd (omega (arith, none))
+
+-- of one view more the moments are those of the others, and its own
+pub one_view_more : (logs : Logs) (views : List View) (k : ℕ) (v : View) → slice_get views k ≡ Some v → (q : ℕ) (cut : Cut) → IsOfViews logs (take (k + 1) views) q cut
+    → IsOfViews logs (take k views) q cut ⊎ IsOfLesser logs (cut_of v.base) 16 q cut
+one_view_more logs views k v here q cut is =
+    let x = is.1 in
+    let more : take (k + 1) views ≡ take k views ++ v ∷ [] = (let s : k + 1 ≡ suc k = omega arith in rw (s, take-more views k v here) refl) in
+    elim (At-push (take k views) v x.0 x.1 (subst (λ (vs : List View). slice_get vs x.0 ≡ Some x.1) more x.2)) [
+      | inl old ↦ inl (is.0, (x.0, x.1, old, x.3))
+      | inr new ↦ inr (is.0, subst (λ (w : View). SameRestarts logs (cut_of w.base) cut) (sym new.1) x.3)
+    ]
 
 -- ---- one receipt
 
-module _ (log : RunParts) (rules : AreEntries log.members log.entries) (struck : AllBelow log.strike log.members) (d : Determinant) where
+module _ (log : RunParts) (rules : AreEntries log.members log.entries) (struck : AllBelow log.strike log.members) where
   abbrev run : Run
   run = run_of log
 
   abbrev entries : List Entry
   entries = log.entries
 
-  -- a receipt stands at one position
-  one : (i j : Position) → IsReceiptAt run.logs d i → IsReceiptAt run.logs d j → i ≡ j
-  one i j at_i at_j =
-      let o = one_position run.members entries rules.events i.member i.number j.member j.number (receipt_of d) at_i at_j in
-      λ x. record { member = o.0 x; number = o.1 x }
+  module _ (i : Position) (d : Determinant) (receipt : IsReceiptAt run.logs d i) where
+    -- one determinant names it
+    pub one_name : (e : Determinant) → IsReceiptAt run.logs e i → e ≡ d
+    one_name e other = (let same : Some other.0 ≡ Some receipt.0 = sym other.1 ∙ receipt.1 in let is : other.0 ≡ receipt.0 = cc in let names : Some e ≡ Some d = sym other.2 ∙ ap receipt_in is ∙ receipt.2 in cc)
 
-  -- so what depends on it is what it precedes
-  pub depends_iff : (i j : Position) → IsReceiptAt run.logs d i → DependsOn run.logs d j ↔ Precedes Dependence run.logs i j
-  depends_iff i j at_i = (
-    λ depends. subst (λ (k : Position). Precedes Dependence run.logs k j) (one depends.0 i depends.1 at_i) depends.2,
-    λ precedes. (i, at_i, precedes),
-  )
+    -- ---- at one cut
 
-  -- the first entry that it precedes is the first that depends on it
-  pub first_dependent : (i j : Position) → IsReceiptAt run.logs d i → IsFirstAfter run.logs i j → IsFirstDependent run.logs d j
-  first_dependent i j at_i first = record {
-    depends = (i, at_i, first.precedes);
-    first = λ k earlier depends. first.first k earlier ((depends_iff i (at j.member k) at_i).0 depends);
-  }
+    -- what makes it unsafe has the least members, and leaves an orphan of them
+    pub unsafe_has : (cut : Cut) → IsUnsafeAt run cut i → ((strike : Members) → IsLeastStrike run cut d strike → ((q : ℕ) × IsLeftOrphanAt run cut strike i q) → ⊥) → ⊥
+    unsafe_has cut u no' =
+        let members = u.0 in
+        let may = u.1 in
+        let name = one_name u.2.1.0 u.2.1.1 in
+        let lost = subst (λ (e : Determinant). LosesAt run cut members e) name u.2.1.2 in
+        some_struck_or_hold run entries refl rules struck cut d (λ s are.
+        let within = λ (r : ℕ) (h : set.contains s r ≡ true). lost_contains run entries refl rules struck cut members may d lost r ((are r).0 h) in
+        let fewer = len-within (set.len s) s members refl within in
+        no' s (record { unstored = lost.0; least = are; few = (let n = may.few in omega (arith, fewer, n)) }) (u.3.0, (out s u.3.0 (within u.3.0) u.3.1.0, u.3.1.1))) where
+          out : (strike : Members) (q : ℕ) → (set.contains strike q ≡ true → set.contains u.0 q ≡ true) → set.contains u.0 q ≡ false → set.contains strike q ≡ false
+          out strike q within left = at_test (set.contains strike q) refl where
+            at_test : (b : Bool) → set.contains strike q ≡ b → set.contains strike q ≡ false
+            at_test true has = absurd (false≢true (sym left ∙ within has))
+            at_test false no'' = no''
 
-  -- who has an entry that it precedes depends on it
-  pub dependents_at : (i : Position) → IsReceiptAt run.logs d i → (cut : Cut) (dependents : Members) → ((q : ℕ) → (set.contains dependents q ≡ true) ↔ PrecedesSome Dependence run.logs i q (cut q))
-      → (q : ℕ) → (set.contains dependents q ≡ true) ↔ DependsAt run.logs cut d q
-  dependents_at i at_i cut dependents are q = (
-    λ h. (let p = (are q).0 h in (p.0, (depends_iff i (at q p.0) at_i).1 p.2, p.1)),
-    λ h. (are q).1 (h.0, h.2, (depends_iff i (at q h.0) at_i).0 h.1),
-  )
+    -- the least members may be lost, lose it, and are within all that may be lost and do
+    pub least_loss : (cut : Cut) (strike : Members) → IsLeastStrike run cut d strike → IsLeastLoss run cut d strike
+    least_loss cut strike least = record {
+      may = may_be_lost run entries refl rules struck cut d strike least.least least.few;
+      loses = loses run entries refl rules struck cut d strike least.least least.unstored;
+      least = λ members may lost r has. lost_contains run entries refl rules struck cut members may d lost r ((least.least r).0 has);
+    }
 
-  -- and if it is left, it is an orphan of it
-  pub left_orphans : (i : Position) → IsReceiptAt run.logs d i → (cut : Cut) (members dependents left : Members) → left ≡ set.difference dependents members
-      → ((q : ℕ) → (set.contains dependents q ≡ true) ↔ PrecedesSome Dependence run.logs i q (cut q)) → (q : ℕ) → (set.contains left q ≡ true) ↔ IsLeftOrphanAt run cut members d q
-  left_orphans i at_i cut members dependents left is are q = subst (λ (s : Members). (set.contains s q ≡ true) ↔ IsLeftOrphanAt run cut members d q) (sym is) (
-      let left_of = set.contains-difference nat_cmp_total dependents members q in
-      let depends = dependents_at i at_i cut dependents are q in
-      grind (arith, left_of, depends))
+    -- where it does not stand, or has none of the least members, or they leave nobody, it is safe there
+    pub undone_safe : (cut : Cut) → ¬ (Stands run.logs cut i) → ¬ (IsUnsafeAt run cut i)
+    undone_safe cut undone u = undone u.2.0
 
-  -- where it precedes none of a member's entries the member is an orphan of no candidate
-  pub none_after : (i : Position) (q : ℕ) → IsReceiptAt run.logs d i → ((k : ℕ) → ¬ (Precedes Dependence run.logs i (at q k))) → HasNoCandidate run d q
-  none_after i q at_i none k cut strike candidate = none k ((depends_iff i (at q k) at_i).0 candidate.first.depends)
+    pub safe_at : (cut : Cut) → ((strike : Members) → ¬ (IsLeastStrike run cut d strike)) → ¬ (IsUnsafeAt run cut i)
+    safe_at cut none u = unsafe_has cut u (λ strike least left. none strike least)
 
-  -- ---- at one cut
+    pub nobody_left : (cut : Cut) (strike orphans : Members) → IsLeastStrike run cut d strike → ((q : ℕ) → (set.contains orphans q ≡ true) ↔ IsLeftOrphanAt run cut strike i q) → set.len orphans ≡ 0
+        → ¬ (IsUnsafeAt run cut i)
+    nobody_left cut strike orphans is are none u = unsafe_has cut u (λ other least left.
+        let same : other ≡ strike = one_set run cut d other strike least.least is.least in
+        let here = (are left.0).1 (subst (λ (s : Members). IsLeftOrphanAt run cut s i left.0) same left.1) in
+        let one = len-remove_one orphans left.0 here in
+        omega (arith, one, none))
 
-  -- what makes it unsafe has the least members, and leaves an orphan of them
-  pub unsafe_has : (cut : Cut) → IsUnsafeAt run cut d → (strike : Members) × IsLeastStrike run cut d strike × ((q : ℕ) × IsLeftOrphanAt run cut strike d q)
-  unsafe_has cut u =
-      let s = struck_or_hold run entries refl rules struck cut d in
-      let within = λ (r : ℕ) (h : set.contains s.0 r ≡ true). lost_contains run entries refl rules struck cut u.0 u.1 d u.2 r ((s.1 r).0 h) in
-      let fewer = len-within (set.len s.0) s.0 u.0 refl within in
-      (s.0, record { unstored = u.2.0; least = s.1; few = (let n = u.1.few in omega (arith, fewer, n)) }, (u.3.0, (out s.0 u.3.0 (within u.3.0) u.3.1.0, u.3.1.1))) where
-        out : (strike : Members) (q : ℕ) → (set.contains strike q ≡ true → set.contains u.0 q ≡ true) → set.contains u.0 q ≡ false → set.contains strike q ≡ false
-        out strike q within left = at_test (set.contains strike q) refl where
-          at_test : (b : Bool) → set.contains strike q ≡ b → set.contains strike q ≡ false
-          at_test true has = absurd (false≢true (sym left ∙ within has))
-          at_test false no' = no'
+    -- ---- candidates
 
-  -- the least members may be lost, lose it, and are within all that may be lost and do
-  pub least_loss : (cut : Cut) (strike : Members) → IsLeastStrike run cut d strike → IsLeastLoss run cut d strike
-  least_loss cut strike least = record {
-    may = may_be_lost run entries refl rules struck cut d strike least.least least.few;
-    loses = loses run entries refl rules struck cut d strike least.least least.unstored;
-    least = λ members may lost r has. lost_contains run entries refl rules struck cut members may d lost r ((least.least r).0 has);
-  }
+    -- a candidate with the same orphan and restarts is of this moment
+    same_cut : (q : ℕ) (base cut other : Cut) (strike : Members) → IsLeastIn run.logs i q base cut → SameRestarts run.logs base other → IsCandidate run i d q other strike → other ≡ cut
+    same_cut q base cut other strike least same candidate =
+        one_least run.logs i q other cut candidate.moment least.1 (λ r. (λ h. (least.0 r).0 ((same r).1 h), λ h. (same r).0 ((least.0 r).1 h)))
 
-  -- where it has none of the least members, or they leave nobody, it is safe there
-  pub safe_at : (cut : Cut) → ((strike : Members) → ¬ (IsLeastStrike run cut d strike)) → ¬ (IsUnsafeAt run cut d)
-  safe_at cut none u = (let has = unsafe_has cut u in none has.0 has.1)
+    pub none_if_none : (q : ℕ) (base : Cut) → NoneDepends run.logs i q base → IsFirstAmong run i d (IsOfMember run.logs base q) None
+    none_if_none q base none p cut members is candidate =
+        none cut candidate.moment.moment is.1 (subst (λ (p : ℕ). DependsAt run.logs cut i p) is.0 candidate.moment.depends)
 
-  pub nobody_left : (cut : Cut) (strike orphans : Members) → IsLeastStrike run cut d strike → ((q : ℕ) → (set.contains orphans q ≡ true) ↔ IsLeftOrphanAt run cut strike d q) → set.len orphans ≡ 0
-      → ¬ (IsUnsafeAt run cut d)
-  nobody_left cut strike orphans is are none u =
-      let has = unsafe_has cut u in
-      let same : has.0 ≡ strike = one_set run cut d has.0 strike has.1.least is.least in
-      let here = (are has.2.0).1 (subst (λ (s : Members). IsLeftOrphanAt run cut s d has.2.0) same has.2.1) in
-      let one = len-remove_one orphans has.2.0 here in
-      omega (arith, one, none)
+    own : (q : ℕ) (p : ℕ) (cut : Cut) (members : Members) → p ≡ q → IsCandidate run i d p cut members → IsCandidate run i d q cut members
+    own q p cut members same candidate = subst (λ (p : ℕ). IsCandidate run i d p cut members) same candidate
 
-  -- ---- candidates
+    module _ (q : ℕ) (base cut : Cut) (least : IsLeastIn run.logs i q base cut) where
+      pub none_if_undone : ¬ (Stands run.logs cut i) → IsFirstAmong run i d (IsOfMember run.logs base q) None
+      none_if_undone undone p other members is candidate =
+          let mine = own q p other members is.0 candidate in
+          undone (subst (λ (c : Cut). Stands run.logs c i) (same_cut q base cut other members least is.1 mine) mine.stands)
 
-  module _ (q k : ℕ) (cut : Cut) (first : IsFirstDependent run.logs d (at q k)) (moment : IsLeastMoment run.logs (at q k) cut) where
-    -- a candidate with the member as its orphan is of its first entry, at this moment
-    same_cut : (l : ℕ) (other : Cut) (strike : Members) → IsCandidate run d (at q l) other strike → other ≡ cut
-    same_cut l other strike candidate =
-        let same : l ≡ k = one_first run.logs d q l k candidate.first first in
-        one_least run.logs (at q k) other cut (subst (λ (k : ℕ). IsLeastMoment run.logs (at q k) other) same candidate.moment) moment
+      pub none_if_many : ((strike : Members) → ¬ (IsLeastStrike run cut d strike)) → IsFirstAmong run i d (IsOfMember run.logs base q) None
+      none_if_many none p other members is candidate =
+          let mine = own q p other members is.0 candidate in
+          none members (subst (λ (c : Cut). IsLeastStrike run c d members) (same_cut q base cut other members least is.1 mine) mine.least)
 
-    -- there is none where no members lose the receipt, or the least ones do not leave the member
-    pub none_there : ((strike : Members) → ¬ (IsLeastStrike run cut d strike)) → HasNoCandidate run d q
-    none_there none l other strike candidate = none strike (subst (λ (cut : Cut). IsLeastStrike run cut d strike) (same_cut l other strike candidate) candidate.least)
+      -- of the least members it is
+      same_strike : (strike : Members) → IsLeastStrike run cut d strike → (p : ℕ) (other : Cut) (members : Members) → IsOfMember run.logs base q p other → IsCandidate run i d p other members → strike ≡ members
+      same_strike strike is_least p other members is candidate =
+          let mine = own q p other members is.0 candidate in
+          let there = subst (λ (c : Cut). IsLeastStrike run c d members) (same_cut q base cut other members least is.1 mine) mine.least in
+          one_set run cut d strike members is_least.least there.least
 
-    pub not_left : (least : Members) → IsLeastStrike run cut d least → set.contains least q ≡ true → HasNoCandidate run d q
-    not_left least is struck l other strike candidate =
-        let here = subst (λ (cut : Cut). IsLeastStrike run cut d strike) (same_cut l other strike candidate) candidate.least in
-        let same : strike ≡ least = one_set run cut d strike least here.least is.least in
-        false≢true (sym candidate.left ∙ ap (λ s. set.contains s q) same ∙ struck)
+      pub none_if_struck : (strike : Members) → IsLeastStrike run cut d strike → set.contains strike q ≡ true → IsFirstAmong run i d (IsOfMember run.logs base q) None
+      none_if_struck strike is_least has p other members is candidate =
+          let mine = own q p other members is.0 candidate in
+          false≢true (sym mine.left ∙ ap (λ s. set.contains s q) (sym (same_strike strike is_least p other members is candidate)) ∙ has)
 
-    -- and there is one where they do, and the member is an orphan of it
-    pub left_there : (least : Members) → IsLeastStrike run cut d least → set.contains least q ≡ false → IsCandidate run d (at q k) cut least × IsLeftOrphanAt run cut least d q
-    left_there least is out = (record { first = first; moment = moment; least = is; left = out }, (out, (k, first.depends, moment.has)))
+      pub one_if_left : (c : Candidate) → c.orphan ≡ q → cut_of c.moment ≡ cut → cut_of c.view.base ≡ base → IsView run.logs c.view → Stands run.logs cut i → IsLeastStrike run cut d c.strike → set.contains c.strike q ≡ false
+          → IsFirstAmong run i d (IsOfMember run.logs base q) (Some c)
+      one_if_left c orphan moment view is_view stands is_least left = (
+        record {
+          is = subst (λ (x : Cut). IsCandidate run i d c.orphan x c.strike) (sym moment) (subst (λ (x : ℕ). IsCandidate run i d x cut c.strike) (sym orphan) (record { moment = least.1; stands = stands; least = is_least; left = left }));
+          view = is_view;
+          same = subst (λ (x : Cut). SameRestarts run.logs x (cut_of c.moment)) (sym view) (subst (λ (x : Cut). SameRestarts run.logs base x) (sym moment) least.0);
+        },
+        λ p other members is candidate. inr (
+          same_strike c.strike is_least p other members is candidate,
+          inr (
+            orphan ∙ sym is.0,
+            subst (λ (x : Cut). HasFewerRestarts run.logs x other) (sym moment) (as_many other (λ r. (λ h. (is.1 r).0 ((least.0 r).1 h), λ h. (least.0 r).0 ((is.1 r).1 h)))),
+          ),
+        ),
+      ) where
+        as_many : (other : Cut) → SameRestarts run.logs cut other → HasFewerRestarts run.logs cut other
+        as_many other same = inr (sum_same run.logs cut other 16 (λ q below. same_counts run.logs cut other same q), inr (same_counts run.logs cut other same))
 
-  -- a member's candidates strike the same members
-  one_strike : (n : ℕ) (f : Candidate) → IsCandidateOf log d n f → (p number : ℕ) (cut : Cut) (members : Members) → p ≡ n → IsCandidate run d (at p number) cut members → members ≡ f.strike
-  one_strike n f is p number cut members own candidate =
-      let here = subst (λ (p : ℕ). IsCandidate run d (at p number) cut members) own candidate in
-      let same = same_cut n f.first (cut_of f.moment) is.is.first is.is.moment number cut members here in
-      let least = subst (λ (cut : Cut). IsLeastStrike run cut d members) same here.least in
-      one_set run (cut_of f.moment) d members f.strike least.least is.is.least.least
+    -- ---- of two candidates one
 
-  own_first : (n : ℕ) (f : Candidate) → IsCandidateOf log d n f → (p number : ℕ) (cut : Cut) (members : Members) → p ≡ n → IsCandidate run d (at p number) cut members → ComesFirst f.strike n members p
-  own_first n f is p number cut members own candidate = inr (sym (one_strike n f is p number cut members own candidate), omega (arith, own))
-
-  -- of those of one member more the one that comes first
-  pub first_next : (n : ℕ) (first next result : Option Candidate) → IsFirstBelow log d n first → MatchOption next (HasNoCandidate run d n) (IsCandidateOf log d n)
-      → IsFirstOf first next result → IsFirstBelow log d (n + 1) result
-  first_next n None None result before is of' = rw of' (below_more (HasNoCandidate run d) n before is)
-  first_next n None (Some f) result before is of' = rw of' (
-    n,
-    omega arith,
-    is,
-    λ p number cut members below candidate. elim (cases_lt p n) [
-      | inl less ↦ absurd (before p less number cut members candidate)
-      | inr same ↦ own_first n f is p number cut members (omega (arith, below, same)) candidate
-    ],
-  )
-  first_next n (Some s) None result before is of' = rw of' (
-    before.0,
-    (let b = before.1 in omega (arith, b)),
-    before.2,
-    λ p number cut members below candidate. elim (cases_lt p n) [
-      | inl less ↦ before.3 p number cut members less candidate
-      | inr same ↦ absurd (
-          let own : p ≡ n = omega (arith, below, same) in
-          is number cut members (subst (λ (p : ℕ). IsCandidate run d (at p number) cut members) own candidate))
-    ],
-  )
-  first_next n (Some s) (Some f) result before is (inl of') = rw of'.0 (
-    before.0,
-    (let b = before.1 in omega (arith, b)),
-    before.2,
-    λ p number cut members below candidate. elim (cases_lt p n) [
-      | inl less ↦ before.3 p number cut members less candidate
-      | inr same ↦
-          let own' : p ≡ n = omega (arith, below, same) in
-          let strike : members ≡ f.strike = one_strike n f is p number cut members own' candidate in
-          subst (λ (m : Members). ComesFirst s.strike before.0 m p) (sym strike) (elim of'.1 [
-            | inl equal ↦ inr (equal, (let b = before.1 in omega (arith, b, own')))
-            | inr fewer ↦ inl fewer
-          ])
-    ],
-  )
-  first_next n (Some s) (Some f) result before is (inr of') = rw of'.0 (
-    n,
-    omega arith,
-    is,
-    λ p number cut members below candidate. elim (cases_lt p n) [
-      | inl less ↦ inl (fewer_first f.strike s.strike members before.0 p of'.1 (before.3 p number cut members less candidate))
-      | inr same ↦ own_first n f is p number cut members (omega (arith, below, same)) candidate
-    ],
-  )
-
-  -- a member has no entry if it is not of the group
-  member_below : (q k : ℕ) → DependsOn run.logs d (at q k) → q < 16
-  member_below q k depends =
-      let there = last_there depends.2 in
-      let below = of_group run entries refl rules struck q k there.0 there.1 in
-      (let size = rules.size.1 in omega (arith, below, size))
-
-  -- where there is no candidate the receipt is safe at each moment
-  covered_by_none : (q count : ℕ) → HasNoCandidate run d q → IsCoveredBelow run d q count
-  covered_by_none q count none k cut below first moment unstored members are = at_test (set.contains members q) refl where
-    at_test : (b : Bool) → set.contains members q ≡ b → (set.contains members q ≡ true) ⊎ (bound run < set.len members)
-    at_test true has = inl has
-    at_test false out = elim (cases_lt (bound run) (set.len members)) [
-      | inl many ↦ inr many
-      | inr few ↦ absurd (none k cut members (record { first = first; moment = moment; least = record { unstored = unstored; least = are; few = omega (arith, few) }; left = out }))
+    alike_all : (a b : Cut) → ((k : ℕ) → k < 16 → restarts_at run.logs a k ≡ restarts_at run.logs b k) → (k : ℕ) → restarts_at run.logs a k ≡ restarts_at run.logs b k
+    alike_all a b same k = elim (cases_lt k 16) [
+      | inl below ↦ same k below
+      | inr past ↦ (let none = none_beyond run entries refl rules struck k past in no_restarts (run.logs k) (a k) none ∙ sym (no_restarts (run.logs k) (b k) none))
     ]
 
-  pub safe_moments : ((q : ℕ) → q < 16 → HasNoCandidate run d q) → (cut : Cut) → IsMoment run.logs cut → ¬ (IsUnsafeAt run cut d)
-  safe_moments none cut moment u =
-      let q = u.3.0 in
-      let depends = u.3.1.1 in
-      none_depends run entries refl rules struck cut moment u.0 u.1 q u.3.1.0 d u.2 (suc depends.0) (covered_by_none q (suc depends.0) (none q (member_below q depends.0 depends.1))) (suc depends.0) depends.0
-      (omega arith) (omega arith) depends.2 depends.1
+    -- by its view a candidate's restarts are known
+    known : (c : Candidate) → IsCandidateOf run i d c → (k : ℕ) → k < 16 → slice_index c.view.restarts k ≡ restarts_at run.logs (cut_of c.moment) k
+    known c is k below = is.view.restarts k below ∙ same_counts run.logs (cut_of c.view.base) (cut_of c.moment) is.same k
 
-  -- ---- what is said
+    known_count : (c : Candidate) → IsCandidateOf run i d c → c.view.count ≡ restarts_below run.logs (cut_of c.moment) 16
+    known_count c is = is.view.count ∙ sum_same run.logs (cut_of c.view.base) (cut_of c.moment) 16 (λ k below. same_counts run.logs (cut_of c.view.base) (cut_of c.moment) is.same k)
 
-  -- what is said at a cut where the run is judged
-  said_at : (said : UnsafeReceipt) (cut : Cut) → IsSaidWith run cut d said → IsSaidAt log d said.strike log.judged said.at cut → IsSaidOf log d said
-  said_at said cut with' moment = record {
-    determinant = with'.determinant;
-    cut = cut;
-    moment = moment;
-    strike = with'.strike;
-    loss = least_loss cut said.strike with'.strike;
-    orphans = with'.orphans;
-    some = with'.some;
-  }
+    fewer_by_views : (a b : Candidate) → IsCandidateOf run i d a → IsCandidateOf run i d b → HasFewer a.view b.view → HasFewerRestarts run.logs (cut_of a.moment) (cut_of b.moment)
+    fewer_by_views a b of_a of_b (inl less) = inl (let x = known_count a of_a in let y = known_count b of_b in omega (arith, less, x, y))
+    fewer_by_views a b of_a of_b (inr (same, inl first)) = inr (
+      sym (known_count a of_a) ∙ same ∙ known_count b of_b,
+      inl (
+        first.0,
+        (let x = known a of_a first.0 first.1 in let y = known b of_b first.0 first.1 in let less = first.2 in omega (arith, less, x, y)),
+        λ k below. (let under : k < 16 = (let w = first.1 in omega (arith, below, w)) in sym (known a of_a k under) ∙ first.3 k below ∙ known b of_b k under),
+      ),
+    )
+    fewer_by_views a b of_a of_b (inr (same, inr alike)) = inr (
+      sym (known_count a of_a) ∙ same ∙ known_count b of_b,
+      inr (alike_all (cut_of a.moment) (cut_of b.moment) (λ k below. sym (known a of_a k below) ∙ alike k below ∙ known b of_b k below)),
+    )
 
-  pub said_at_end : (o : Option UnsafeReceipt) → log.judged ≡ AtItsEnd → MatchOption o (¬ (IsUnsafeAtEnd run d)) (IsSaidAtEnd run d) → MatchOption o (¬ (IsUnsafe run d)) (IsSaidOf log d)
-  said_at_end None end safe = λ u. (let here = subst (λ (j : Judged). IsJudgedAt j run.logs u.0) end u.1 in safe (subst (λ (cut : Cut). IsUnsafeAt run cut d) here u.2))
-  said_at_end (Some said) end is =
-      let P : Judged → Option ℕ → Type 0 = λ j o. IsSaidAt log d said.strike j o (last_cut run.logs) in
-      said_at said (last_cut run.logs) is.1 (subst (λ (j : Judged). P j said.at) (sym end) (subst (P AtItsEnd) (sym is.0) refl))
+    before_comes : (a b : Candidate) → IsCandidateOf run i d a → IsCandidateOf run i d b → IsBefore a b → ComesFirst run.logs a.strike a.orphan (cut_of a.moment) b.strike b.orphan (cut_of b.moment)
+    before_comes a b of_a of_b (inl fewer) = inl fewer
+    before_comes a b of_a of_b (inr (same, inl less)) = inr (same, inl less)
+    before_comes a b of_a of_b (inr (same, inr (orphan, fewer))) = inr (same, inr (orphan, fewer_by_views a b of_a of_b fewer))
 
-  pub said_at_moment : (o : Option UnsafeReceipt) → log.judged ≡ AtEachMoment → IsSaidFirst log d o → MatchOption o (¬ (IsUnsafe run d)) (IsSaidOf log d)
-  said_at_moment None each none = λ u. safe_moments none u.0 (subst (λ (j : Judged). IsJudgedAt j run.logs u.0) each u.1) u.2
-  said_at_moment (Some said) each (f, first, is) =
-      let q = first.0 in
-      let cut = cut_of f.moment in
-      let P : Judged → Option ℕ → Type 0 = λ j o. IsSaidAt log d said.strike j o cut in
-      let chosen : IsFirstCandidate run d (at q f.first) cut f.strike = record {
-        candidate = first.2.is;
-        first = λ i cut members candidate. first.3 i.member i.number cut members (member_below i.member i.number candidate.first.depends) candidate;
-      } in
-      let said_chosen = subst (λ (s : Members). IsFirstCandidate run d (at q f.first) cut s) (sym is.strike) chosen in
-      let stands = subst (λ (m : ℕ). StandsAt entries is.place (at m f.first)) first.2.orphan is.stands in
-      said_at said cut is.says (subst (λ (j : Judged). P j said.at) (sym each) (subst (P AtEachMoment) (sym is.listed) (at q f.first, stands, said_chosen)))
+    -- the one of two that comes first is the first of all among which either was
+    module _ (P Q R : ℕ → Cut → Type 0) (either : (q : ℕ) (cut : Cut) → R q cut → P q cut ⊎ Q q cut) where
+      pub first_of_two : (a b r : Option Candidate) → IsFirstAmong run i d P a → IsFirstAmong run i d Q b → IsFirstOf a b r → IsFirstAmong run i d R r
+      first_of_two None None r of_a of_b is = subst (IsFirstAmong run i d R) (sym is) (λ q cut members of_r candidate. elim (either q cut of_r) [ inl p ↦ of_a q cut members p candidate | inr x ↦ of_b q cut members x candidate ])
+      first_of_two None (Some b) r of_a of_b is = subst (IsFirstAmong run i d R) (sym is) (of_b.0, λ q cut members of_r candidate. elim (either q cut of_r) [ inl p ↦ absurd (of_a q cut members p candidate) | inr x ↦ of_b.1 q cut members x candidate ])
+      first_of_two (Some a) None r of_a of_b is = subst (IsFirstAmong run i d R) (sym is) (of_a.0, λ q cut members of_r candidate. elim (either q cut of_r) [ inl p ↦ of_a.1 q cut members p candidate | inr x ↦ absurd (of_b q cut members x candidate) ])
+      first_of_two (Some a) (Some b) r of_a of_b (inl is) = subst (IsFirstAmong run i d R) (sym is.0) (
+        of_a.0,
+        λ q cut members of_r candidate. elim (either q cut of_r) [
+          | inl p ↦ of_a.1 q cut members p candidate
+          | inr x ↦ comes_joined run.logs a.strike b.strike members a.orphan b.orphan q (cut_of a.moment) (cut_of b.moment) cut (before_comes a b of_a.0 of_b.0 is.1) (of_b.1 q cut members x candidate)
+        ],
+      )
+      first_of_two (Some a) (Some b) r of_a of_b (inr is) = subst (IsFirstAmong run i d R) (sym is.0) (
+        of_b.0,
+        λ q cut members of_r candidate. elim (either q cut of_r) [
+          | inl p ↦ comes_joined run.logs b.strike a.strike members b.orphan a.orphan q (cut_of b.moment) (cut_of a.moment) cut (before_comes b a of_b.0 of_a.0 is.1) (of_a.1 q cut members p candidate)
+          | inr x ↦ of_b.1 q cut members x candidate
+        ],
+      )
 
-  -- a receipt that is not there is safe
-  pub absent_safe : ((k : ℕ) → ¬ (IsAt (log_of entries) (at d.to k) (Event (receipt_of d)))) → ¬ (IsUnsafe run d)
-  absent_safe none u =
-      let depends = u.2.3.1.1.1 in
-      let i = depends.0 in
-      let here = depends.1 in
-      none i.number (subst (λ (m : ℕ). IsAt (log_of entries) (at m i.number) (Event (receipt_of d))) (received_own entries d i here) here)
+    -- the first of all candidates is the first of any
+    pub first_wider : (P Q : ℕ → Cut → Type 0) → ((q : ℕ) (cut : Cut) (members : Members) → Q q cut → IsCandidate run i d q cut members → P q cut) → (o : Option Candidate) → IsFirstAmong run i d P o → IsFirstAmong run i d Q o
+    first_wider P Q wider None none = λ q cut members is candidate. none q cut members (wider q cut members is candidate) candidate
+    first_wider P Q wider (Some c) first = (first.0, λ q cut members is candidate. first.1 q cut members (wider q cut members is candidate) candidate)
 
-  -- an unsafe receipt is one of the entries
-  pub unsafe_there : IsUnsafe run d → (k : ℕ) × (slice_get (receipts_in entries) k ≡ Some d)
-  unsafe_there u =
-      let depends = u.2.3.1.1.1 in
-      let i = depends.0 in
-      let here = depends.1 in
-      let w = locate_all entries i.member i.number (Event (receipt_of d)) here in
-      filter_map-At receipt_in entries w.0 (Event (receipt_of d)) d w.2 refl
+    -- a candidate's orphan is of the group
+    pub orphan_below : (q : ℕ) (cut : Cut) (members : Members) → IsCandidate run i d q cut members → q < 16
+    orphan_below q cut members candidate =
+        let depends = candidate.moment.depends in
+        let there = last_there depends.1 in
+        let below = of_group run entries refl rules struck q depends.0 there.0 there.1 in
+        (let size = rules.size.1 in omega (arith, below, size))
+
+    -- where there is no candidate it is safe at each moment
+    pub safe_moments : IsFirstAmong run i d IsAny None → (cut : Cut) → IsMoment run.logs cut → ¬ (IsUnsafeAt run cut i)
+    safe_moments none cut moment u =
+        let members = u.0 in
+        let may = u.1 in
+        let q = u.3.0 in
+        let name = one_name u.2.1.0 u.2.1.1 in
+        let lost = subst (λ (e : Determinant). LosesAt run cut members e) name u.2.1.2 in
+        some_least_dependent run entries refl rules struck cut moment i q u.3.1.1 (λ least is_least same before.
+        let stands = stands_earlier run.logs least cut before i (come_there run entries refl rules struck least is_least.moment i q is_least.depends) u.2.0 in
+        some_struck_or_hold run entries refl rules struck least d (λ holders are.
+        let within = λ (r : ℕ) (h : set.contains holders r ≡ true). lost_contains run entries refl rules struck cut members may d lost r
+        (elim ((are r).0 h) [ inl x ↦ inl x | inr x ↦ inr (holds_later run.logs least cut before (λ p. (same p).0) d r x) ]) in
+        let fewer = len-within (set.len holders) holders members refl within in
+        none q least holders tt (record {
+          moment = is_least;
+          stands = stands;
+          least = record { unstored = λ stored. lost.0 (stored_later run.logs least cut before d stored); least = are; few = (let n = may.few in omega (arith, fewer, n)) };
+          left = out holders q (within q) u.3.1.0;
+        }))) where
+          out : (strike : Members) (q : ℕ) → (set.contains strike q ≡ true → set.contains u.0 q ≡ true) → set.contains u.0 q ≡ false → set.contains strike q ≡ false
+          out strike q within left = at_test (set.contains strike q) refl where
+            at_test : (b : Bool) → set.contains strike q ≡ b → set.contains strike q ≡ false
+            at_test true has = absurd (false≢true (sym left ∙ within has))
+            at_test false no'' = no''
+
+    -- ---- what is said
+
+    -- what is said at a cut where the run is judged
+    said_at : (said : UnsafeReceipt) (cut : Cut) (p : ℕ) → StandsAt entries p i → IsSaidWith run cut i p d said → IsSaidAt log i said log.judged said.at → (said.place ≡ p) × IsSaidOf log i said
+    said_at said cut p stands with' moment = (
+      with'.place,
+      record {
+        place = subst (λ (x : ℕ). StandsAt entries x i) (sym with'.place) stands;
+        receipt = subst (λ (e : Determinant). IsReceiptAt run.logs e i) (sym with'.determinant) receipt;
+        moment = moment;
+        stands = subst (λ (x : Cut). Stands run.logs x i) (sym with'.moment) with'.stands;
+        strike = least;
+        loss = subst (λ (e : Determinant). IsLeastLoss run (cut_of said.moment) e said.strike) (sym with'.determinant) (least_loss (cut_of said.moment) said.strike least');
+        orphans = subst (λ (x : Cut). (q : ℕ) → (set.contains said.orphans q ≡ true) ↔ IsLeftOrphanAt run x said.strike i q) (sym with'.moment) with'.orphans;
+        some = with'.some;
+      },
+    ) where
+      least' : IsLeastStrike run (cut_of said.moment) d said.strike
+      least' = subst (λ (x : Cut). IsLeastStrike run x d said.strike) (sym with'.moment) with'.strike
+
+      least : IsLeastStrike run (cut_of said.moment) said.determinant said.strike
+      least = subst (λ (e : Determinant). IsLeastStrike run (cut_of said.moment) e said.strike) (sym with'.determinant) least'
+
+    pub said_at_end : (o : Option UnsafeReceipt) (p : ℕ) → StandsAt entries p i → log.judged ≡ AtItsEnd → MatchOption o (¬ (IsUnsafeAtEnd run i)) (IsSaidAtEnd run i p d)
+        → MatchOption o (¬ (IsUnsafe run i)) (λ said. (said.place ≡ p) × IsSaidOf log i said)
+    said_at_end None p stands end safe = λ u. (let here = subst (λ (j : Judged). IsJudgedAt j run.logs u.0) end u.1 in safe (subst (λ (cut : Cut). IsUnsafeAt run cut i) here u.2))
+    said_at_end (Some said) p stands end is =
+        let P : Judged → Option ℕ → Type 0 = λ j o. IsSaidAt log i said j o in
+        said_at said (last_cut run.logs) p stands is.2 (subst (λ (j : Judged). P j said.at) (sym end) (subst (P AtItsEnd) (sym is.0) (is.2.moment, is.1)))
+
+    pub said_at_moment : (o : Option UnsafeReceipt) (p : ℕ) → StandsAt entries p i → log.judged ≡ AtEachMoment → IsSaidFirst log i p d o
+        → MatchOption o (¬ (IsUnsafe run i)) (λ said. (said.place ≡ p) × IsSaidOf log i said)
+    said_at_moment None p stands each none = λ u. safe_moments none u.0 (subst (λ (j : Judged). IsJudgedAt j run.logs u.0) each u.1) u.2
+    said_at_moment (Some said) p stands each (f, first, is) =
+        let P : Judged → Option ℕ → Type 0 = λ j o. IsSaidAt log i said j o in
+        let chosen : IsFirstCandidate run i d f.orphan (cut_of f.moment) f.strike = record {
+          candidate = first.0.is;
+          first = λ q cut members candidate. first.1 q cut members tt candidate;
+        } in
+        let with_cut = subst (λ (x : Cut). IsFirstCandidate run i d f.orphan x f.strike) (sym is.says.moment) chosen in
+        let with_strike = subst (λ (s : Members). IsFirstCandidate run i d f.orphan (cut_of said.moment) s) (sym is.strike) with_cut in
+        let with_name = subst (λ (e : Determinant). IsFirstCandidate run i e f.orphan (cut_of said.moment) said.strike) (sym is.says.determinant) with_strike in
+        let named = subst (λ (x : Cut). IsNamed run i f.orphan x is.named.0) (sym is.says.moment) is.named.2 in
+        said_at said (cut_of f.moment) p stands is.says (subst (λ (j : Judged). P j said.at) (sym each) (subst (P AtEachMoment) (sym is.listed) (f.orphan, with_name, is.shown, (is.named.0, is.named.1, named))))
 
 -- ---- all receipts
 
-said_is_unsafe : (run : RunParts) (d : Determinant) (said : UnsafeReceipt) → IsSaidOf run d said → IsUnsafe (run_of run) d
-said_is_unsafe run d said is = (is.cut, judged run.judged said.at is.moment, (said.strike, is.loss.may, is.loss.loses, (is.some.0, (is.orphans is.some.0).0 is.some.1))) where
-  judged : (j : Judged) (o : Option ℕ) → IsSaidAt run d said.strike j o is.cut → IsJudgedAt j (log_of run.entries) is.cut
-  judged AtItsEnd None end = end
-  judged AtEachMoment (Some place) first = first.2.candidate.moment.moment
-  judged AtItsEnd (Some place) no' = absurd no'
-  judged AtEachMoment None no' = absurd no'
+-- what is no receipt is none
+pub no_receipt_place : (run : RunParts) (p : ℕ) (e : Entry) → slice_get run.entries p ≡ Some e → receipt_in e ≡ None → (i : Position) → ¬ (IsReceiptPlace run p i)
+no_receipt_place run p e here none i (stands, (d, receipt)) =
+    let there = stands_at run.entries p i e stands here in
+    let same : receipt.0 ≡ e = (let some : Some receipt.0 ≡ Some e = sym receipt.1 ∙ there in cc) in
+    (let no' : Some d ≡ None = sym receipt.2 ∙ ap receipt_in same ∙ none in cc)
 
--- nothing is said exactly where no receipt is unsafe
-says_none : (log : RunParts) (ds : List Determinant) (said : List UnsafeReceipt) → SaysUnsafe log ds said
-    → (said ≡ []) ↔ ((i : ℕ) (d : Determinant) → slice_get ds i ≡ Some d → ¬ (IsUnsafe (run_of log) d))
-says_none log [] said says = (λ none i d at. cc, λ none. says)
-says_none log (e ∷ ds) said says = elim says [
+said_is_unsafe : (run : RunParts) (i : Position) (said : UnsafeReceipt) → IsSaidOf run i said → IsUnsafe (run_of run) i
+said_is_unsafe run i said is =
+    (cut_of said.moment, judged run.judged said.at is.moment, (said.strike, is.loss.may, (is.stands, (said.determinant, is.receipt, is.loss.loses)), (is.some.0, (is.orphans is.some.0).0 is.some.1))) where
+      judged : (j : Judged) (o : Option ℕ) → IsSaidAt run i said j o → IsJudgedAt j (log_of run.entries) (cut_of said.moment)
+      judged AtItsEnd None end = end.0
+      judged AtEachMoment (Some place) first = first.1.candidate.moment.moment
+      judged AtItsEnd (Some place) no' = absurd no'
+      judged AtEachMoment None no' = absurd no'
+
+-- nothing is said exactly where no receipt from the place on is unsafe
+says_none : (log : RunParts) (p : ℕ) (es : List Entry) (said : List UnsafeReceipt) → SaysUnsafe log p es said
+    → (said ≡ []) ↔ ((k : ℕ) (i : Position) → k < length es → IsReceiptPlace log (p + k) i → ¬ (IsUnsafe (run_of log) i))
+says_none log p [] said says = (λ none k i below at. absurd (omega (arith, below)), λ none. says)
+says_none log p (e ∷ es) said says = elim says [
   | inl safe ↦
-      let rest = says_none log ds said safe.1 in (
-        λ none. elim [ zero ↦ λ d at. (let same : e ≡ d = cc in rw same at safe.0) | suc i ↦ rest.0 none i ],
-        λ none. rest.1 (λ i. none (suc i)),
+      let rest = says_none log (p + 1) es said safe.1 in (
+        λ none. elim [
+          | zero ↦ λ i below at. safe.0 i (let same : p + 0 ≡ p = omega arith in subst (λ (x : ℕ). IsReceiptPlace log x i) same at)
+          | suc k ↦ λ i below at. rest.0 none k i (omega (arith, below)) (let same : p + suc k ≡ (p + 1) + k = omega arith in subst (λ (x : ℕ). IsReceiptPlace log x i) same at)
+        ],
+        λ none. rest.1 (λ k i below at. none (suc k) i (omega (arith, below)) (let same : (p + 1) + k ≡ p + suc k = omega arith in subst (λ (x : ℕ). IsReceiptPlace log x i) same at)),
       )
-  | inr un ↦ (λ none. absurd (let no : [] ≡ un.0 ∷ un.1 = sym none ∙ un.2 in cc), λ none. absurd (none zero e refl (said_is_unsafe log e un.0 un.3)))
+  | inr un ↦ (
+    λ none. absurd (let no : [] ≡ un.1 ∷ un.2 = sym none ∙ un.3 in cc),
+    λ none. absurd (none zero un.0 (omega arith) (let same : p ≡ p + 0 = omega arith in
+        subst (λ (x : ℕ). IsReceiptPlace log x un.0) same (subst (λ (x : ℕ). StandsAt log.entries x un.0) un.4 un.5.place, (un.1.determinant, un.5.receipt)))
+        (said_is_unsafe log un.0 un.1 un.5)),
+  )
 ]
 
--- the run is safe exactly where nothing is said
--- where no receipt is unsafe the run is safe
-pub none_unsafe : (log : RunParts) (rules : AreEntries log.members log.entries) (struck : AllBelow log.strike log.members)
-    → ((k : ℕ) (d : Determinant) → slice_get (receipts_in log.entries) k ≡ Some d → ¬ (IsUnsafe (run_of log) d)) → IsSafe (run_of log)
-none_unsafe log rules struck none cut moment members may q orphan =
-    let d = orphan.1.0 in
-    let u : IsUnsafe (run_of log) d = (cut, moment, (members, may, orphan.1.1, (q, (orphan.0, orphan.1.2)))) in
-    let there = unsafe_there log rules struck d u in
-    none there.0 d there.1 u
+-- an unsafe receipt is one of the entries
+unsafe_there : (log : RunParts) (i : Position) → IsUnsafe (run_of log) i → (p : ℕ) × (p < length log.entries) × IsReceiptPlace log p i
+unsafe_there log i u =
+    let receipt = u.2.2.1 in
+    let w = stands_somewhere log.entries i receipt.1.0 receipt.1.1 in
+    (w.0, slice_get_within log.entries w.0 receipt.1.0 w.1, (w.2, (receipt.0, receipt.1)))
 
-pub says_safe : (log : RunParts) (rules : AreEntries log.members log.entries) (struck : AllBelow log.strike log.members) (said : List UnsafeReceipt)
-    → SaysUnsafe log (receipts_in log.entries) said → (said ≡ []) ↔ IsSafe (run_of log)
-says_safe log rules struck said says = (
-  λ none. none_unsafe log rules struck ((says_none log (receipts_in log.entries) said says).0 none),
-  λ safe. (says_none log (receipts_in log.entries) said says).1 (λ i d at u. safe u.0 u.1 u.2.0 u.2.1 u.2.3.0 (u.2.3.1.0, (d, u.2.2, u.2.3.1.1))),
+-- where no receipt is unsafe the run is safe
+pub none_unsafe : (log : RunParts) → ((p : ℕ) (i : Position) → p < length log.entries → IsReceiptPlace log p i → ¬ (IsUnsafe (run_of log) i)) → IsSafe (run_of log)
+none_unsafe log none cut moment members may q orphan =
+    let i = orphan.1.0 in
+    let u : IsUnsafe (run_of log) i = (cut, moment, (members, may, orphan.1.1, (q, (orphan.0, orphan.1.2)))) in
+    let there = unsafe_there log i u in
+    none there.0 i there.1 there.2 u
+
+pub says_safe : (log : RunParts) (said : List UnsafeReceipt) → SaysUnsafe log 0 log.entries said → (said ≡ []) ↔ IsSafe (run_of log)
+says_safe log said says = (
+  λ none. none_unsafe log (λ p i below at. (says_none log 0 log.entries said says).0 none p i below (let same : p ≡ 0 + p = omega arith in subst (λ (x : ℕ). IsReceiptPlace log x i) same at)),
+  λ safe. (says_none log 0 log.entries said says).1 (λ k i below at u. safe u.0 u.1 u.2.0 u.2.1 u.2.3.0 (u.2.3.1.0, (i, u.2.2, u.2.3.1.1))),
 )
 
 -- each that is said is said of its receipt
-pub says_each : (log : RunParts) (ds : List Determinant) (said : List UnsafeReceipt) → SaysUnsafe log ds said → (i : ℕ) (one : UnsafeReceipt) → slice_get said i ≡ Some one → IsSaidOf log one.determinant one
-says_each log [] said says i one here = absurd (let none : slice_get [] i ≡ Some one = subst (λ (s : List UnsafeReceipt). slice_get s i ≡ Some one) says here in cc)
-says_each log (d ∷ ds) said says i one here = elim says [
-  | inl safe ↦ says_each log ds said safe.1 i one here
-  | inr un ↦ at_place un.0 un.1 un.3 (says_each log ds un.1 un.4) i (subst (λ (s : List UnsafeReceipt). slice_get s i ≡ Some one) un.2 here)
+pub says_each : (log : RunParts) (p : ℕ) (es : List Entry) (said : List UnsafeReceipt) → SaysUnsafe log p es said → (k : ℕ) (one : UnsafeReceipt) → slice_get said k ≡ Some one → (i : Position) × IsSaidOf log i one
+says_each log p [] said says k one here = absurd (let none : slice_get [] k ≡ Some one = subst (λ (s : List UnsafeReceipt). slice_get s k ≡ Some one) says here in cc)
+says_each log p (e ∷ es) said says k one here = elim says [
+  | inl safe ↦ says_each log (p + 1) es said safe.1 k one here
+  | inr un ↦ at_place un.0 un.1 un.2 un.5 (says_each log (p + 1) es un.2 un.6) k (subst (λ (s : List UnsafeReceipt). slice_get s k ≡ Some one) un.3 here)
 ] where
-  at_place : (first : UnsafeReceipt) (rest : List UnsafeReceipt) → IsSaidOf log d first → ((i : ℕ) (one : UnsafeReceipt) → slice_get rest i ≡ Some one → IsSaidOf log one.determinant one)
-      → (i : ℕ) → slice_get (first ∷ rest) i ≡ Some one → IsSaidOf log one.determinant one
-  at_place first rest is others zero here =
-      let same : first ≡ one = cc in
-      subst (λ (x : UnsafeReceipt). IsSaidOf log x.determinant x) same (subst (λ (d : Determinant). IsSaidOf log d first) (sym is.determinant) is)
-  at_place first rest is others (suc i) here = others i one here
-
--- ---- the first unsafe one
-
--- one receipt more
-pub receipts_some : (entries : List Entry) (k : ℕ) (e : Entry) (d : Determinant) → slice_get entries k ≡ Some e → receipt_in e ≡ Some d
-    → receipts_in (take (k + 1) entries) ≡ receipts_in (take k entries) ++ d ∷ []
-receipts_some entries k e d here is = (let more : k + 1 ≡ suc k = omega arith in rw (more, take-more entries k e here, filter_map-append receipt_in (take k entries) (e ∷ []), is) refl)
-
--- or none
-pub receipts_none : (entries : List Entry) (k : ℕ) (e : Entry) → slice_get entries k ≡ Some e → receipt_in e ≡ None → receipts_in (take (k + 1) entries) ≡ receipts_in (take k entries)
-receipts_none entries k e here is = (let more : k + 1 ≡ suc k = omega arith in rw (more, take-more entries k e here, filter_map-append receipt_in (take k entries) (e ∷ []), is, append-nil) refl)
-
--- the receipts before it and behind it
-pub receipts_around : (entries : List Entry) (k : ℕ) (e : Entry) (d : Determinant) → slice_get entries k ≡ Some e → receipt_in e ≡ Some d
-    → receipts_in entries ≡ receipts_in (take k entries) ++ d ∷ receipts_in (drop (k + 1) entries)
-receipts_around entries k e d here is =
-    ap receipts_in (sym (take-append-drop k entries)) ∙ filter_map-append receipt_in (take k entries) (drop k entries)
-    ∙ ap (λ es. receipts_in (take k entries) ++ receipts_in es) (drop_next entries k e here) ∙ (rw is refl)
+  at_place : (i : Position) (first : UnsafeReceipt) (rest : List UnsafeReceipt) → IsSaidOf log i first → ((k : ℕ) (one : UnsafeReceipt) → slice_get rest k ≡ Some one → (i : Position) × IsSaidOf log i one)
+      → (k : ℕ) → slice_get (first ∷ rest) k ≡ Some one → (i : Position) × IsSaidOf log i one
+  at_place i first rest is others zero here = (let same : first ≡ one = cc in (i, subst (λ (x : UnsafeReceipt). IsSaidOf log i x) same is))
+  at_place i first rest is others (suc k) here = others k one here

@@ -1,50 +1,72 @@
 -- What the loss of the strike set does at a run's last moment.
-use Rattle.std.specs.Prelude.{ℕ, ◌≡◌, ◌<◌, ◌↔◌, ◌⊎◌, true, List, [], ◌∷◌, Option, Some, None, slice_get}
+use Rattle.std.specs.Prelude.{ℕ, ◌≡◌, ◌<◌, ◌+◌, ◌↔◌, ◌⊎◌, true, List, [], ◌∷◌, Option, Some, None, slice_get}
 use Rattle.std.specs.FinSet as set
-use Rattle.fbl_trace.specs.declared.trace.Determinant.{Determinant}
+use Rattle.std.specs.List.{All}
 use Rattle.fbl_judge.specs.declared.audit.Audit.{Audit}
+use Rattle.fbl_judge.specs.declared.audit.LostReceipt.{LostReceipt}
+use Rattle.fbl_runs.specs.declared.causality.Causality.TheVariants.{Dependence}
+use Rattle.fbl_runs.specs.declared.entry.Entry.{Entry}
 use Rattle.fbl_runs.specs.Clocks.{StandsAt}
-use Rattle.fbl_runs.specs.Entries.{log_of, receipts_in}
-use Rattle.fbl_runs.specs.HappenedBefore.{Position}
+use Rattle.fbl_runs.specs.Entries.{log_of}
+use Rattle.fbl_runs.specs.HappenedBefore.{Position, Precedes}
 use Rattle.fbl_runs.specs.Logs.{RunParts, run_of}
-use Rattle.fbl_runs.specs.Moments.{Cut, DependsAt, DependsOn, last_cut}
-use Rattle.fbl_runs.specs.Runs.{IsOrphanAt, LosesAt, Run}
-
--- of these receipts exactly those that the loss of the struck ones loses at the cut, in their order
-abbrev pub AreLost : Run → Cut → List Determinant → List Determinant → Type 0
-AreLost run cut [] lost = lost ≡ []
-AreLost run cut (d ∷ ds) lost =
-    (¬ (LosesAt run cut run.strike d) × AreLost run cut ds lost)
-    ⊎ (LosesAt run cut run.strike d × ((rest : List Determinant) × (lost ≡ d ∷ rest) × AreLost run cut ds rest))
+use Rattle.fbl_runs.specs.Moments.{Cut, DependsAt, IsReceiptAt, Stands, last_cut}
+use Rattle.fbl_runs.specs.Runs.{IsOrphanAt, LosesReceiptAt}
+use Rattle.fbl_judge.specs.Unsafe.{IsReceiptPlace}
 
 -- all entries of the run have come
 abbrev pub end_of : RunParts → Cut
 end_of run = last_cut (log_of run.entries)
 
--- the lost receipts are those that the loss of the struck members loses at the last moment, in the order of the entries
-abbrev pub AreAllLost : RunParts → List Determinant → Type 0
-AreAllLost run lost = AreLost (run_of run) (end_of run) (receipts_in run.entries) lost
+-- the receipt stands at the end, and the loss of the struck ones loses it there
+abbrev pub IsLost : RunParts → Position → Type 0
+IsLost run i = LosesReceiptAt (run_of run) (end_of run) run.strike i
 
--- and the orphans are those whom it leaves as orphans there
+-- the receipt is named by its place and its determinant
+pub record IsNamedBy (run : RunParts) (i : Position) (receipt : LostReceipt) : Type 0 where
+  pub place : StandsAt run.entries receipt.place i
+  pub determinant : IsReceiptAt (log_of run.entries) receipt.determinant i
+
+-- of the receipts from a place on, which has so many entries behind it, exactly the lost ones, in their order
+abbrev pub AreLost : RunParts → ℕ → List Entry → List LostReceipt → Type 0
+AreLost run place [] lost = lost ≡ []
+AreLost run place (e ∷ entries) lost =
+    (((i : Position) → IsReceiptPlace run place i → ¬ (IsLost run i)) × AreLost run (place + 1) entries lost)
+    ⊎ ((i : Position) × (first : LostReceipt) × (rest : List LostReceipt) × (lost ≡ first ∷ rest) × (first.place ≡ place) × IsNamedBy run i first × IsLost run i
+    × AreLost run (place + 1) entries rest)
+
+-- each is named by its place and its determinant
+abbrev pub AreNamed : RunParts → List LostReceipt → Type 0
+AreNamed run receipts = All (λ receipt. (i : Position) × IsNamedBy run i receipt) receipts
+
+-- the lost receipts are those that the loss of the struck members loses at the last moment, in the order of the entries, and the orphans are
+-- those whom it leaves as orphans there
 pub record IsAudit (run : RunParts) (audit : Audit) : Type 0 where
-  pub lost : AreAllLost run audit.lost.items
+  pub lost : AreLost run 0 run.entries audit.lost.items
+  pub named : AreNamed run audit.lost.items
   pub orphans : (q : ℕ) → (set.contains audit.orphans q ≡ true) ↔ IsOrphanAt (run_of run) (end_of run) run.strike q
 
 -- ---- where orphans start
 
--- the entry at the place is the member's, and depends on one of these receipts
-abbrev pub DependsOnAny : RunParts → List Determinant → ℕ → ℕ → Type 0
-DependsOnAny run lost member place =
-    (j : Position) × StandsAt run.entries place j × (j.member ≡ member) × ((k : ℕ) × (d : Determinant) × (slice_get lost k ≡ Some d) × DependsOn (log_of run.entries) d j)
+-- the entry at the place is the member's, stands at the cut, and depends on one of these receipts
+abbrev pub DependsOnAny : RunParts → Cut → List LostReceipt → ℕ → ℕ → Type 0
+DependsOnAny run cut lost member place =
+    (j : Position) × StandsAt run.entries place j × (j.member ≡ member) × Stands (log_of run.entries) cut j
+    × ((k : ℕ) × (receipt : LostReceipt) × (i : Position) × (slice_get lost k ≡ Some receipt) × StandsAt run.entries receipt.place i
+    × Precedes Dependence (log_of run.entries) i j)
 
 -- the member's first entry that does, if there is one
-abbrev pub IsFirstOnAny : RunParts → List Determinant → ℕ → Option ℕ → Type 0
-IsFirstOnAny run lost member None = (place : ℕ) → ¬ (DependsOnAny run lost member place)
-IsFirstOnAny run lost member (Some place) = DependsOnAny run lost member place × ((other : ℕ) → other < place → ¬ (DependsOnAny run lost member other))
+abbrev pub IsFirstOnAny : RunParts → Cut → List LostReceipt → ℕ → Option ℕ → Type 0
+IsFirstOnAny run cut lost member None = (place : ℕ) → ¬ (DependsOnAny run cut lost member place)
+IsFirstOnAny run cut lost member (Some place) = DependsOnAny run cut lost member place × ((other : ℕ) → other < place → ¬ (DependsOnAny run cut lost member other))
 
--- the first of these receipts on which the member depends at the end, if there is one
-abbrev pub IsFirstCause : RunParts → List Determinant → ℕ → Option Determinant → Type 0
-IsFirstCause run lost member None = (k : ℕ) (d : Determinant) → slice_get lost k ≡ Some d → ¬ (DependsAt (log_of run.entries) (end_of run) d member)
-IsFirstCause run lost member (Some d) =
-    (k : ℕ) × (slice_get lost k ≡ Some d) × DependsAt (log_of run.entries) (end_of run) d member
-    × ((l : ℕ) (e : Determinant) → l < k → slice_get lost l ≡ Some e → ¬ (DependsAt (log_of run.entries) (end_of run) e member))
+-- the member depends on the receipt at the cut
+abbrev pub DependsOn : RunParts → Cut → LostReceipt → ℕ → Type 0
+DependsOn run cut receipt member = (i : Position) × StandsAt run.entries receipt.place i × DependsAt (log_of run.entries) cut i member
+
+-- the first of these receipts on which the member depends at the cut, if there is one
+abbrev pub IsFirstCause : RunParts → Cut → List LostReceipt → ℕ → Option LostReceipt → Type 0
+IsFirstCause run cut lost member None = (k : ℕ) (receipt : LostReceipt) → slice_get lost k ≡ Some receipt → ¬ (DependsOn run cut receipt member)
+IsFirstCause run cut lost member (Some receipt) =
+    (k : ℕ) × (slice_get lost k ≡ Some receipt) × DependsOn run cut receipt member
+    × ((l : ℕ) (other : LostReceipt) → l < k → slice_get lost l ≡ Some other → ¬ (DependsOn run cut other member))

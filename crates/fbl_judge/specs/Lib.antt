@@ -1,8 +1,10 @@
 pub mod Pasts
+pub mod Views
 pub mod Unsafe
 pub mod Candidates
+pub mod Dependents
 pub mod Audits
 pub mod Paths
-pub mod Records
 pub mod Reasons
+pub mod Undone
 pub mod Laws

@@ -1,33 +1,53 @@
 //! The audit of a run: what the loss of the strike set does at its last moment.
 
-ghost use Rattle.std.specs.Prelude.{◌≡◌, ◌↔◌, true, IfOk};
-ghost use Rattle.fbl_runs.specs.Clocks.{cut_of};
+ghost use Rattle.std.specs.Prelude.{◌≡◌, ◌≤◌, ◌↔◌, ℕ, true, IfOk, length};
+ghost use Rattle.fbl_runs.specs.Clocks.{StandsAt, cut_of};
+ghost use Rattle.fbl_runs.specs.Entries.{log_of};
+ghost use Rattle.fbl_runs.specs.HappenedBefore.{Position};
 ghost use Rattle.fbl_runs.specs.Logs.{run_of};
-ghost use Rattle.fbl_runs.specs.Runs.{LosesAt};
-ghost use Rattle.fbl_judge.specs.Audits.{IsAudit, IsFirstCause, IsFirstOnAny};
+ghost use Rattle.fbl_runs.specs.Runs.{LosesReceiptAt};
+ghost use Rattle.fbl_judge.specs.Audits.{AreNamed, IsAudit, IsNamedBy, IsFirstCause, IsFirstOnAny};
 
+use crate::named::first_dependent_place;
 use crate::pasts::Pasts;
 use fbl_runs::Clock;
 use fbl_trace::{Determinant, Member, MemberSet};
 use std::alloc::{AllocError, Global};
 
+/// A receipt that is lost.
+#[derive(Clone, Copy, PartialEq, Eq, Debug)]
+pub struct LostReceipt {
+    /// Its place, from 0.
+    pub place: usize,
+    /// What names it.
+    pub determinant: Determinant,
+}
+
 /// What the loss of the strike set does at the last moment of a run.
 #[derive(Drop)]
 pub struct Audit {
-    /// What names the lost receipts, in the order of the entries: those that are not on stable storage, and that nobody outside the strike
-    /// set holds.
-    pub lost: Vec<Determinant>,
+    /// The lost receipts, in the order of the entries: those that stand, are not on stable storage, and that nobody outside the strike set
+    /// holds.
+    pub lost: Vec<LostReceipt>,
     /// The members outside the strike set that depend on one of these.
     pub orphans: MemberSet,
 }
 
-/// Whether the loss of the strike set loses the receipt with the determinant at the clock's cut.
-fn loses(pasts: &Pasts<'_>, determinant: &Determinant, moment: &Clock) -> bool
-    ensures { (result ≡ true) ↔ LosesAt (run_of pasts.now) (cut_of moment.now) pasts.now.strike determinant.now }
+/// Whether the loss of the strike set loses the receipt at the clock's cut.
+fn loses(pasts: &Pasts<'_>, receipt: &LostReceipt, moment: &Clock) -> bool
+    requires named { (i : Position) × IsNamedBy pasts.now i receipt.now }
+    requires within { (q : ℕ) → cut_of moment.now q ≤ length (log_of pasts.now.entries q) }
+    ensures { (i : Position) → StandsAt pasts.now.entries receipt.now.place i
+        → (result ≡ true) ↔ LosesReceiptAt (run_of pasts.now) (cut_of moment.now) pasts.now.strike i }
 {
-    let records = pasts.index().records(determinant);
-    let holders = records.holders(moment);
-    !records.is_stored(moment) && holders.without(pasts.run().strike()).is_empty()
+    let index = pasts.index();
+    let determinant = &receipt.determinant;
+    pasts.stands(receipt.place, moment)
+        && !index.is_stored(determinant, moment)
+        && index
+            .holders(determinant, moment)
+            .without(pasts.run().strike())
+            .is_empty()
 }
 
 /// The audit of the run's last moment. The time taken is that of the entries times the members. `Err` comes only where there is no memory
@@ -40,10 +60,10 @@ pub fn audit_of(alloc: Global, pasts: &Pasts<'_>) -> Result<Audit, AllocError>
     let mut dependents = MemberSet::empty();
     for (place, entry) in pasts.entries().iter().enumerate() {
         if let Some(determinant) = entry.receipt() {
-            if loses(pasts, &determinant, &last) {
-                lost.push(determinant)?;
-                let reached = pasts.reached(determinant.to, pasts.number(place), &last);
-                dependents = dependents.union(reached);
+            let receipt = LostReceipt { place, determinant };
+            if loses(pasts, &receipt, &last) {
+                lost.push(receipt)?;
+                dependents = dependents.union(pasts.dependents(place, &last));
             }
         }
     }
@@ -51,13 +71,19 @@ pub fn audit_of(alloc: Global, pasts: &Pasts<'_>) -> Result<Audit, AllocError>
     Ok(Audit { lost, orphans })
 }
 
-/// The place of the member's first entry that depends on one of these receipts.
-pub fn first_on_any(pasts: &Pasts<'_>, lost: &[Determinant], member: Member) -> Option<usize>
-    ensures { IsFirstOnAny pasts.now lost.now member result }
+/// The place of the member's first entry that stands at the clock's cut and depends on one of these receipts.
+pub fn first_on_any(
+    pasts: &Pasts<'_>,
+    lost: &[LostReceipt],
+    member: Member,
+    moment: &Clock,
+) -> Option<usize>
+    requires { AreNamed pasts.now lost.now }
+    ensures { IsFirstOnAny pasts.now (cut_of moment.now) lost.now member result }
 {
     let mut first: Option<usize> = None;
-    for determinant in lost {
-        if let Some(place) = pasts.dependent_place(determinant, member) {
+    for receipt in lost {
+        if let Some(place) = first_dependent_place(pasts, receipt.place, member, moment) {
             first = Some(match first {
                 Some(before) => before.min(place),
                 None => place,
@@ -67,13 +93,19 @@ pub fn first_on_any(pasts: &Pasts<'_>, lost: &[Determinant], member: Member) -> 
     first
 }
 
-/// The first of these receipts on which the member depends at the run's end.
-pub fn first_cause(pasts: &Pasts<'_>, lost: &[Determinant], member: Member) -> Option<Determinant>
-    ensures { IsFirstCause pasts.now lost.now member result }
+/// The first of these receipts on which the member depends at the clock's cut.
+pub fn first_cause(
+    pasts: &Pasts<'_>,
+    lost: &[LostReceipt],
+    member: Member,
+    moment: &Clock,
+) -> Option<LostReceipt>
+    requires { AreNamed pasts.now lost.now }
+    ensures { IsFirstCause pasts.now (cut_of moment.now) lost.now member result }
 {
-    for determinant in lost {
-        if pasts.first_dependent(determinant, member).is_some() {
-            return Some(*determinant);
+    for receipt in lost {
+        if first_dependent_place(pasts, receipt.place, member, moment).is_some() {
+            return Some(*receipt);
         }
     }
     None

@@ -1,61 +1,70 @@
 //! Which receipts of a run are unsafe where it is judged.
 
-ghost use Rattle.std.specs.Prelude.{◌≡◌, ◌↔◌, ◌≤◌, ◌⊎◌, ℕ, true, false, [], IfOk, MatchOption, length};
+ghost use Rattle.std.specs.Prelude.{◌≡◌, ◌↔◌, ◌<◌, ◌≤◌, ◌⊎◌, ℕ, true, false, [], IfOk, MatchOption, length};
 ghost use Rattle.std.specs.FinSet as set;
-ghost use Rattle.fbl_runs.specs.Clocks.{cut_of};
-ghost use Rattle.fbl_runs.specs.Entries.{log_of, receipts_in};
-ghost use Rattle.fbl_runs.specs.HappenedBefore.{at};
-ghost use Rattle.fbl_runs.specs.Indexes.{AreRecords};
+ghost use Rattle.fbl_runs.specs.Clocks.{StandsAt, cut_of};
+ghost use Rattle.fbl_runs.specs.Entries.{log_of};
+ghost use Rattle.fbl_runs.specs.HappenedBefore.{Position};
 ghost use Rattle.fbl_runs.specs.Logs.{IsRun, run_of};
-ghost use Rattle.fbl_runs.specs.Moments.{IsReceiptAt};
 ghost use Rattle.fbl_runs.specs.Runs.{IsSafe};
-ghost use Rattle.fbl_judge.specs.Candidates.{HasNoCandidate, IsCandidateOf, IsFirstBelow, IsFirstOf, IsLeastIn, IsSaidAtEnd, IsSaidFirst, IsUnsafeAtEnd};
+ghost use Rattle.fbl_judge.specs.Candidates.{HasFewer, IsAlike, IsAny, IsBefore, IsFirstAmong, IsFirstOf, IsLeastIn, IsLeastOut, IsLeastUnlike, IsOfLesser, IsOfMember, IsReceiptHere, IsSaidAtEnd, IsSaidFirst, IsUnsafeAtEnd, IsWithin, NoneDepends};
 ghost use Rattle.fbl_judge.specs.Unsafe.{IsFewer, IsFirstUnsafe, IsLeastStrike, IsLeftOrphanAt, IsSaidOf, IsUnsafe, ListsFirst, SaysUnsafe};
+ghost use Rattle.fbl_judge.specs.Views.{IsView};
 
+use crate::named::named_place;
 use crate::pasts::Pasts;
-use fbl_runs::{Clock, Judged, Records};
+use crate::view::View;
+use fbl_runs::{Clock, Judged};
 use fbl_trace::{Determinant, Member, MemberSet};
 use std::alloc::{AllocError, Global};
 
 /// A receipt that some members may lose, where the run is judged, with an orphan left.
-#[derive(Clone, Copy, PartialEq, Eq, Debug)]
+#[derive(Clone, Copy)]
 pub struct UnsafeReceipt {
-    /// What names the receipt.
+    /// Its place, from 0, among the entries.
+    pub place: usize,
+    /// What names it.
     pub determinant: Determinant,
-    /// The place, from 0, of the entry whose past and step are the moment: a receipt, and its member's first entry that depends on this
-    /// one; or none, if the run is judged at its end.
+    /// The place of the entry by which the moment is named, or none, if the run is judged at its end: the orphan's first entry that stands
+    /// and depends on the receipt, or else of the last restarts that did not happen before that the one of the least member.
     pub at: Option<usize>,
-    /// The least members whose loss there loses the receipt: those of the strike set and those that hold its determinant.
+    /// The least members whose loss at the moment loses the receipt: those of the strike set and those that hold its determinant.
     pub strike: MemberSet,
     /// The members outside these that depend on it there. There is one at least.
     pub orphans: MemberSet,
+    /// The moment: the least one with its restarts at which the orphan that is shown depends on the receipt, or the last one.
+    pub moment: Clock,
+    /// The orphans that are to be shown: the one by which the moment was found, or, at the run's end, all.
+    pub shown: MemberSet,
 }
 
-/// A member that the loss of others may leave as an orphan of a receipt, at the least moment at which it depends on it.
+/// A member that the loss of others may leave as an orphan of a receipt, at the least moment, of those with just its restarts, at which it
+/// depends on it.
 #[derive(Clone, Copy)]
 struct Candidate {
     /// The member.
     orphan: Member,
-    /// The number of its first entry that depends on the receipt.
-    first: usize,
     /// The moment.
     moment: Clock,
     /// The least members whose loss there loses the receipt.
     strike: MemberSet,
+    /// What has just the moment's restarts.
+    view: View,
 }
 
-/// The least members whose loss at the clock's cut loses the receipt of whose determinant these are the records, if they may be lost.
-fn least_strike(pasts: &Pasts<'_>, records: &Records, moment: &Clock) -> Option<MemberSet>
-    ensures { (d : _) → AreRecords (log_of pasts.now.entries) d records.now
-        → MatchOption result
-        ((strike : _) → ¬ (IsLeastStrike (run_of pasts.now) (cut_of moment.now) d strike))
-        (IsLeastStrike (run_of pasts.now) (cut_of moment.now) d) }
+/// The least members whose loss at the clock's cut loses the receipt with the determinant, if they may be lost.
+fn least_strike(pasts: &Pasts<'_>, determinant: &Determinant, moment: &Clock) -> Option<MemberSet>
+    requires { (q : ℕ) → cut_of moment.now q ≤ length (log_of pasts.now.entries q) }
+    ensures { MatchOption result
+        ((strike : _) → ¬ (IsLeastStrike (run_of pasts.now) (cut_of moment.now) determinant.now strike))
+        (IsLeastStrike (run_of pasts.now) (cut_of moment.now) determinant.now) }
 {
-    if records.is_stored(moment) {
+    let index = pasts.index();
+    if index.is_stored(determinant, moment) {
         return None;
     }
     let run = pasts.run();
-    let strike = run.strike().union(records.holders(moment));
+    let strike = run.strike().union(index.holders(determinant, moment));
     let most = u32::from(run.f()).max(run.strike().count());
     if strike.count() > most {
         return None;
@@ -63,84 +72,115 @@ fn least_strike(pasts: &Pasts<'_>, records: &Records, moment: &Clock) -> Option<
     Some(strike)
 }
 
-/// The members that the loss of the strike set leaves as orphans of the receipt with the determinant, which has this number in its
-/// receiver's log, at the clock's cut.
-fn orphans_at(
-    pasts: &Pasts<'_>,
-    determinant: &Determinant,
-    number: usize,
-    moment: &Clock,
-    strike: MemberSet,
-) -> MemberSet
-    requires run { IsRun pasts.now }
-    requires receipt { IsReceiptAt (log_of pasts.now.entries) determinant.now (at determinant.now.to number) }
+/// The members that the loss of the strike set leaves as orphans of the receipt at the place, at the clock's cut.
+fn orphans_at(pasts: &Pasts<'_>, place: usize, moment: &Clock, strike: MemberSet) -> MemberSet
+    requires place { place < length pasts.now.entries }
     requires within { (q : ℕ) → cut_of moment.now q ≤ length (log_of pasts.now.entries q) }
-    ensures { (q : ℕ)
-        → (set.contains result q ≡ true)
-        ↔ IsLeftOrphanAt (run_of pasts.now) (cut_of moment.now) strike determinant.now q }
+    ensures { (i : Position) → StandsAt pasts.now.entries place i
+        → (q : ℕ)
+        → (set.contains result q ≡ true) ↔ IsLeftOrphanAt (run_of pasts.now) (cut_of moment.now) strike i q }
 {
-    let dependents = pasts.reached(determinant.to, number, moment);
+    let dependents = pasts.dependents(place, moment);
     dependents.without(strike)
 }
 
-/// What is to be said of the receipt at the run's end.
+/// What is to be said of the receipt at the place at the run's end.
 fn unsafe_at_end(
     pasts: &Pasts<'_>,
-    records: &Records,
+    place: usize,
     determinant: &Determinant,
-    number: usize,
 ) -> Option<UnsafeReceipt>
     requires run { IsRun pasts.now }
-    requires records { AreRecords (log_of pasts.now.entries) determinant.now records.now }
-    requires receipt { IsReceiptAt (log_of pasts.now.entries) determinant.now (at determinant.now.to number) }
-    ensures { MatchOption result (¬ (IsUnsafeAtEnd (run_of pasts.now) determinant.now))
-        (IsSaidAtEnd (run_of pasts.now) determinant.now) }
+    requires receipt { IsReceiptHere pasts.now.entries place determinant.now }
+    ensures { (i : Position) → StandsAt pasts.now.entries place i
+        → MatchOption result (¬ (IsUnsafeAtEnd (run_of pasts.now) i)) (IsSaidAtEnd (run_of pasts.now) i place determinant.now) }
 {
     let end = pasts.last();
-    let strike = least_strike(pasts, records, &end)?;
-    let orphans = orphans_at(pasts, determinant, number, &end, strike);
+    if !pasts.stands(place, &end) {
+        return None;
+    }
+    let strike = least_strike(pasts, determinant, &end)?;
+    let orphans = orphans_at(pasts, place, &end, strike);
     if orphans.is_empty() {
         return None;
     }
     Some(UnsafeReceipt {
+        place,
         determinant: *determinant,
         at: None,
         strike,
         orphans,
+        moment: end,
+        shown: orphans,
     })
 }
 
-/// The receipt's candidate with the member as its orphan, if it has one.
+/// Whether at the clock's cut no restart has come but those of the view.
+fn is_within(view: &View, moment: &Clock) -> bool
+    ensures { (result ≡ true) ↔ IsWithin view.now (cut_of moment.now) }
+{
+    for number in 0..16u8 {
+        if moment.count(Member::at(number)) > view.tops[number as usize] {
+            return false;
+        }
+    }
+    true
+}
+
+/// The least moment with just the view's restarts at which the member depends on the receipt at the place, if there is one.
+fn least_dependent(pasts: &Pasts<'_>, view: &View, place: usize, member: Member) -> Option<Clock>
+    requires run { IsRun pasts.now }
+    requires receipt { (d : _) × IsReceiptHere pasts.now.entries place d }
+    requires view { IsView (log_of pasts.now.entries) view.now }
+    ensures { (i : Position) → StandsAt pasts.now.entries place i
+        → MatchOption result
+        (NoneDepends (log_of pasts.now.entries) i member (cut_of view.now.base))
+        (λ moment. IsLeastIn (log_of pasts.now.entries) i member (cut_of view.now.base) (cut_of moment)) }
+{
+    let at = member.number() as usize;
+    let first = pasts.first_in_life(place, member, view.starts[at], view.tops[at])?;
+    let reached = pasts.moment_at(pasts.index().place(member, first));
+    let moment = view.base.joined(reached);
+    if is_within(view, &moment) {
+        Some(moment)
+    } else {
+        None
+    }
+}
+
+/// The receipt's candidate with the view's restarts and the member as its orphan, if there is one.
 fn candidate_of(
     pasts: &Pasts<'_>,
-    records: &Records,
+    view: &View,
+    place: usize,
     determinant: &Determinant,
-    number: usize,
     member: Member,
 ) -> Option<Candidate>
     requires run { IsRun pasts.now }
-    requires records { AreRecords (log_of pasts.now.entries) determinant.now records.now }
-    requires receipt { IsReceiptAt (log_of pasts.now.entries) determinant.now (at determinant.now.to number) }
-    ensures { MatchOption result (HasNoCandidate (run_of pasts.now) determinant.now member)
-        (IsCandidateOf pasts.now determinant.now member) }
+    requires view { IsView (log_of pasts.now.entries) view.now }
+    requires receipt { IsReceiptHere pasts.now.entries place determinant.now }
+    ensures { (i : Position) → StandsAt pasts.now.entries place i
+        → IsFirstAmong (run_of pasts.now) i determinant.now (IsOfMember (log_of pasts.now.entries) (cut_of view.now.base) member) result }
 {
-    let first = pasts.first_after(determinant.to, number, member)?;
-    let moment = pasts.moment(member, first);
-    let strike = least_strike(pasts, records, &moment)?;
+    let moment = least_dependent(pasts, view, place, member)?;
+    if !pasts.stands(place, &moment) {
+        return None;
+    }
+    let strike = least_strike(pasts, determinant, &moment)?;
     if strike.has(member) {
         return None;
     }
     Some(Candidate {
         orphan: member,
-        first,
         moment,
         strike,
+        view: *view,
     })
 }
 
 /// The least member of the first set that the other does not have.
 fn least_in(first: MemberSet, other: MemberSet) -> Option<Member>
-    ensures { MatchOption result ((q : ℕ) → set.contains first q ≡ true → set.contains other q ≡ true) (IsLeastIn first other) }
+    ensures { MatchOption result ((q : ℕ) → set.contains first q ≡ true → set.contains other q ≡ true) (IsLeastOut first other) }
 {
     let outsider = first.without(other).outsider(0)?;
     Some(outsider.member)
@@ -167,99 +207,162 @@ fn is_fewer(first: MemberSet, other: MemberSet) -> bool
     count < others || (count == others && lists_first(first, other))
 }
 
-/// Of the two, the first of which is of a lesser member, the candidate that comes first.
+/// The least member of whose restarts the two have not as many.
+fn least_unlike(first: &View, other: &View) -> Option<u8>
+    ensures { MatchOption result (IsAlike first.now.restarts other.now.restarts)
+        (IsLeastUnlike first.now.restarts other.now.restarts) }
+{
+    for number in 0..16u8 {
+        if first.restarts[number as usize] != other.restarts[number as usize] {
+            return Some(number);
+        }
+    }
+    None
+}
+
+/// Whether the first has fewer restarts, or as many whose list comes first.
+fn has_fewer_restarts(first: &View, other: &View) -> bool
+    ensures yes { result ≡ true → HasFewer first.now other.now }
+    ensures no { result ≡ false → HasFewer other.now first.now }
+{
+    if first.count != other.count {
+        return first.count < other.count;
+    }
+    match least_unlike(first, other) {
+        Some(number) => first.restarts[number as usize] > other.restarts[number as usize],
+        None => true,
+    }
+}
+
+/// Whether the first candidate comes before the other: fewer members are struck, or the same and its orphan is less, or it is the same and
+/// fewer restarts have come.
+fn comes_first(first: &Candidate, other: &Candidate) -> bool
+    ensures yes { result ≡ true → IsBefore first.now other.now }
+    ensures no { result ≡ false → IsBefore other.now first.now }
+{
+    if is_fewer(first.strike, other.strike) {
+        return true;
+    }
+    if is_fewer(other.strike, first.strike) {
+        return false;
+    }
+    let (own, others) = (first.orphan.number(), other.orphan.number());
+    own < others || (own == others && has_fewer_restarts(&first.view, &other.view))
+}
+
+/// Of the two the candidate that comes first.
 fn earlier_candidate(first: Option<Candidate>, next: Option<Candidate>) -> Option<Candidate>
     ensures { IsFirstOf first next result }
 {
     match (first, next) {
         (None, _) => next,
         (_, None) => first,
-        (Some(first), Some(next)) => {
-            if is_fewer(next.strike, first.strike) {
-                Some(next)
+        (Some(own), Some(other)) => {
+            if comes_first(&own, &other) {
+                Some(own)
             } else {
-                Some(first)
+                Some(other)
             }
         }
     }
 }
 
-/// Of the receipt's candidates the one that comes first.
-fn first_candidate(
+/// Of the receipt's candidates with the view's restarts the one that comes first.
+fn first_in_view(
     pasts: &Pasts<'_>,
-    records: &Records,
+    view: &View,
+    place: usize,
     determinant: &Determinant,
-    number: usize,
 ) -> Option<Candidate>
     requires run { IsRun pasts.now }
-    requires records { AreRecords (log_of pasts.now.entries) determinant.now records.now }
-    requires receipt { IsReceiptAt (log_of pasts.now.entries) determinant.now (at determinant.now.to number) }
-    ensures { IsFirstBelow pasts.now determinant.now 16 result }
+    requires view { IsView (log_of pasts.now.entries) view.now }
+    requires receipt { IsReceiptHere pasts.now.entries place determinant.now }
+    ensures { (i : Position) → StandsAt pasts.now.entries place i
+        → IsFirstAmong (run_of pasts.now) i determinant.now (IsOfLesser (log_of pasts.now.entries) (cut_of view.now.base) 16) result }
 {
     let mut first = None;
-    for member_number in 0..16u8 {
-        let member = Member::at(member_number);
-        let next = candidate_of(pasts, records, determinant, number, member);
+    for number in 0..16u8 {
+        let next = candidate_of(pasts, view, place, determinant, Member::at(number));
         first = earlier_candidate(first, next);
     }
     first
 }
 
-/// What is to be said of the receipt at some moment: that of the candidate that comes first.
+/// Of the receipt's candidates the one that comes first.
+fn first_candidate(pasts: &Pasts<'_>, place: usize, determinant: &Determinant) -> Option<Candidate>
+    requires run { IsRun pasts.now }
+    requires receipt { IsReceiptHere pasts.now.entries place determinant.now }
+    ensures { (i : Position) → StandsAt pasts.now.entries place i → IsFirstAmong (run_of pasts.now) i determinant.now IsAny result }
+{
+    let mut first = None;
+    for view in pasts.views() {
+        let next = first_in_view(pasts, view, place, determinant);
+        first = earlier_candidate(first, next);
+    }
+    first
+}
+
+/// What is to be said of the receipt at the place at some moment: that of the candidate that comes first.
 fn unsafe_at_moment(
     pasts: &Pasts<'_>,
-    records: &Records,
+    place: usize,
     determinant: &Determinant,
-    number: usize,
 ) -> Option<UnsafeReceipt>
     requires run { IsRun pasts.now }
-    requires records { AreRecords (log_of pasts.now.entries) determinant.now records.now }
-    requires receipt { IsReceiptAt (log_of pasts.now.entries) determinant.now (at determinant.now.to number) }
-    ensures { IsSaidFirst pasts.now determinant.now result }
+    requires receipt { IsReceiptHere pasts.now.entries place determinant.now }
+    ensures { (i : Position) → StandsAt pasts.now.entries place i → IsSaidFirst pasts.now i place determinant.now result }
 {
-    let candidate = first_candidate(pasts, records, determinant, number)?;
+    let candidate = first_candidate(pasts, place, determinant)?;
     let Candidate {
         orphan,
-        first,
         moment,
         strike,
+        ..
     } = candidate;
     Some(UnsafeReceipt {
+        place,
         determinant: *determinant,
-        at: Some(pasts.index().place(orphan, first)),
+        at: Some(named_place(pasts, place, orphan, &moment)),
         strike,
-        orphans: orphans_at(pasts, determinant, number, &moment, strike),
+        orphans: orphans_at(pasts, place, &moment, strike),
+        moment,
+        shown: MemberSet::empty().with(orphan),
     })
 }
 
-/// What is to be said of the receipt with the determinant: nothing where it is safe, or none of the run.
-fn unsafe_receipt(pasts: &Pasts<'_>, determinant: &Determinant) -> Option<UnsafeReceipt>
-    requires { IsRun pasts.now }
-    ensures { MatchOption result (¬ (IsUnsafe (run_of pasts.now) determinant.now)) (IsSaidOf pasts.now determinant.now) }
+/// What is to be said of the receipt at the place, which the determinant names: nothing where it is safe.
+fn unsafe_receipt(
+    pasts: &Pasts<'_>,
+    place: usize,
+    determinant: &Determinant,
+) -> Option<UnsafeReceipt>
+    requires run { IsRun pasts.now }
+    requires receipt { IsReceiptHere pasts.now.entries place determinant.now }
+    ensures { (i : Position) → StandsAt pasts.now.entries place i
+        → MatchOption result (¬ (IsUnsafe (run_of pasts.now) i)) (λ said. (said.place ≡ place) × IsSaidOf pasts.now i said) }
 {
-    let number = pasts.index().receipt_number(determinant)?;
-    let records = pasts.index().records(determinant);
     match pasts.run().judged() {
-        Judged::AtItsEnd => unsafe_at_end(pasts, &records, determinant, number),
-        Judged::AtEachMoment => unsafe_at_moment(pasts, &records, determinant, number),
+        Judged::AtItsEnd => unsafe_at_end(pasts, place, determinant),
+        Judged::AtEachMoment => unsafe_at_moment(pasts, place, determinant),
     }
 }
 
 /// The receipts that are unsafe where the run is judged, in the order of the entries: none exactly where the run is safe. Those of the
 /// strike set are lost already, so the question is of all sets that have these and at most `f` members, or as many as are struck.
 ///
-/// Of a run that is judged at each moment it looks, for each receipt and each member that depends on it, at one moment, the least at which
-/// the member does; each receipt is said at the one where the fewest members are struck, then at the one whose list of members comes first,
-/// then at that of the least member. So the time taken is that of the entries times the square of the members, but for a logarithm. `Err`
+/// Of a run that is judged at each moment it looks, for each receipt, each set of restarts that some moment has, and each member that
+/// depends on the receipt there, at one moment, the least at which the member does; each receipt is said at the one where the fewest
+/// members are struck, then at the one whose list of members comes first, then at that of the least member, then where the fewest restarts
+/// have come. So the time taken is that of the entries times the square of the members and the sets of restarts, but for a logarithm. `Err`
 /// comes only where there is no memory for the answer.
 pub fn unsafe_receipts(alloc: Global, pasts: &Pasts<'_>) -> Result<Vec<UnsafeReceipt>, AllocError>
-    ensures said { IfOk result (λ v. SaysUnsafe pasts.now (receipts_in pasts.now.entries) v.items) }
+    ensures said { IfOk result (λ v. SaysUnsafe pasts.now 0 pasts.now.entries v.items) }
     ensures safe { IfOk result (λ v. (v.items ≡ []) ↔ IsSafe (run_of pasts.now)) }
 {
     let mut unsafe_receipts = Vec::new(alloc);
-    for entry in pasts.entries() {
+    for (place, entry) in pasts.entries().iter().enumerate() {
         if let Some(determinant) = entry.receipt() {
-            if let Some(receipt) = unsafe_receipt(pasts, &determinant) {
+            if let Some(receipt) = unsafe_receipt(pasts, place, &determinant) {
                 unsafe_receipts.push(receipt)?;
             }
         }
@@ -271,9 +374,9 @@ pub fn unsafe_receipts(alloc: Global, pasts: &Pasts<'_>) -> Result<Vec<UnsafeRec
 pub fn first_unsafe(pasts: &Pasts<'_>) -> Option<UnsafeReceipt>
     ensures { MatchOption result (IsSafe (run_of pasts.now)) (IsFirstUnsafe pasts.now) }
 {
-    for entry in pasts.entries() {
+    for (place, entry) in pasts.entries().iter().enumerate() {
         if let Some(determinant) = entry.receipt() {
-            if let Some(receipt) = unsafe_receipt(pasts, &determinant) {
+            if let Some(receipt) = unsafe_receipt(pasts, place, &determinant) {
                 return Some(receipt);
             }
         }

@@ -2,12 +2,13 @@
 
 ghost use Rattle.fbl_judge.specs.Laws.{AlwaysSafeLaw, LeastMomentLaw, NoOrphansLaw, OrderLaw};
 
-/// There is a least moment at which a receipt has come: its causal past, and the holds and stores of its step.
+/// There is a least moment at which an entry has come: its causal past, with the holds and stores of the steps in it.
 pub fn least_moment_law()
     ensures { LeastMomentLaw }
 {}
 
-/// A run is safe at each of its moments exactly where it is at the least moment at which each member depends on each receipt.
+/// A run is safe at each of its moments exactly where it is, for each set of restarts that some moment has, at the least of the moments with
+/// just these at which a member depends on a receipt that stands there.
 pub fn always_safe_law()
     ensures { AlwaysSafeLaw }
 {}

@@ -8,13 +8,18 @@
 mod audit;
 mod check;
 pub mod laws;
+mod named;
 mod pasts;
 mod paths;
 mod reason;
-mod records;
+mod undone;
+mod view;
+mod views;
 
-pub use audit::{Audit, audit_of, first_cause, first_on_any};
+pub use audit::{Audit, LostReceipt, audit_of, first_cause, first_on_any};
 pub use check::{UnsafeReceipt, first_unsafe, unsafe_receipts};
+pub use named::first_dependent_place;
 pub use pasts::Pasts;
 pub use paths::{OrphanPath, path_to, paths_to};
 pub use reason::{Reason, loss_reasons, unsafe_reasons};
+pub use undone::{UndoneReceipt, undone_receipts};

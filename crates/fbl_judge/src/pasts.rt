@@ -1,26 +1,27 @@
 //! The pasts of a run's entries: which entries precede which.
 
-ghost use Rattle.std.specs.Prelude.{◌≡◌, ◌<◌, ◌+◌, ◌≤◌, ◌↔◌, ℕ, Some, true, IfOk, MatchOption, length, slice_get};
+ghost use Rattle.std.specs.Prelude.{◌≡◌, ◌<◌, ◌≤◌, ◌↔◌, ℕ, true, IfOk, MatchOption, length};
 ghost use Rattle.std.specs.List.{list_any};
 ghost use Rattle.std.specs.FinSet as set;
-ghost use Rattle.fbl_runs.specs.Clocks.{AreClocks, IsLawful, PrecedesSome, StandsAt, cut_of};
+ghost use Rattle.fbl_runs.specs.Clocks.{StandsAt, cut_of};
 ghost use Rattle.fbl_runs.specs.Entries.{log_of};
-ghost use Rattle.fbl_runs.specs.HappenedBefore.{IsAt, Position, Precedes, at};
-ghost use Rattle.fbl_runs.specs.Moments.{DependsAt, IsFirstDependent};
-ghost use Rattle.fbl_runs.specs.declared.causality.Causality.TheVariants.{Dependence};
-ghost use Rattle.fbl_runs.specs.declared.entry.Entry.TheVariants.{Event};
-ghost use Rattle.fbl_trace.specs.Events.{receipt_of};
-ghost use Rattle.fbl_trace.specs.declared.trace.Mark.TheVariants.{Send};
-ghost use Rattle.fbl_judge.specs.Pasts.{AreDependences, IsFirstAfter, IsLeastMomentOfReceipt, is_told};
-ghost use Rattle.fbl_judge.specs.Paths.{ArePathEnds, DependsSome, IsDependentPlace};
+ghost use Rattle.fbl_runs.specs.HappenedBefore.{Position, Precedes, at};
 ghost use Rattle.fbl_runs.specs.Logs.{IsRun};
+ghost use Rattle.fbl_runs.specs.Moments.{DependsAt, Stands};
+ghost use Rattle.fbl_runs.specs.Rules.{AreLawful};
+ghost use Rattle.fbl_runs.specs.declared.causality.Causality.TheVariants.{Dependence};
+ghost use Rattle.fbl_judge.specs.Pasts.{AreDependences, AreRestartPlaces, IsFirstInLife, is_told_or_back};
+ghost use Rattle.fbl_judge.specs.Views.{AreViews, IsOneLife, IsPastAndStepAt};
 
+use crate::view::View;
+use crate::views::{past_and_step, views_of};
 use fbl_runs::{Causality, Clock, Clocks, Entry, Index, Run};
-use fbl_trace::{Determinant, Member, MemberSet};
+use fbl_trace::{Member, MemberSet};
 use std::alloc::{AllocError, Global};
 use std::marker::Model;
 
-/// The pasts of a run's entries: the index of the entries, and their clocks, made once. Contracts see the run.
+/// The pasts of a run's entries: the index of the entries, their clocks, and the sets of restarts that the run's moments have, made once.
+/// Contracts see the run.
 #[derive(Drop)]
 pub struct Pasts<'a> {
     run: &'a Run,
@@ -29,9 +30,13 @@ pub struct Pasts<'a> {
     last: Clock,
     /// What happened before each entry.
     before: Clocks,
-    /// On what each entry depends: nothing is kept where no member is told a control message, since it then depends on what happened before
-    /// it.
+    /// On what each entry depends: nothing is kept where no member is told a control message and none restarts, since it then depends on
+    /// what happened before it.
     depends: Option<Clocks>,
+    /// The sets of restarts, each with the least moment that has them.
+    views: Vec<View>,
+    /// The places of the restarts.
+    restarts: Vec<usize>,
 }
 
 impl<'a> Model for Pasts<'a> {
@@ -49,35 +54,49 @@ impl<'a> Model for Pasts<'a> {
 
     ghost view = { λ p. p.run.now };
 
-    ghost invariant = { λ p. AreOf p.run.now p.index p.last p.before p.depends };
+    ghost invariant = { λ p. AreOf p.run.now p.index p.last p.before p.depends p.views.items p.restarts.items };
 }
 
-/// Whether the entry's member is told a control message.
-fn is_told(entry: &Entry) -> bool
-    ensures { result ≡ is_told entry.now }
+/// Whether the entry's member is told a control message, or is back after a crash.
+fn is_told_or_back(entry: &Entry) -> bool
+    ensures { result ≡ is_told_or_back entry.now }
 {
     match *entry {
-        Entry::Told(_) => true,
+        Entry::Told(_) | Entry::Restart(_) => true,
         _ => false,
     }
 }
 
-/// Whether some member is told a control message.
-fn is_any_told(entries: &[Entry]) -> bool
-    ensures { result ≡ list_any is_told entries.now }
+/// Whether some member is told a control message, or restarts.
+fn is_any_told_or_back(entries: &[Entry]) -> bool
+    ensures { result ≡ list_any is_told_or_back entries.now }
 {
-    entries.iter().any(|entry| is_told(entry))
+    entries.iter().any(|entry| is_told_or_back(entry))
 }
 
-/// On what each of the entries depends, unless that is what happened before it, since no member is told a control message.
-fn dependences_of(alloc: Global, entries: &[Entry]) -> Result<Option<Clocks>, AllocError>
-    requires { IsLawful entries.now }
-    ensures { IfOk result (AreDependences entries.now) }
+/// On what each of the entries depends, unless that is what happened before it, since no member is told a control message and none
+/// restarts.
+fn dependences_of(alloc: Global, index: &Index<'_>) -> Result<Option<Clocks>, AllocError>
+    requires { (n : ℕ) × AreLawful n index.now }
+    ensures { IfOk result (AreDependences index.now) }
 {
-    if !is_any_told(entries) {
+    if !is_any_told_or_back(index.entries()) {
         return Ok(None);
     }
-    Ok(Some(Clocks::of(alloc, Causality::Dependence, entries)?))
+    Ok(Some(Clocks::of(alloc, Causality::Dependence, index)?))
+}
+
+/// The places of the restarts.
+fn restarts_of(alloc: Global, entries: &[Entry]) -> Result<Vec<usize>, AllocError>
+    ensures { IfOk result (λ v. AreRestartPlaces entries.now v.items) }
+{
+    let mut places = Vec::new(alloc);
+    for (place, entry) in entries.iter().enumerate() {
+        if entry.restart().is_some() {
+            places.push(place)?;
+        }
+    }
+    Ok(places)
 }
 
 impl<'a> Pasts<'a> {
@@ -87,9 +106,11 @@ impl<'a> Pasts<'a> {
         ensures { IfOk result (λ pasts. pasts ≡ run.now) }
     {
         let entries = run.entries();
-        let before = Clocks::of(alloc, Causality::HappenedBefore, entries)?;
-        let depends = dependences_of(alloc, entries)?;
         let index = Index::of(alloc, entries)?;
+        let before = Clocks::of(alloc, Causality::HappenedBefore, &index)?;
+        let depends = dependences_of(alloc, &index)?;
+        let views = views_of(alloc, &index, &before)?;
+        let restarts = restarts_of(alloc, entries)?;
         let last = index.last();
         Ok(Pasts {
             run,
@@ -97,6 +118,8 @@ impl<'a> Pasts<'a> {
             last,
             before,
             depends,
+            views,
+            restarts,
         })
     }
 
@@ -116,27 +139,6 @@ impl<'a> Pasts<'a> {
         self.run.entries()
     }
 
-    /// What happened before each entry, or on what it depends.
-    fn clocks(&self, causality: Causality) -> &Clocks
-        ensures { AreClocks causality self.now.entries (length self.now.entries) result.now }
-    {
-        match causality {
-            Causality::HappenedBefore => &self.before,
-            Causality::Dependence => match &self.depends {
-                Some(depends) => depends,
-                None => &self.before,
-            },
-        }
-    }
-
-    /// How many entries stand before the one at the place in its member's log.
-    pub fn number(&self, place: usize) -> usize
-        requires { place < length self.now.entries }
-        ensures { (i : Position) → StandsAt self.now.entries place i → result ≡ i.number }
-    {
-        self.before.number(place)
-    }
-
     /// The entries' index.
     pub fn index(&self) -> &Index<'a>
         ensures { result.now ≡ self.now.entries }
@@ -151,157 +153,127 @@ impl<'a> Pasts<'a> {
         self.last
     }
 
-    /// Whether one of the member's first entries, this many, depends on the source's entry with the number.
-    fn precedes(&self, source: Member, number: usize, member: Member, count: usize) -> bool
-        requires { count ≤ length (log_of self.now.entries member) }
-        ensures { (result ≡ true) ↔ PrecedesSome Dependence (log_of self.now.entries) (at source number) member count }
+    /// The sets of restarts that the run's moments have, each with the least moment that has them.
+    pub(crate) fn views(&self) -> &[View]
+        ensures { AreViews (log_of self.now.entries) result.now }
     {
+        self.views.as_slice()
+    }
+
+    /// The places of the restarts.
+    pub fn restarts(&self) -> &[usize]
+        ensures { AreRestartPlaces self.now.entries result.now }
+    {
+        self.restarts.as_slice()
+    }
+
+    /// How many entries stand before the one at the place in its member's log.
+    pub fn number(&self, place: usize) -> usize
+        requires { place < length self.now.entries }
+        ensures { (i : Position) → StandsAt self.now.entries place i → result ≡ i.number }
+    {
+        self.index.link(place).number
+    }
+
+    /// Whether the entry at the first place precedes the one at the second, or is that one.
+    pub fn precedes(&self, causality: Causality, first: usize, second: usize) -> bool
+        requires first { first < length self.now.entries }
+        requires second { second < length self.now.entries }
+        ensures { (i j : Position) → StandsAt self.now.entries first i → StandsAt self.now.entries second j
+            → (result ≡ true) ↔ Precedes causality (log_of self.now.entries) i j }
+    {
+        match causality {
+            Causality::HappenedBefore => self.before.precedes(&self.index, first, second),
+            Causality::Dependence => match &self.depends {
+                Some(depends) => depends.precedes(&self.index, first, second),
+                None => self.before.precedes(&self.index, first, second),
+            },
+        }
+    }
+
+    /// What happened before the entry at the place, with that, and the holds and stores of its step. Joined with a moment that has the
+    /// restarts among these it is the least moment that has both.
+    pub fn moment_at(&self, place: usize) -> Clock
+        requires { place < length self.now.entries }
+        ensures { IsPastAndStepAt self.now.entries place (cut_of result) }
+    {
+        past_and_step(&self.index, &self.before, place)
+    }
+
+    /// Whether at the clock's cut the member depends on the receipt at the place.
+    pub fn depends_at(&self, receipt: usize, member: Member, moment: &Clock) -> bool
+        requires receipt { receipt < length self.now.entries }
+        requires within { (q : ℕ) → cut_of moment.now q ≤ length (log_of self.now.entries q) }
+        ensures { (i : Position) → StandsAt self.now.entries receipt i
+            → (result ≡ true) ↔ DependsAt (log_of self.now.entries) (cut_of moment.now) i member }
+    {
+        let count = moment.count(member);
         if count == 0 {
             return false;
         }
-        let place = self.index.place(member, count - 1);
-        let depends = self.clocks(Causality::Dependence);
-        number < depends.count_at(member, place, source)
+        let last = self.index.place(member, count - 1);
+        self.precedes(Causality::Dependence, receipt, last)
     }
 
-    /// How many of the member's entries stand before the first that depends on the source's entry with the number: all where none does.
-    fn count_before(&self, source: Member, number: usize, member: Member) -> usize
-        ensures within { result ≤ length (log_of self.now.entries member) }
-        ensures none { ¬ (PrecedesSome Dependence (log_of self.now.entries) (at source number) member result) }
-        ensures next { result < length (log_of self.now.entries member)
-            → PrecedesSome Dependence (log_of self.now.entries) (at source number) member (result + 1) }
+    /// The members that depend on the receipt at the place at the clock's cut.
+    pub fn dependents(&self, receipt: usize, moment: &Clock) -> MemberSet
+        requires receipt { receipt < length self.now.entries }
+        requires within { (q : ℕ) → cut_of moment.now q ≤ length (log_of self.now.entries q) }
+        ensures { (i : Position) → StandsAt self.now.entries receipt i
+            → (q : ℕ)
+            → (set.contains result q ≡ true) ↔ DependsAt (log_of self.now.entries) (cut_of moment.now) i q }
     {
-        let mut first = 0;
-        let mut end = self.index.count(member);
+        let _run = self.run();
+        let mut dependents = MemberSet::empty();
+        for number in 0..16u8 {
+            let member = Member::at(number);
+            if self.depends_at(receipt, member, moment) {
+                dependents = dependents.with(member);
+            }
+        }
+        dependents
+    }
+
+    /// Whether the entry at the place stands at the clock's cut: it has come, and no restart that has come undoes it.
+    pub fn stands(&self, place: usize, moment: &Clock) -> bool
+        requires { place < length self.now.entries }
+        ensures { (j : Position) → StandsAt self.now.entries place j
+            → (result ≡ true) ↔ Stands (log_of self.now.entries) (cut_of moment.now) j }
+    {
+        let count = moment.count(self.entries()[place].member());
+        let link = self.index.link(place);
+        match link.undone {
+            None => link.number < count,
+            Some(restart) => link.number < count && count <= self.number(restart),
+        }
+    }
+
+    /// The number of the first of the member's entries of one life, from the start to the top, that depends on the receipt at the place.
+    pub(crate) fn first_in_life(
+        &self,
+        receipt: usize,
+        member: Member,
+        start: usize,
+        top: usize,
+    ) -> Option<usize>
+        requires receipt { receipt < length self.now.entries }
+        requires life { IsOneLife (log_of self.now.entries member) start top }
+        ensures { (i : Position) → StandsAt self.now.entries receipt i
+            → MatchOption result
+            ((k : ℕ) → start ≤ k → k < top → ¬ (Precedes Dependence (log_of self.now.entries) i (at member k)))
+            (IsFirstInLife (log_of self.now.entries) i member start top) }
+    {
+        let mut first = start;
+        let mut end = top;
         while first < end {
             let middle = first + (end - first) / 2;
-            if self.precedes(source, number, member, middle + 1) {
+            let place = self.index.place(member, middle);
+            if self.precedes(Causality::Dependence, receipt, place) {
                 end = middle;
             } else {
                 first = middle + 1;
             }
         }
-        first
-    }
-
-    /// The number of the member's first entry that depends on the source's entry with the number.
-    pub(crate) fn first_after(&self, source: Member, number: usize, member: Member) -> Option<usize>
-        ensures { MatchOption result
-            ((k : ℕ) → ¬ (Precedes Dependence (log_of self.now.entries) (at source number) (at member k)))
-            (λ k. IsFirstAfter (log_of self.now.entries) (at source number) (at member k)) }
-    {
-        let count = self.count_before(source, number, member);
-        if count < self.index.count(member) {
-            Some(count)
-        } else {
-            None
-        }
-    }
-
-    /// The least moment at which the member's entry with the number, a receipt, has come.
-    pub(crate) fn moment(&self, member: Member, number: usize) -> Clock
-        requires { number < length (log_of self.now.entries member) }
-        ensures least { IsLeastMomentOfReceipt (log_of self.now.entries) (at member number) (cut_of result) }
-        ensures within { (q : ℕ) → cut_of result q ≤ length (log_of self.now.entries q) }
-    {
-        let end = self.index.step_end(member, number);
-        let place = self.index.place(member, number);
-        let before = self.clocks(Causality::HappenedBefore);
-        before.clock_at(member, place).reaching(member, end)
-    }
-
-    /// The least moment at which the entry at the place, a receipt, has come.
-    pub fn moment_at(&self, place: usize) -> Clock
-        requires { (i : Position) × StandsAt self.now.entries place i }
-        ensures { (i : Position) → StandsAt self.now.entries place i
-            → IsLeastMomentOfReceipt (log_of self.now.entries) i (cut_of result) }
-    {
-        let member = self.entries()[place].member();
-        self.moment(member, self.number(place))
-    }
-
-    /// The members that have an entry at the clock's cut that depends on the source's entry with the number.
-    pub fn reached(&self, source: Member, number: usize, moment: &Clock) -> MemberSet
-        requires { (q : ℕ) → cut_of moment.now q ≤ length (log_of self.now.entries q) }
-        ensures { (q : ℕ)
-            → (set.contains result q ≡ true)
-            ↔ PrecedesSome Dependence (log_of self.now.entries) (at source number) q (cut_of moment.now q) }
-    {
-        let mut reached = MemberSet::empty();
-        for number_of_member in 0..16u8 {
-            let member = Member::at(number_of_member);
-            if self.precedes(source, number, member, moment.count(member)) {
-                reached = reached.with(member);
-            }
-        }
-        reached
-    }
-
-    /// The place of the receipt with the determinant.
-    pub fn receipt_place(&self, determinant: &Determinant) -> Option<usize>
-        ensures { MatchOption result
-            ((place : ℕ)
-            → ¬ (slice_get self.now.entries place ≡ Some (Event (receipt_of determinant.now))))
-            (λ place. slice_get self.now.entries place ≡ Some (Event (receipt_of determinant.now))) }
-    {
-        let number = self.index.receipt_number(determinant)?;
-        Some(self.index.place(determinant.to, number))
-    }
-
-    /// The number, in its sender's log, of the send whose message the receipt with the determinant takes.
-    pub(crate) fn send_number(&self, receipt: &Determinant) -> Option<usize>
-        ensures { MatchOption result
-            ((k : ℕ) → ¬ (IsAt (log_of self.now.entries) (at receipt.now.from k) (Event (Send receipt.now.from receipt.now.ssn receipt.now.to))))
-            (λ k. IsAt (log_of self.now.entries) (at receipt.now.from k) (Event (Send receipt.now.from receipt.now.ssn receipt.now.to))) }
-    {
-        let Determinant { from, ssn, to, .. } = *receipt;
-        self.before.send_number(from, ssn, to)
-    }
-
-    /// The number of the member's first entry that depends on the receipt with the determinant.
-    pub fn first_dependent(&self, determinant: &Determinant, member: Member) -> Option<usize>
-        ensures { MatchOption result (¬ (DependsSome self.now determinant.now member))
-            (λ k. IsFirstDependent (log_of self.now.entries) determinant.now (at member k)) }
-    {
-        let number = self.index.receipt_number(determinant)?;
-        self.first_after(determinant.to, number, member)
-    }
-
-    /// The place of the member's first entry that depends on the receipt with the determinant.
-    pub fn dependent_place(&self, determinant: &Determinant, member: Member) -> Option<usize>
-        ensures { MatchOption result (¬ (DependsSome self.now determinant.now member))
-            (IsDependentPlace self.now determinant.now member) }
-    {
-        let number = self.first_dependent(determinant, member)?;
-        Some(self.index.place(member, number))
-    }
-
-    /// The places where a path from the receipt with the determinant to the member begins and ends: those of the receipt and of the member's
-    /// first entry that depends on it.
-    pub(crate) fn path_ends(
-        &self,
-        determinant: &Determinant,
-        member: Member,
-    ) -> Option<(usize, usize)>
-        ensures { MatchOption result (¬ (DependsSome self.now determinant.now member))
-            (λ ends. ArePathEnds self.now determinant.now member ends.0 ends.1) }
-    {
-        let _run = self.run;
-        let start = self.receipt_place(determinant)?;
-        let end = self.dependent_place(determinant, member)?;
-        Some((start, end))
-    }
-
-    /// The members that depend on the receipt with the determinant at the clock's cut.
-    pub fn dependents(&self, determinant: &Determinant, moment: &Clock) -> MemberSet
-        requires { (q : ℕ) → cut_of moment.now q ≤ length (log_of self.now.entries q) }
-        ensures { (q : ℕ)
-            → (set.contains result q ≡ true)
-            ↔ DependsAt (log_of self.now.entries) (cut_of moment.now) determinant.now q }
-    {
-        match self.index.receipt_number(determinant) {
-            Some(number) => self.reached(determinant.to, number, moment),
-            None => MemberSet::empty(),
-        }
+        if first < top { Some(first) } else { None }
     }
 }

@@ -1,29 +1,32 @@
 //! Why a receipt is unsafe where the run is judged, or lost at its end.
 
-ghost use Rattle.std.specs.Prelude.{◌≡◌, ◌<◌, ◌↔◌, true, IfOk, length};
+ghost use Rattle.std.specs.Prelude.{◌≡◌, ◌<◌, ◌≤◌, ℕ, IfOk, length, slice_index};
 ghost use Rattle.std.specs.List.{All};
 ghost use Rattle.fbl_runs.specs.Clocks.{StandsAt, cut_of};
+ghost use Rattle.fbl_runs.specs.Entries.{log_of};
 ghost use Rattle.fbl_runs.specs.HappenedBefore.{Position};
-ghost use Rattle.fbl_runs.specs.Moments.{HasCome};
+ghost use Rattle.fbl_judge.specs.Audits.{AreNamed, IsNamedBy};
 ghost use Rattle.fbl_judge.specs.Paths.{DependsIn};
-ghost use Rattle.fbl_judge.specs.Records.{AreRecordPlaces};
 ghost use Rattle.fbl_judge.specs.Reasons.{AreLossReasons, AreUnsafeReasons, IsLossReason, IsNextPlace, IsReasonAt, IsUnsafeReason};
 ghost use Rattle.fbl_judge.specs.Unsafe.{IsSaidOf};
 
+use crate::audit::LostReceipt;
 use crate::check::UnsafeReceipt;
+use crate::named::has_come;
 use crate::pasts::Pasts;
 use crate::paths::{OrphanPath, paths_to};
-use crate::records::RecordPlaces;
 use fbl_runs::Clock;
-use fbl_trace::{Determinant, MemberSet};
+use fbl_trace::{Determinant, Member, MemberSet};
 use std::alloc::{AllocError, Global};
 
 /// Why a receipt is unsafe or lost. Places are those among all entries, from 0.
 #[derive(Drop)]
 pub struct Reason {
+    /// The receipt's place.
+    pub place: usize,
     /// What names the receipt.
     pub determinant: Determinant,
-    /// The place of the entry whose past and step are the moment, or none at the run's end.
+    /// The place of the entry by which the moment is named, or none at the run's end.
     pub at: Option<usize>,
     /// The members whose loss loses it.
     pub strike: MemberSet,
@@ -33,63 +36,69 @@ pub struct Reason {
     pub holders: MemberSet,
     /// The place of the first hold or store of it that has not come there, if there is one.
     pub next: Option<usize>,
-    /// A path from it to each member that it leaves as an orphan at the end, or to the one whose entry has the moment's place.
+    /// A path from it to each member that it leaves as an orphan at the end, or to the one of whom the moment is the least.
     pub paths: Vec<OrphanPath>,
 }
 
-/// Whether the entry at the place has come at the clock's cut.
-fn has_come(pasts: &Pasts<'_>, place: usize, moment: &Clock) -> bool
-    requires { place < length pasts.now.entries }
-    ensures { (i : Position) → StandsAt pasts.now.entries place i → (result ≡ true) ↔ HasCome (cut_of moment.now) i }
+/// How many of its first entries each member has at the clock's cut.
+fn counts(moment: &Clock) -> [usize; 16]
+    ensures room { length result ≡ 16 }
+    ensures counts { (q : ℕ) → q < 16 → slice_index result q ≡ cut_of moment.now q }
 {
-    let member = pasts.entries()[place].member();
-    pasts.number(place) < moment.count(member)
+    let mut counts = [0; 16];
+    for number in 0..16u8 {
+        counts[number as usize] = moment.count(Member::at(number));
+    }
+    counts
 }
 
 /// The place of the first hold or store of the determinant that has not come at the clock's cut.
-fn next_place(
-    pasts: &Pasts<'_>,
-    records: &RecordPlaces,
-    determinant: &Determinant,
-    moment: &Clock,
-) -> Option<usize>
-    requires { AreRecordPlaces pasts.now.entries 0 records.now }
+fn next_place(pasts: &Pasts<'_>, determinant: &Determinant, moment: &Clock) -> Option<usize>
     ensures { IsNextPlace pasts.now.entries (cut_of moment.now) determinant.now result }
 {
-    let mut next = records.first(determinant);
+    let mut next = pasts.index().first_record(determinant);
     while let Some(place) = next {
         if !has_come(pasts, place, moment) {
             return Some(place);
         }
-        next = records.next(place);
+        next = pasts.index().next_record(place);
     }
     None
 }
 
-/// Why these members lose the receipt at the clock's cut, with paths to those of the shown members that depend on it.
+/// Why the receipt's strike loses it at its moment, with paths to those of the shown members that depend on it there.
 fn reason_at(
     alloc: Global,
     pasts: &Pasts<'_>,
-    records: &RecordPlaces,
     receipt: &UnsafeReceipt,
-    moment: &Clock,
-    shown: MemberSet,
 ) -> Result<Reason, AllocError>
-    requires { AreRecordPlaces pasts.now.entries 0 records.now }
+    requires place { receipt.now.place < length pasts.now.entries }
+    requires within { (q : ℕ) → cut_of receipt.now.moment q ≤ length (log_of pasts.now.entries q) }
     ensures receipt { IfOk result
-        (λ reason. (reason.determinant ≡ receipt.now.determinant) × (reason.at ≡ receipt.now.at)
+        (λ reason. (reason.place ≡ receipt.now.place) × (reason.determinant ≡ receipt.now.determinant) × (reason.at ≡ receipt.now.at)
         × (reason.strike ≡ receipt.now.strike)) }
-    ensures reason { IfOk result (IsReasonAt pasts.now (cut_of moment.now) (DependsIn pasts.now receipt.now.determinant shown)) }
+    ensures reason { (i : Position) → StandsAt pasts.now.entries receipt.now.place i
+        → IfOk result (IsReasonAt pasts.now i (cut_of receipt.now.moment) (DependsIn pasts.now i (cut_of receipt.now.moment) receipt.now.shown)) }
 {
-    let determinant = receipt.determinant;
-    Ok(Reason {
+    let UnsafeReceipt {
+        place,
         determinant,
-        at: receipt.at,
-        strike: receipt.strike,
-        cut: moment.counts(),
-        holders: pasts.index().records(&determinant).holders(moment),
-        next: next_place(pasts, records, &determinant, moment),
-        paths: paths_to(alloc, pasts, &determinant, shown)?,
+        at,
+        strike,
+        ..
+    } = *receipt;
+    let moment = &receipt.moment;
+    // the run obeys its rules: no entry is of a member above 15
+    let _run = pasts.run();
+    Ok(Reason {
+        place,
+        determinant,
+        at,
+        strike,
+        cut: counts(moment),
+        holders: pasts.index().holders(&determinant, moment),
+        next: next_place(pasts, &determinant, moment),
+        paths: paths_to(alloc, pasts, place, receipt.shown, moment)?,
     })
 }
 
@@ -97,20 +106,12 @@ fn reason_at(
 fn unsafe_reason(
     alloc: Global,
     pasts: &Pasts<'_>,
-    records: &RecordPlaces,
     receipt: &UnsafeReceipt,
 ) -> Result<Reason, AllocError>
-    requires records { AreRecordPlaces pasts.now.entries 0 records.now }
-    requires said { IsSaidOf pasts.now receipt.now.determinant receipt.now }
+    requires { (i : Position) × IsSaidOf pasts.now i receipt.now }
     ensures { IfOk result (IsUnsafeReason pasts.now receipt.now) }
 {
-    let Some(place) = receipt.at else {
-        let end = pasts.last();
-        return reason_at(alloc, pasts, records, receipt, &end, receipt.orphans);
-    };
-    let moment = pasts.moment_at(place);
-    let shown = MemberSet::empty().with(pasts.entries()[place].member());
-    reason_at(alloc, pasts, records, receipt, &moment, shown)
+    reason_at(alloc, pasts, receipt)
 }
 
 /// Why each of these receipts is unsafe, as `unsafe_receipts` says them, in their order.
@@ -119,51 +120,53 @@ pub fn unsafe_reasons(
     pasts: &Pasts<'_>,
     receipts: &[UnsafeReceipt],
 ) -> Result<Vec<Reason>, AllocError>
-    requires { All (λ said. IsSaidOf pasts.now said.determinant said) receipts.now }
+    requires { All (λ said. (i : Position) × IsSaidOf pasts.now i said) receipts.now }
     ensures { IfOk result (λ v. AreUnsafeReasons pasts.now receipts.now v.items) }
 {
-    let records = RecordPlaces::of(alloc, pasts.entries())?;
     let mut reasons = Vec::new(alloc);
     for receipt in receipts {
-        reasons.push(unsafe_reason(alloc, pasts, &records, receipt)?)?;
+        reasons.push(unsafe_reason(alloc, pasts, receipt)?)?;
     }
     Ok(reasons)
 }
 
-/// Why the loss of the strike set loses the receipt with the determinant at the run's end, if it does.
+/// Why the loss of the strike set loses the receipt at the run's end, if it does.
 fn loss_reason(
     alloc: Global,
     pasts: &Pasts<'_>,
-    records: &RecordPlaces,
-    determinant: &Determinant,
+    receipt: &LostReceipt,
 ) -> Result<Reason, AllocError>
-    requires { AreRecordPlaces pasts.now.entries 0 records.now }
-    ensures { IfOk result (IsLossReason pasts.now determinant.now) }
+    requires { (i : Position) × IsNamedBy pasts.now i receipt.now }
+    ensures { IfOk result (IsLossReason pasts.now receipt.now) }
 {
-    let end = pasts.last();
+    let LostReceipt { place, determinant } = *receipt;
+    let moment = pasts.last();
     let strike = pasts.run().strike();
-    let orphans = pasts.dependents(determinant, &end).without(strike);
+    let orphans = pasts.dependents(place, &moment).without(strike);
     let lost = UnsafeReceipt {
-        determinant: *determinant,
+        place,
+        determinant,
         at: None,
+        moment,
         strike,
         orphans,
+        shown: orphans,
     };
-    reason_at(alloc, pasts, records, &lost, &end, orphans)
+    reason_at(alloc, pasts, &lost)
 }
 
 /// Why each of these receipts is lost at the run's end, in their order.
 pub fn loss_reasons(
     alloc: Global,
     pasts: &Pasts<'_>,
-    lost: &[Determinant],
+    lost: &[LostReceipt],
 ) -> Result<Vec<Reason>, AllocError>
+    requires { AreNamed pasts.now lost.now }
     ensures { IfOk result (λ v. AreLossReasons pasts.now lost.now v.items) }
 {
-    let records = RecordPlaces::of(alloc, pasts.entries())?;
     let mut reasons = Vec::new(alloc);
-    for determinant in lost {
-        reasons.push(loss_reason(alloc, pasts, &records, determinant)?)?;
+    for receipt in lost {
+        reasons.push(loss_reason(alloc, pasts, receipt)?)?;
     }
     Ok(reasons)
 }

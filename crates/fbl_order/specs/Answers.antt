@@ -9,10 +9,11 @@ use Rattle.fbl_trace.specs.Rules.{WellFormed}
 use Rattle.fbl_dumps.specs.Dumps.{IsDump, Parts}
 use Rattle.fbl_dumps.specs.Losses.{IsDumpOrphan, lost_determinants}
 use Rattle.fbl_runs.specs.declared.entry.Entry.{Entry}
+use Rattle.fbl_runs.specs.HappenedBefore.{Position}
 use Rattle.fbl_runs.specs.Logs.{IsLog, RunParts, run_of, run_of_dump}
-use Rattle.fbl_runs.specs.Runs.{IsOrphanAt, IsSafe, LosesAt}
+use Rattle.fbl_runs.specs.Moments.{last_cut}
+use Rattle.fbl_runs.specs.Runs.{IsOrphanAt, IsSafe, LosesReceiptAt}
 use Rattle.fbl_judge.specs.declared.check.UnsafeReceipt.{UnsafeReceipt}
-use Rattle.fbl_judge.specs.Audits.{end_of}
 use Rattle.fbl_judge.specs.Laws.{SaySame}
 use Rattle.fbl_judge.specs.Unsafe.{IsSaidOf, IsUnsafe}
 use Rattle.fbl_order.specs.Orders.{IsOrder, IsOrderOfEntries, SameLogs, with_entries, with_events}
@@ -35,11 +36,11 @@ SameEventsLaw = (s t : List Mark) → SameLogs s t → IsPermutation s t
 
 -- an audit answers the same of both runs, and so does a check, but for the places
 pub record SameAnswers (a b : RunParts) : Type 0 where
-  pub loses : (d : Determinant) → LosesAt (run_of a) (end_of a) a.strike d ↔ LosesAt (run_of b) (end_of b) b.strike d
-  pub orphans : (member : ℕ) → IsOrphanAt (run_of a) (end_of a) a.strike member ↔ IsOrphanAt (run_of b) (end_of b) b.strike member
+  pub loses : (i : Position) → LosesReceiptAt (run_of a) (last_cut (run_of a).logs) a.strike i ↔ LosesReceiptAt (run_of b) (last_cut (run_of b).logs) b.strike i
+  pub orphans : (member : ℕ) → IsOrphanAt (run_of a) (last_cut (run_of a).logs) a.strike member ↔ IsOrphanAt (run_of b) (last_cut (run_of b).logs) b.strike member
   pub safe : IsSafe (run_of a) ↔ IsSafe (run_of b)
-  pub unsafe : (d : Determinant) → IsUnsafe (run_of a) d ↔ IsUnsafe (run_of b) d
-  pub said : (d : Determinant) (said other : UnsafeReceipt) → IsSaidOf a d said → IsSaidOf b d other → SaySame a.entries b.entries said other
+  pub unsafe : (i : Position) → IsUnsafe (run_of a) i ↔ IsUnsafe (run_of b) i
+  pub said : (i : Position) (said other : UnsafeReceipt) → IsSaidOf a i said → IsSaidOf b i other → SaySame a.entries b.entries said other
 
 -- ---- dumps
 

@@ -1,5 +1,5 @@
 -- Why what is recorded of a run has no order, or is refused in each.
-use Rattle.std.specs.Prelude.{ℕ, ◌≡◌, ◌≢◌, ◌+◌, ◌-◌, ◌⊎◌, List, length, Some, drop, map, slice_get, slice_index_or, take, AllPairs}
+use Rattle.std.specs.Prelude.{ℕ, ◌≡◌, ◌≢◌, ◌≤◌, ◌+◌, ◌-◌, ◌⊎◌, Bool, true, false, List, length, Some, drop, map, slice_get, slice_index_or, take, AllPairs}
 use Rattle.fbl_trace.specs.declared.fault.Breach.{Breach}
 use Rattle.fbl_trace.specs.declared.fault.Breach.TheVariants as breach
 use Rattle.fbl_dumps.specs.declared.refusal.DumpRefusal.{DumpRefusal}
@@ -11,17 +11,22 @@ use Rattle.fbl_trace.specs.Breaches.{BreaksEvent}
 use Rattle.fbl_trace.specs.Configs.{BreaksGroup, FAllowed, IsFirstBreach, MembersAllowed}
 use Rattle.fbl_trace.specs.declared.config.GroupRule.TheVariants as group_rule
 use Rattle.fbl_trace.specs.declared.fault.EventFault.{EventFault}
-use Rattle.fbl_trace.specs.Events.{destination_of, source_of}
-use Rattle.fbl_runs.specs.declared.causality.Causality.TheVariants.{HappenedBefore}
+use Rattle.fbl_trace.specs.Events.{destination_of, send_of, source_of}
+use Rattle.fbl_runs.specs.declared.control.ControlMessage.{ControlMessage}
 use Rattle.fbl_runs.specs.declared.entry.Entry.{Entry}
-use Rattle.fbl_runs.specs.declared.entry.Entry.TheVariants.{Event, Told}
+use Rattle.fbl_runs.specs.declared.entry.Entry.TheVariants.{Event, Tell, Told}
+use Rattle.fbl_runs.specs.declared.entry.Restart as restart
 use Rattle.fbl_runs.specs.declared.fault.ControlRule.TheVariants.{NotTold}
+use Rattle.fbl_runs.specs.declared.fault.LifeFault.{LifeFault}
+use Rattle.fbl_runs.specs.declared.fault.LifeRule.TheVariants.{TooManyRestarts}
+use Rattle.fbl_runs.specs.declared.fault.LifeRule.TheVariants as life_rule
 use Rattle.fbl_runs.specs.declared.fault.LogBreach.{LogBreach}
-use Rattle.fbl_runs.specs.declared.fault.LogBreach.TheVariants.{Record, Trace}
+use Rattle.fbl_runs.specs.declared.fault.LogBreach.TheVariants.{Life, Record, Trace}
 use Rattle.fbl_runs.specs.ControlMessages.{BreaksControl, Has}
-use Rattle.fbl_runs.specs.Entries.{Passes, entry_member, log_of, marks}
-use Rattle.fbl_runs.specs.Lawful.{IsEventPlace}
+use Rattle.fbl_runs.specs.Entries.{entry_member, log_of, mark_in, marks, restart_in}
 use Rattle.fbl_runs.specs.Logs.{IsLogBreach, RunParts, RefusesLog}
+use Rattle.fbl_runs.specs.Rules.{BreaksLife, have_lives, restarts}
+use Rattle.fbl_order.specs.Known.{LacksInLife}
 use Rattle.fbl_order.specs.Orders.{ArePlaces, CanCome, HasNoOrder, IsFurthest, IsOrder, IsOrderOfEntries, as_entries, with_entries, with_events}
 use Rattle.fbl_order.specs.declared.fault.Obstacle.{Obstacle}
 use Rattle.fbl_order.specs.declared.fault.Obstacle.TheVariants.{Rule, NeverSent, Received, Waits}
@@ -35,30 +40,47 @@ abbrev pub IsFirstAfter : List Entry → List Entry → ℕ → ℕ → Type 0
 IsFirstAfter entries run member place =
     (e : Entry) × (slice_get entries place ≡ Some e) × (entry_member e ≡ member) × (log_of run member ≡ log_of (take place entries) member)
 
+-- the second takes the message that the first sends, or is told what the first tells
+abbrev pub Passes : Entry → Entry → Type 0
+Passes sent e =
+    ((s : Mark) × (r : Mark) × (sent ≡ Event s) × (mark_in e ≡ Some r) × (send_of r ≡ Some s)) ⊎ ((m : ControlMessage) × (sent ≡ Tell m) × (e ≡ Told m))
+
 -- behind the run there is no message for the entry: none is in flight on the channel of the receipt, or nobody told what its member is told
-abbrev pub LacksMessage : ℕ → List Entry → Entry → Type 0
-LacksMessage n run (Event e) = BreaksEvent n (marks run) e (NothingInFlight (source_of e) (destination_of e))
-LacksMessage n run (Told m) = BreaksControl n run (Told m) NotTold
-LacksMessage n run e = ⊥
+abbrev pub LacksInTrace : ℕ → List Entry → Entry → Type 0
+LacksInTrace n run (Told m) = BreaksControl n run (Told m) NotTold
+LacksInTrace n run e = (m : Mark) × (mark_in e ≡ Some m) × BreaksEvent n (marks run) m (NothingInFlight (source_of m) (destination_of m))
+
+abbrev pub LacksMessage : Bool → ℕ → List Entry → Entry → Type 0
+LacksMessage false = LacksInTrace
+LacksMessage true = LacksInLife
 
 -- the entry takes the message that this one sends, and none is there for it behind the run
-abbrev pub Misses : ℕ → List Entry → Entry → Entry → Type 0
-Misses n run e sent = LacksMessage n run e × Passes HappenedBefore sent e
+abbrev pub Misses : Bool → ℕ → List Entry → Entry → Entry → Type 0
+Misses lived n run e sent = LacksMessage lived n run e × Passes sent e
 
--- the obstacle keeps the entry from coming behind the run
-abbrev pub Hinders : ℕ → List Entry → List Entry → Entry → Obstacle → Type 0
-Hinders n entries run e (Rule rule) = (m : Mark) × (e ≡ Event m) × BreaksEvent n (marks run) m rule × ((from to : ℕ) → rule ≢ NothingInFlight from to)
-Hinders n entries run e (obstacle.Control rule) = BreaksControl n run e rule × (rule ≢ NotTold)
-Hinders n entries run e (NeverSent sent) = Misses n run e sent × ¬ (Has entries sent)
-Hinders n entries run e Received = (sent : Entry) × Misses n run e sent × Has run sent
-Hinders n entries run e (Waits place) =
-    (sent : Entry) × Misses n run e sent × Has entries sent × ¬ (Has run sent) × IsFirstAfter entries run (entry_member sent) place
+-- the run has all entries of the member
+abbrev pub HasAllOf : List Entry → List Entry → ℕ → Type 0
+HasAllOf entries run member = log_of run member ≡ log_of entries member
+
+-- the obstacle keeps the entry from coming behind the run. In a log with restarts a message may be missing although its sender sent it: in
+-- another life
+abbrev pub Hinders : Bool → ℕ → List Entry → List Entry → Entry → Obstacle → Type 0
+Hinders false n entries run e (Rule rule) = (m : Mark) × (mark_in e ≡ Some m) × BreaksEvent n (marks run) m rule × ((from to : ℕ) → rule ≢ NothingInFlight from to)
+Hinders false n entries run e (obstacle.Control rule) = BreaksControl n run e rule × (rule ≢ NotTold)
+Hinders true n entries run e (obstacle.Life rule) =
+    BreaksLife n run e rule × ((sent : Entry) → Misses true n run e sent → HasAllOf entries run (entry_member sent))
+Hinders lived n entries run e (NeverSent sent) = Misses lived n run e sent × ¬ (Has entries sent)
+Hinders false n entries run e Received = (sent : Entry) × Misses false n run e sent × Has run sent
+Hinders false n entries run e (Waits place) =
+    (sent : Entry) × Misses false n run e sent × Has entries sent × ¬ (Has run sent) × IsFirstAfter entries run (entry_member sent) place
+Hinders true n entries run e (Waits place) = (sent : Entry) × Misses true n run e sent × Has entries sent × IsFirstAfter entries run (entry_member sent) place
+Hinders lived n entries run e obstacle = ⊥
 
 -- the run has what the entry's member did before it, and the obstacle keeps it from coming next
 pub record IsStuck (n : ℕ) (entries run : List Entry) (stuck : Stuck) : Type 0 where
   pub here : slice_get entries stuck.place ≡ Some stuck.entry
   pub next : log_of run (entry_member stuck.entry) ≡ log_of (take stuck.place entries) (entry_member stuck.entry)
-  pub obstacle : Hinders n entries run stuck.entry stuck.obstacle
+  pub obstacle : Hinders (have_lives entries) n entries run stuck.entry stuck.obstacle
 
 -- one of the entries stands at the place
 abbrev pub StandsIn : List Stuck → ℕ → Type 0
@@ -102,15 +124,31 @@ pub record ShowsNoOrder (n : ℕ) (entries : List Entry) (found : List Stuck) : 
 -- the fault is of the first send or receipt with 8192 others before it
 abbrev pub IsOneTooMany : List Entry → EventFault → Type 0
 IsOneTooMany entries fault =
-    IsEventPlace entries 8192 fault.place × (slice_get entries fault.place ≡ Some (Event fault.event)) × (fault.rule ≡ TooMany)
+    ((e : Entry) × (slice_get entries fault.place ≡ Some e) × (mark_in e ≡ Some fault.event))
+    × (length (marks (take fault.place entries)) ≡ 8192) × (fault.rule ≡ TooMany)
 
--- the entries have no order, because of these, or since their sends and receipts are too many; or memory ran out
+-- in a log with restarts it is so, or of the first restart with 8 others before it
+abbrev pub IsOneLifeTooMany : List Entry → LifeFault → Type 0
+IsOneLifeTooMany entries fault =
+    (slice_get entries fault.place ≡ Some fault.entry)
+    × (((m : Mark) × (mark_in fault.entry ≡ Some m) × (length (marks (take fault.place entries)) ≡ 8192) × (fault.rule ≡ life_rule.TooMany))
+    ⊎ ((r : restart.Restart) × (restart_in fault.entry ≡ Some r) × (restarts (take fault.place entries) ≡ 8) × (fault.rule ≡ TooManyRestarts)))
+
+-- the sends and receipts are at most 8192, and the restarts at most 8
+abbrev pub AreFew : Bool → List Entry → Type 0
+AreFew lived entries = (length (marks entries) ≤ 8192) × (lived ≡ true → restarts entries ≤ 8)
+
+-- the fault is of one that is too many
+abbrev pub RefusesMany : List Entry → OrderFault → Type 0
+RefusesMany entries (Refused (BadEvent place) (Trace (breach.Event fault))) = (fault.place ≡ place) × (have_lives entries ≡ false) × IsOneTooMany entries fault
+RefusesMany entries (Refused (BadEvent place) (Life fault)) = (fault.place ≡ place) × (have_lives entries ≡ true) × IsOneLifeTooMany entries fault
+RefusesMany entries fault = ⊥
+
+-- the entries have no order, because of these, or since their sends and receipts, or their restarts, are too many; or memory ran out
 abbrev pub RefusesOrder : ℕ → List Entry → OrderFault → Type 0
 RefusesOrder n entries (NoOrder found) = ShowsNoOrder n entries found.items
-RefusesOrder n entries (Refused (BadEvent place) (Trace (breach.Event fault))) =
-    HasNoOrder n entries × (fault.place ≡ place) × IsOneTooMany entries fault
 RefusesOrder n entries (Refused Memory (Trace breach.Memory)) = Unit {0}
-RefusesOrder n entries (Refused _ _) = ⊥
+RefusesOrder n entries fault = HasNoOrder n entries × RefusesMany entries fault
 
 -- no group has these numbers, for this reason
 abbrev pub RefusesGroup : ℕ → ℕ → OrderFault → Type 0
@@ -143,10 +181,12 @@ RefusesUnordered dump fault =
 abbrev pub place_given : List ℕ → ℕ → ℕ
 place_given places number = slice_index_or places number number
 
--- the refusal of entries that were given at these places: a hold or a store that breaks a rule is named where it was given
+-- the refusal of entries that were given at these places: an entry that breaks a rule is named where it was given
 abbrev pub record_given : List ℕ → DumpRefusal → LogBreach → OrderFault
 record_given places refusal (Record fault) =
     let place = place_given places fault.place in Refused (BadEvent place) (Record (record fault { place = place }))
+record_given places refusal (Life fault) =
+    let place = place_given places fault.place in Refused (BadEvent place) (Life (record fault { place = place }))
 record_given places refusal broken = Refused refusal broken
 
 -- the log with its entries in an order is refused

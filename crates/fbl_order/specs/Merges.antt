@@ -1,13 +1,12 @@
 -- What a merge of the members' logs keeps.
 use Rattle.std.specs.Prelude.{ℕ, ◌≡◌, ◌<◌, List, length, Option, Some, slice_get}
-use Rattle.fbl_trace.specs.declared.trace.Mark.{Mark}
-use Rattle.fbl_trace.specs.Rules.{Counted, MayFollow, WellFormed}
 use Rattle.fbl_runs.specs.declared.entry.Entry.{Entry}
-use Rattle.fbl_runs.specs.ControlMessages.{AreTold, HasTold, MayBeTold}
-use Rattle.fbl_runs.specs.Entries.{entry_member, mark_in, marks}
+use Rattle.fbl_runs.specs.Entries.{entry_member}
+use Rattle.fbl_runs.specs.Rules.{have_lives}
 use Rattle.fbl_order.specs.Cursors.{AreCursors, IsInStep, IsLeastCursor, cursor_in}
 use Rattle.fbl_order.specs.Faults.{ClosesAt, StandsIn}
-use Rattle.fbl_order.specs.Orders.{ArePlaces, items_at}
+use Rattle.fbl_order.specs.Known.{Knows, MayCome}
+use Rattle.fbl_order.specs.Orders.{ArePlaces, Obeys, items_at}
 use Rattle.fbl_order.specs.declared.fault.Obstacle.{Obstacle}
 use Rattle.fbl_order.specs.declared.fault.Obstacle.TheVariants.{Waits}
 use Rattle.fbl_order.specs.declared.fault.Stuck.{Stuck}
@@ -23,29 +22,17 @@ cursor_of entries merge = cursor_in entries merge.cursors
 abbrev pub placed_of : List Entry → Merge → List Entry
 placed_of entries merge = items_at entries merge.places.items
 
--- the run has the sends and receipts that are placed; these and the control messages among them obey the rules; of each member the entries
--- before its cursor are placed, and it is known what was told
+-- the entries that are placed obey the rules, and what is known is known of them; of each member those before its cursor are placed
 pub record Merges (n : ℕ) (entries : List Entry) (merge : Merge) : Type 0 where
-  pub run : merge.run.items ≡ marks (placed_of entries merge)
-  pub obeys : WellFormed n merge.run.items
-  pub told : AreTold n (placed_of entries merge)
-  pub counted : Counted merge.run.items merge.counts
+  pub obeys : Obeys (have_lives entries) n (placed_of entries merge)
   pub places : ArePlaces entries (placed_of entries merge) merge.places.items
   pub cursors : AreCursors entry_member entries (placed_of entries merge) merge.cursors
-  pub known : HasTold (placed_of entries merge) merge.known
-  pub in_step : WellFormed n (marks entries) → AreTold n entries → IsInStep entries (placed_of entries merge) merge.cursors
-
--- the entry may come behind the run: if it is a send or a receipt, this obeys the rules there
-abbrev pub MayFollowAs : ℕ → List Mark → Entry → Type 0
-MayFollowAs n run e = (m : Mark) → mark_in e ≡ Some m → MayFollow n run m
-
--- the entry may come behind these: it obeys the rules of sends and receipts there, and those of control messages
-abbrev pub MayCome : ℕ → List Entry → Entry → Type 0
-MayCome n before e = MayFollowAs n (marks before) e × MayBeTold n before e
+  pub known : Knows (have_lives entries) (placed_of entries merge) merge.known
+  pub in_step : Obeys (have_lives entries) n entries → IsInStep entries (placed_of entries merge) merge.cursors
 
 -- the entry at the place, if there is one, may come behind these
 abbrev pub MayComeAt : ℕ → List Entry → List Entry → ℕ → Type 0
-MayComeAt n before entries place = (e : Entry) × (slice_get entries place ≡ Some e) × MayCome n before e
+MayComeAt n before entries place = (e : Entry) × (slice_get entries place ≡ Some e) × MayCome (have_lives entries) n before e
 
 -- of the cursors, the least whose entry may come behind those that are placed
 abbrev pub IsLeastNext : ℕ → List Entry → Merge → Option ℕ → Type 0

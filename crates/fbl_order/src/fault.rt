@@ -1,7 +1,7 @@
 //! Why what is recorded of a run has no order.
 
 use fbl_dumps::DumpRefusal;
-use fbl_runs::{ControlRule, Entry, LogBreach};
+use fbl_runs::{ControlRule, Entry, LifeRule, LogBreach};
 use fbl_trace::{Breach, EventRule};
 use std::alloc::AllocError;
 use std::convert::From;
@@ -16,6 +16,9 @@ pub enum Obstacle {
     /// It breaks this rule of control messages, whichever other entries have come.
     #[error(transparent)]
     Control(ControlRule),
+    /// In a log with restarts it breaks this rule, whichever other entries have come.
+    #[error(transparent)]
+    Life(LifeRule),
     /// No entry sends its message: this one would.
     #[error("no event sends its message: {0} is missing")]
     NeverSent(Entry),

@@ -1,31 +1,18 @@
 //! Logs whose entries stand in any order that keeps the members' logs.
 
-ghost use Rattle.std.specs.Prelude.{◌≡◌, ◌<◌, ℕ, Some, IfErr, IfOk, length, slice_get};
-ghost use Rattle.fbl_trace.specs.Rules.{WellFormed};
-ghost use Rattle.fbl_runs.specs.Entries.{marks};
+ghost use Rattle.std.specs.Prelude.{◌≡◌, IfErr, IfOk};
 ghost use Rattle.fbl_runs.specs.Logs.{IsLog, parts_of_log};
+ghost use Rattle.fbl_runs.specs.Rules.{have_lives};
 ghost use Rattle.fbl_order.specs.Answers.{AnswersAlike};
 ghost use Rattle.fbl_order.specs.Faults.{RefusesUnorderedLog, place_given, record_given};
-ghost use Rattle.fbl_order.specs.Orders.{AreHeard, ArePlaces, IsOrderOfEntries, items_at, with_entries};
+ghost use Rattle.fbl_order.specs.Orders.{ArePlaces, IsOrderOfEntries, StandInOrder, with_entries};
 
 use crate::fault::OrderFault;
 use crate::merge::Merge;
-use crate::order::{Ordered, group_refusal, merge_in_order};
+use crate::order::{Ordered, group_refusal, items_at, merge_in_order};
 use fbl_dumps::DumpRefusal;
-use fbl_runs::{Entry, LogBreach, RawLog, RecordFault, Run, checked_log};
-use std::alloc::{AllocError, Global};
-
-/// The entries at these places, in this order.
-fn entries_at(alloc: Global, entries: &[Entry], places: &[usize]) -> Result<Vec<Entry>, AllocError>
-    requires { (k p : ℕ) → slice_get places.now k ≡ Some p → p < length entries.now }
-    ensures { IfOk result (λ v. v.items ≡ items_at entries.now places.now) }
-{
-    let mut chosen = Vec::new(alloc);
-    for place in places {
-        chosen.push(entries[*place])?;
-    }
-    Ok(chosen)
-}
+use fbl_runs::{LifeFault, LogBreach, RawLog, RecordFault, Run, checked_log};
+use std::alloc::Global;
 
 /// The place at which what has the number was given.
 fn place_given(places: &[usize], number: usize) -> usize
@@ -34,22 +21,31 @@ fn place_given(places: &[usize], number: usize) -> usize
     places.get(number).copied().unwrap_or(number)
 }
 
-/// The refusal of a log whose entries were given at these places: a hold or a store that breaks a rule is named where it was given.
+/// The refusal of a log whose entries were given at these places: an entry that breaks a rule is named where it was given.
 fn refusal_as_given(refusal: DumpRefusal, breach: LogBreach, places: &[usize]) -> OrderFault
     ensures { result ≡ record_given places.now refusal breach }
 {
-    let LogBreach::Record(fault) = breach else {
-        return OrderFault::Refused(refusal, breach);
-    };
-    let place = place_given(places, fault.place);
-    OrderFault::Refused(
-        DumpRefusal::BadEvent(place),
-        LogBreach::Record(RecordFault { place, ..fault }),
-    )
+    match breach {
+        LogBreach::Record(fault) => {
+            let place = place_given(places, fault.place);
+            OrderFault::Refused(
+                DumpRefusal::BadEvent(place),
+                LogBreach::Record(RecordFault { place, ..fault }),
+            )
+        }
+        LogBreach::Life(fault) => {
+            let place = place_given(places, fault.place);
+            OrderFault::Refused(
+                DumpRefusal::BadEvent(place),
+                LogBreach::Life(LifeFault { place, ..fault }),
+            )
+        }
+        _ => OrderFault::Refused(refusal, breach),
+    }
 }
 
-/// The log of these parts, with its entries in an order in which the sends and receipts and the control messages obey the rules and each
-/// member's own entries stand as they do here: a hold or a store behind the same entry of its member. Whichever such order the run had, a
+/// The log of these parts, with its entries in an order in which the sends and receipts, the control messages and the restarts obey the rules
+/// and each member's own entries stand as they do here: a hold or a store behind the same entry of its member. Whichever such order the run had, a
 /// check of it says the same.
 ///
 /// Where several faults hold, that of the group's numbers is answered before that the entries have no order, and this before those that
@@ -60,8 +56,7 @@ pub fn order_log(alloc: Global, raw: RawLog) -> Result<Ordered<Run>, OrderFault>
     ensures order { IfOk result (λ o. IsOrderOfEntries raw.members raw.entries.items o.run.entries) }
     ensures places { IfOk result (λ o. ArePlaces raw.entries.items o.run.entries o.places.items) }
     ensures kept { IfOk result
-        (λ o. WellFormed raw.members (marks raw.entries.items) → AreHeard raw.entries.items
-        → o.run ≡ parts_of_log raw) }
+        (λ o. StandInOrder (have_lives raw.entries.items) raw.members raw.entries.items → o.run ≡ parts_of_log raw) }
     ensures answers { IfOk result (λ o. AnswersAlike (parts_of_log raw) o.run) }
     ensures refused { IfErr result (RefusesUnorderedLog (parts_of_log raw)) }
 {
@@ -70,7 +65,7 @@ pub fn order_log(alloc: Global, raw: RawLog) -> Result<Ordered<Run>, OrderFault>
     }
     let given = raw.entries.as_slice();
     let Merge { places, .. } = merge_in_order(alloc, raw.members, given)?;
-    let entries = entries_at(alloc, given, places.as_slice())?;
+    let entries = items_at(alloc, given, places.as_slice())?;
     match checked_log(alloc, RawLog { entries, ..raw }) {
         Ok(run) => Ok(Ordered { run, places }),
         Err((refusal, breach)) => Err(refusal_as_given(refusal, breach, places.as_slice())),

@@ -1,32 +1,21 @@
--- A least moment is within the run, and who is an orphan.
-use Rattle.fbl_pictures.proofs.Common.{ℕ, ◌<◌, ◌==◌, ◌≤◌, ◌≡◌, ◌∙◌, ◌↔◌, true, false, not, false≢true, List, [], ◌∷◌, Option, Some, None, length, nat_tests, slice_get, refl, sym, ap, subst, arith, slice_get_within, log_of, Entry}
+-- Who is an orphan, and around which place a run is drawn.
+use Rattle.fbl_pictures.proofs.Common.{ℕ, ◌<◌, ◌==◌, ◌≡◌, ◌∙◌, ◌↔◌, true, false, not, false≢true, Option, Some, None, length, nat_tests, refl, sym, ap, arith, slice_get_within}
 use Rattle.std.specs.FinSet as set
 use Rattle.std.specs.Prelude.{Bool, IfSome, nat_lt, if◌then◌else◌}
 use Rattle.std.specs.Ordering.{nat_cmp}
 use Rattle.fbl_trace.proofs.Sets.{some_outside}
 use Rattle.fbl_trace.specs.MemberSets.{Members}
-use Rattle.fbl_runs.proofs.Listing.{stands_at}
+use Rattle.fbl_runs.specs.HappenedBefore.{Position}
 use Rattle.fbl_runs.specs.Logs.{RunParts, run_of}
 use Rattle.fbl_runs.specs.Runs.{IsOrphanAt}
 use Rattle.fbl_runs.specs.declared.judged.Judged.{Judged}
 use Rattle.fbl_runs.specs.declared.judged.Judged.TheVariants.{AtEachMoment, AtItsEnd}
-use Rattle.fbl_runs.specs.Moments.{Cut}
-use Rattle.fbl_judge.proofs.LeastMoments.{least_within}
-use Rattle.fbl_judge.proofs.ReasonLaws.{said_moment}
-use Rattle.fbl_judge.proofs.SafeAlways.{first_is_receipt}
 use Rattle.fbl_judge.specs.Audits.{IsAudit, end_of}
 use Rattle.fbl_judge.specs.Unsafe.{IsSaidAt, IsSaidOf}
 use Rattle.fbl_judge.specs.declared.audit.Audit.{Audit}
 use Rattle.fbl_judge.specs.declared.check.UnsafeReceipt.{UnsafeReceipt}
 use Rattle.fbl_pictures.specs.RunPictures.{HasOrphan, drawn_around}
-use Rattle.fbl_pictures.specs.RunShapes.{IsCutOf, IsPlaceOf, shown, shown_entries}
-
--- what has come is no more than all
-pub cut_within : (run : RunParts) (place : Option ℕ) (cut : Cut) → IsCutOf run place cut → (q : ℕ) → cut q ≤ length (log_of run.entries q)
-cut_within run None cut is q = omega (arith, is q)
-cut_within run (Some place) cut (i, stands, least) q =
-    let entries = run.entries in
-    least_within (log_of entries) i cut least stands.0 (stands_at entries place i stands.0 stands stands.1) q
+use Rattle.fbl_pictures.specs.RunShapes.{shown, shown_entries}
 
 -- a set of members has one, or none
 module _ (P : ℕ → Type 0) (members : Members) (are : (q : ℕ) → (set.contains members q ≡ true) ↔ P q) where
@@ -53,22 +42,13 @@ orphan_at_end run audit is end false e =
 pub orphan_at_moments : (run : RunParts) → run.judged ≡ AtEachMoment → (false ≡ true) ↔ HasOrphan run
 orphan_at_moments run each = (λ h. absurd (false≢true h), λ has. absurd (let two : AtItsEnd ≡ AtEachMoment = sym has.0 ∙ each in cc))
 
--- the place of what is said is a receipt's
-pub said_place : (run : RunParts) (said : UnsafeReceipt) → IsSaidOf run said.determinant said → (place : Option ℕ) → said.at ≡ place → IsPlaceOf run place
-said_place run said is None at = tt
-said_place run said is (Some place) at =
-    let m = said_moment run said.determinant said is place at in
-    let r = first_is_receipt (log_of run.entries) said.determinant m.0 m.2 in (m.0, r.0, m.1, r.1)
-
--- and it is drawn, as what is said has a place only in a log, of which all is
-module _ (run : RunParts) (said : UnsafeReceipt) (is : IsSaidOf run said.determinant said) where
-  drawn_at : (j : Judged) (at : Option ℕ) → IsSaidAt run said.determinant said.strike j at is.cut → IfSome at (λ place. place < length (shown j run.entries))
-  drawn_at AtEachMoment (Some place) moment = slice_get_within run.entries place moment.1.0 moment.1.1
+-- the place of what is said is drawn, as it has one only in a log, of which all is
+module _ (run : RunParts) (i : Position) (said : UnsafeReceipt) (is : IsSaidOf run i said) where
+  drawn_at : (j : Judged) (at : Option ℕ) → IsSaidAt run i said j at → IfSome at (λ place. place < length (shown j run.entries))
+  drawn_at AtEachMoment (Some place) moment = (let there = moment.3.1 in slice_get_within run.entries place there.0 there.1)
   drawn_at AtEachMoment None moment = tt
-  drawn_at AtItsEnd at moment = said_nothing at moment where
-    said_nothing : (at : Option ℕ) → IsSaidAt run said.determinant said.strike AtItsEnd at is.cut → IfSome at (λ place. place < length (shown AtItsEnd run.entries))
-    said_nothing None moment = tt
-    said_nothing (Some place) moment = absurd moment
+  drawn_at AtItsEnd None moment = tt
+  drawn_at AtItsEnd (Some place) moment = absurd moment
 
   -- so is the place around which the run is drawn
   pub drawn_place : (asked : Option ℕ) → IfSome asked (λ place. place < length (shown_entries run))

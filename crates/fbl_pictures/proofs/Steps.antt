@@ -1,6 +1,5 @@
--- Items one after another: what is drawn of them, what is of each, and where a message is received.
-use Rattle.fbl_pictures.proofs.Common.{ℕ, ◌+◌, ◌<◌, ◌≤◌, ◌≡◌, List, ◌++◌, length, drop, get_or, sym, ap, ◌∙◌, append_assoc, append-nil, at_drop_all, at_drop_more, Shape, drawn, ◌∷◌, [], take, false, true, cond, Option, Some, arith, option_or, is_some, map, map_more, ◌-◌, flat_map, range_with_len}
-use Rattle.std.specs.Prelude.{Bool}
+-- Items one after another: what is drawn of them, and what is of each.
+use Rattle.fbl_pictures.proofs.Common.{ℕ, ◌+◌, ◌<◌, ◌≤◌, ◌≡◌, List, ◌++◌, length, drop, get_or, sym, ap, ◌∙◌, append_assoc, append-nil, at_drop_all, at_drop_more, Shape, drawn, ◌∷◌, [], take, arith, map, map_more, ◌-◌, flat_map, range_with_len}
 
 module _ {A S : Type 0} (items : List A) (i : ℕ) (draw : ℕ → A → List S) (front base : List S) (drew : front ++ drawn draw i (drop i items) ≡ base) where
   pub drawn_on : (x : A) → i < length items → x ≡ get_or items i x → (front ++ draw i x) ++ drawn draw (i + 1) (drop (i + 1) items) ≡ base
@@ -19,13 +18,3 @@ mapped_on f items i x within is base = append_assoc base _ _ ∙ ap (λ s. base 
 -- and what is of each number
 pub rows_all : (f : ℕ → List Shape) (n i : ℕ) (before all : List Shape) → n ≤ i → before ++ flat_map f (range_with_len i (n - i)) ≡ all → before ≡ all
 rows_all f n i before all past drawn = (let none : n - i ≡ 0 = omega (arith, past) in rw (none, append-nil) at drawn)
-
--- where a message ends, as the first entry that takes it tells
-module _ {M : Type 0} (same : M → M → Bool) (place : M → Option ℕ) (taken m : M) (is : same taken m ≡ true → taken ≡ m) (i : ℕ) (later : Option ℕ) where
-  -- the entry takes a message that has its place already
-  pub old_message : is_some (place taken) ≡ true → option_or (place m) later ≡ option_or (place m) (cond (same taken m) (Some i) later)
-  old_message there = grind (arith, is, there)
-
-  -- the entry takes a message that has no place yet
-  pub new_message : is_some (place taken) ≡ false → option_or (cond (same taken m) (Some i) (place m)) later ≡ option_or (place m) (cond (same taken m) (Some i) later)
-  new_message absent = grind (arith, is, absent)

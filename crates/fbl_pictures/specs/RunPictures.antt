@@ -8,6 +8,7 @@ use Rattle.fbl_judge.specs.declared.audit.Audit.{Audit}
 use Rattle.fbl_judge.specs.declared.check.UnsafeReceipt.{UnsafeReceipt}
 use Rattle.fbl_history.specs.declared.shape.Glyph.{Glyph}
 use Rattle.fbl_history.specs.declared.shape.Shape.{Shape}
+use Rattle.fbl_runs.specs.Clocks.{cut_of}
 use Rattle.fbl_runs.specs.Logs.{RunParts, run_of}
 use Rattle.fbl_runs.specs.Runs.{IsOrphanAt, IsSafe}
 use Rattle.fbl_runs.specs.declared.judged.Judged.{Judged}
@@ -43,12 +44,13 @@ pub record IsFindingText (run : RunParts) (around : Option ℕ) (finding : Findi
   pub drawn : IsDrawnOf run (window_of run around) finding shapes glyphs
   pub written : IsPictureText (run_heading run (window_of run around) words) shapes glyphs text
 
--- an audit finds who is struck, the orphans, and the lost receipts, at the run's end
+-- an audit finds who is struck, the orphans, and the lost receipts, at the run's end, where all has come
 pub record IsAuditFinding (run : RunParts) (audit : Audit) (finding : Finding) : Type 0 where
   pub strike : finding.strike ≡ run.strike
   pub orphans : finding.orphans ≡ audit.orphans
   pub receipts : finding.receipts.now ≡ audit.lost.items
   pub at : finding.at ≡ None
+  pub moment : (q : ℕ) → cut_of finding.moment q ≡ end_of run q
 
 -- the text is the picture of the run by its audit
 abbrev pub IsAuditedPicture : RunParts → Option ℕ → List ℕ → Type 0
@@ -56,12 +58,13 @@ IsAuditedPicture run around text =
     (audit : Audit) × IsAudit run audit × (finding : Finding) × IsAuditFinding run audit finding
     × IsFindingText run around finding (audit_words run.strike (length audit.lost.items) audit.orphans) text
 
--- a check finds what it says of a receipt
+-- a check finds what it says of a receipt, at the moment of which it is said
 pub record IsUnsafeFinding (said : UnsafeReceipt) (finding : Finding) : Type 0 where
   pub strike : finding.strike ≡ said.strike
   pub orphans : finding.orphans ≡ said.orphans
-  pub receipts : finding.receipts.now ≡ said.determinant ∷ []
+  pub receipts : finding.receipts.now ≡ record { place = said.place; determinant = said.determinant } ∷ []
   pub at : finding.at ≡ said.at
+  pub moment : finding.moment ≡ said.moment
 
 -- the words for the moment of a receipt, as they may stand in XML: where its place is in these files
 abbrev pub IsPlaceText : Sources → Option ℕ → List ℕ → Type 0

@@ -1,5 +1,5 @@
 -- The part of a run that is drawn, and what is drawn in it of lines and arrows that go beyond.
-use Rattle.std.specs.Prelude.{ℕ, ◌+◌, ◌-◌, ◌||◌, min, nat_le, nat_lt, true, false, Option, Some, None, option_and_then, if◌then◌else◌}
+use Rattle.std.specs.Prelude.{ℕ, ◌+◌, ◌-◌, ◌||◌, Bool, min, nat_le, nat_lt, true, false, Option, Some, None, option_and_then, if◌then◌else◌}
 use Rattle.fbl_runs.specs.declared.control.ControlMessage.{ControlMessage}
 use Rattle.fbl_history.specs.declared.shape.ArrowKind.{ArrowKind}
 use Rattle.fbl_history.specs.declared.shape.LineKind.{LineKind}
@@ -34,9 +34,9 @@ arrow_between from None to None kind = None
 abbrev pub arrow_within : Window → ℕ → ℕ → ℕ → ℕ → ArrowKind → Option Shape
 arrow_within w from sent to received kind = arrow_between from (column_of w sent) to (column_of w received) kind
 
--- a message in flight that is sent at a place, and a control message that is told at one and that nobody has taken
-abbrev pub in_flight_within : Window → ℕ → ℕ → ℕ → Option Shape
-in_flight_within w from sent to = option_and_then (λ column. Some (shape.InFlight from column to false false)) (column_of w sent)
+-- a message in flight that is sent at a place, by a send that is undone or not, and a control message that is told at one and that nobody has taken
+abbrev pub in_flight_within : Window → Bool → ℕ → ℕ → ℕ → Option Shape
+in_flight_within w undone from sent to = option_and_then (λ column. Some (shape.InFlight from column to false undone)) (column_of w sent)
 
 abbrev pub untaken_within : Window → ControlMessage → ℕ → Option Shape
 untaken_within w m sent = option_and_then (λ column. Some (shape.Untaken m.from column m.to)) (column_of w sent)
@@ -63,6 +63,11 @@ start_within w place = if nat_lt place w.first then None else Some (place - w.fi
 abbrev pub line_within : Window → ℕ → ℕ → ℕ → LineKind → Option Shape
 line_within w member start end kind =
     if (nat_lt end w.first || nat_le w.end start) then None else Some (shape.Line member (start_within w start) (min end w.end - w.first) kind)
+
+-- the same from the left end on, where there is no first entry
+abbrev pub part_within : Window → ℕ → Option ℕ → ℕ → LineKind → Option Shape
+part_within w member None end kind = if nat_lt end w.first then None else Some (shape.Line member None (min end w.end - w.first) kind)
+part_within w member (Some start) end kind = line_within w member start end kind
 
 -- an orphan's line from the entry at a place up to the moment before the entry at another
 abbrev pub orphan_at : Window → ℕ → ℕ → ℕ → Option ℕ → Option Shape

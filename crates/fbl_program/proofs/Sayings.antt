@@ -2,14 +2,15 @@
 use Rattle.std.specs.List.{All}
 use Rattle.fbl_judge.specs.Unsafe.{IsSaidOf, SaysUnsafe}
 use Rattle.fbl_judge.specs.declared.check.UnsafeReceipt.{UnsafeReceipt}
+use Rattle.fbl_runs.specs.HappenedBefore.{Position}
 use Rattle.fbl_runs.specs.Logs.{RunParts}
-use Rattle.fbl_trace.specs.declared.trace.Determinant.{Determinant}
-use Rattle.fbl_program.proofs.Common.{List, [], ◌∷◌, arith, inl, inr, subst, sym}
+use Rattle.fbl_runs.specs.declared.entry.Entry.{Entry}
+use Rattle.fbl_program.proofs.Common.{ℕ, List, [], ◌∷◌, ◌+◌, arith, inl, inr}
 use Rattle.std.proofs.lemmas.List.Elements.{All-cons}
 
--- of each it is said by its own determinant
-pub all_said : (run : RunParts) (receipts : List Determinant) (said : List UnsafeReceipt) → SaysUnsafe run receipts said → All (λ u. IsSaidOf run u.determinant u) said
-all_said run [] said says = rw says (λ k d inside. absurd (omega (arith, inside)))
-all_said run (d ∷ ds) said (inl says) = all_said run ds said says.1
-all_said run (d ∷ ds) said (inr (first, rest, is, of, says)) =
-    rw is (All-cons (λ u. IsSaidOf run u.determinant u) first rest (subst (λ x. IsSaidOf run x first) (sym of.determinant) of) (all_said run ds rest says))
+-- each is of a receipt of the run
+pub all_said : (run : RunParts) (place : ℕ) (entries : List Entry) (said : List UnsafeReceipt) → SaysUnsafe run place entries said → All (λ u. (i : Position) × IsSaidOf run i u) said
+all_said run place [] said says = rw says (λ k u inside. absurd (omega (arith, inside)))
+all_said run place (e ∷ entries) said (inl says) = all_said run (place + 1) entries said says.1
+all_said run place (e ∷ entries) said (inr (i, first, rest, is, at, of, says)) =
+    rw is (All-cons (λ u. (i : Position) × IsSaidOf run i u) first rest (i, of) (all_said run (place + 1) entries rest says))

@@ -9,9 +9,9 @@ use Rattle.fbl_order.specs.declared.order.Ordered.{Ordered}
 use Rattle.fbl_order.specs.Faults.{RefusesUnordered, RefusesUnorderedLog}
 use Rattle.fbl_order.specs.Files.{IsUnionOfDumps, IsUnionOfLogs, RefusesFiles, dump_group, log_group}
 use Rattle.fbl_order.specs.Answers.{AnswersAlike, DumpsAnswerAlike}
-use Rattle.fbl_order.specs.Orders.{AreHeard, ArePlaces, IsOrder, IsOrderOfEntries, as_entries, with_entries, with_events}
-use Rattle.fbl_runs.specs.Entries.{marks}
+use Rattle.fbl_order.specs.Orders.{ArePlaces, IsOrder, IsOrderOfEntries, StandInOrder, as_entries, with_entries, with_events}
 use Rattle.fbl_runs.specs.Logs.{IsLog, RunParts}
+use Rattle.fbl_runs.specs.Rules.{have_lives}
 use Rattle.fbl_records.specs.declared.reader.Recording.{Recording}
 use Rattle.fbl_records.specs.declared.reader.Recording.TheVariants as checked
 use Rattle.fbl_records.specs.declared.reader.RawRecording.{RawRecording}
@@ -69,13 +69,13 @@ pub record IsMergedDump (whole dump : Parts) (places : List ℕ) : Type 0 where
   pub kept : WellFormed whole.members whole.events → dump ≡ whole
   pub answers : DumpsAnswerAlike whole dump
 
--- the same of a log and its entries: a check finds the same receipts unsafe
+-- the same of a log and its entries: where these stood in an order, they stand as they did, and a check finds the same receipts unsafe
 pub record IsMergedLog (whole log : RunParts) (places : List ℕ) : Type 0 where
   pub rules : IsLog log
   pub parts : log ≡ with_entries log.entries whole
   pub order : IsOrderOfEntries whole.members whole.entries log.entries
   pub given : ArePlaces whole.entries log.entries places
-  pub kept : WellFormed whole.members (marks whole.entries) → AreHeard whole.entries → log ≡ whole
+  pub kept : StandInOrder (have_lives whole.entries) whole.members whole.entries → log ≡ whole
   pub answers : AnswersAlike whole log
 
 -- the same of what the files have together

@@ -1,5 +1,5 @@
 -- What a task leaves in its writer, and the exit status.
-use Rattle.std.specs.Prelude.{◌≡◌, ℕ, ◌&&◌, ◌⊎◌, not, Bool, true, List, [], ◌∷◌, Option, Some, None, Result, Ok, Err, length, map, nat_eq}
+use Rattle.std.specs.Prelude.{◌≡◌, ℕ, ◌&&◌, ◌⊎◌, not, Bool, true, List, [], ◌∷◌, Option, Some, None, Result, Ok, Err, length, map}
 use Rattle.std.specs.Io.KnownBytes.{Keeps}
 use Rattle.std.specs.List.{list_any}
 use Rattle.fbl_history.specs.declared.column.Column.{Column}
@@ -10,7 +10,6 @@ use Rattle.fbl_input.specs.declared.output.OutputFault.{OutputFault}
 use Rattle.fbl_input.specs.declared.sources.Sources.{Sources}
 use Rattle.fbl_judge.specs.Audits.{IsAudit}
 use Rattle.fbl_judge.specs.declared.audit.Audit.{Audit as Found}
-use Rattle.fbl_judge.specs.declared.check.UnsafeReceipt.{UnsafeReceipt}
 use Rattle.fbl_order.specs.declared.order.Ordered.{Ordered}
 use Rattle.fbl_pictures.specs.HistoryPictures.{IsHistoryPicture}
 use Rattle.fbl_pictures.specs.RunPictures.{IsRunPicture}
@@ -22,7 +21,8 @@ use Rattle.fbl_records.specs.DumpLines.{dump_line}
 use Rattle.fbl_records.specs.Lines.{audit_lines}
 use Rattle.fbl_records.specs.LogLines.{log_line}
 use Rattle.fbl_records.specs.Logs.{IsCheckedOf, IsNotChecked, IsNotRecorded, recorded_of_input, recorded_parts}
-use Rattle.fbl_records.specs.Texts.{IsChecked}
+use Rattle.fbl_records.specs.Texts.{IsChecked, IsCheckText, says_nothing}
+use Rattle.fbl_records.specs.declared.check_text.Checked.{Checked}
 use Rattle.fbl_records.specs.declared.reader.Recording.{Recording}
 use Rattle.fbl_records.specs.declared.reader.Recording.TheVariants as checked
 use Rattle.fbl_records.specs.declared.reader.RawRecording.{RawRecording}
@@ -62,8 +62,8 @@ DoesScript (Show workers) s before after = PutsOut (λ is_well drawn. IsShown wo
 
 -- what is told of the run, whose entries stand in these files, and whether all is well
 abbrev pub IsAnswerTo : Question → RunParts → Sources → Bool → List ℕ → Type 0
-IsAnswerTo Audit run sources is_well told = (found : Found) × IsAudit run found × (told ≡ audit_lines found.lost.items found.orphans) × (is_well ≡ true)
-IsAnswerTo Check run sources is_well told = (receipts : List UnsafeReceipt) × IsChecked run sources receipts told × (is_well ≡ nat_eq (length receipts) 0)
+IsAnswerTo Audit run sources is_well told = (found : Found) × IsAudit run found × (told ≡ audit_lines (map (λ l. l.determinant) found.lost.items) found.orphans) × (is_well ≡ true)
+IsAnswerTo Check run sources is_well told = (said : Checked) × IsChecked run said × IsCheckText sources said told × (is_well ≡ says_nothing said)
 IsAnswerTo (Draw words) run sources is_well told =
     (around : Option ℕ) × IsAround sources (length (shown_entries run)) words around × IsRunPicture run sources around told × (is_well ≡ true)
 

@@ -22,7 +22,8 @@ pub(crate) enum ScriptTask {
 pub(crate) enum Question<'a> {
     /// Which receipts are lost, and which members are orphans.
     Audit,
-    /// Which receipts could be lost with an orphan left. All is well where none could.
+    /// Which receipts could be lost with an orphan left, and of which that a restart undid an orphan is left. All is well where there is
+    /// neither.
     Check,
     /// Its picture: around the entry that these words name as a check names it, if there are some.
     Draw(Option<&'a str>),

@@ -293,6 +293,11 @@ impl MergeExplanation<'_> {
                 let (entry, rule) = (fault.entry, fault.rule);
                 write!(f, "event {spot} is {entry}, and {rule}")
             }
+            LogBreach::Life(fault) => {
+                let spot = Place(self.files.event(fault.place));
+                let (entry, rule) = (fault.entry, fault.rule);
+                write!(f, "event {spot} is {entry}, and {rule}")
+            }
             LogBreach::Record(fault) => {
                 let spot = Place(self.files.event(fault.place));
                 let (entry, rule) = (fault.entry, fault.rule);

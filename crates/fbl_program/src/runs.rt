@@ -1,9 +1,9 @@
 //! Recorded runs: what is in one file, or what several have together, is audited, checked, drawn or written.
 
 ghost use Rattle.std.specs.Prelude.{◌≡◌, ◌<◌, [], IfOk, map, string_bytes};
-ghost use Rattle.std.specs.List.{All};
 ghost use Rattle.fbl_input.specs.Faults.{PutsOut};
-ghost use Rattle.fbl_judge.specs.Unsafe.{IsSaidOf};
+ghost use Rattle.fbl_judge.specs.Audits.{AreNamed};
+ghost use Rattle.fbl_records.specs.Texts.{IsChecked};
 ghost use Rattle.fbl_program.specs.Merges.{count_of};
 ghost use Rattle.fbl_program.specs.Outcomes.{Answers, EndsMerged, EndsRecorded, EndsWith, IsAnswer, IsAnswerTo, IsPlaceMissing, IsPlaceMissingOf, run_line, run_of};
 
@@ -16,11 +16,13 @@ use crate::streams::Named;
 use crate::teller::refuse_merge;
 use fbl_input::shapes::LONGEST;
 use fbl_input::{OutputFault, RunFault, Sources, put};
-use fbl_judge::{Pasts, Reason, UnsafeReceipt, audit_of, loss_reasons, unsafe_reasons};
+use fbl_judge::{LostReceipt, Pasts, Reason, audit_of, loss_reasons, unsafe_reasons};
 use fbl_pictures::{column_count, write_run_picture};
-use fbl_records::{RawRecording, Recording, Why, dump_text, log_text, write_audit, write_check};
+use fbl_records::{
+    Checked, Overview, RawRecording, Recording, Told, UndoneReason, Why, WhyUndone, all_forgotten,
+    dump_text, log_text, undone_reasons, write_audit, write_check,
+};
 use fbl_runs::Run;
-use fbl_trace::Determinant;
 use std::alloc::{AllocError, Global};
 use std::io::Write;
 
@@ -51,19 +53,59 @@ fn write_line<T: Eprint, W: Write>(rt: &T, line: &str, writer: &mut W) -> Result
 /// Tells on standard error why receipts are lost, or could be. Where memory ran out for that it is left out.
 fn tell_why<R: Eprint>(
     rt: &R,
-    run: &Run,
+    alloc: Global,
+    pasts: &Pasts<'_>,
     sources: &Sources<'_>,
     reasons: Result<Vec<Reason>, AllocError>,
 ) {
     let Ok(reasons) = reasons else {
         return;
     };
+    let Ok(forgotten) = all_forgotten(alloc, pasts, reasons.as_slice()) else {
+        return;
+    };
     let why = Why {
-        run,
+        run: pasts.run(),
+        sources: *sources,
+        reasons: reasons.as_slice(),
+        forgotten: forgotten.as_slice(),
+    };
+    let _ = eprint!(rt; "{why}");
+}
+
+/// Tells on standard error why restarts undid receipts and left orphans of them. Where memory ran out for that it is left out.
+fn tell_undone<R: Eprint>(
+    rt: &R,
+    pasts: &Pasts<'_>,
+    sources: &Sources<'_>,
+    reasons: Result<Vec<UndoneReason>, AllocError>,
+) {
+    let Ok(reasons) = reasons else {
+        return;
+    };
+    let why = WhyUndone {
+        run: pasts.run(),
         sources: *sources,
         reasons: reasons.as_slice(),
     };
     let _ = eprint!(rt; "{why}");
+}
+
+/// Tells first on standard error what the check of a run with restarts found. Where memory ran out for that it is left out.
+fn tell_overview<R: Eprint>(
+    rt: &R,
+    pasts: &Pasts<'_>,
+    sources: &Sources<'_>,
+    overview: Result<Option<Overview>, AllocError>,
+) {
+    if let Ok(Some(overview)) = overview {
+        let told = Told {
+            overview: &overview,
+            run: pasts.run(),
+            sources: *sources,
+        };
+        let _ = eprint!(rt; "{told}");
+    }
 }
 
 /// Tells why these receipts are lost, where that is asked for.
@@ -73,31 +115,33 @@ fn explain_losses<R: Eprint>(
     explain: bool,
     pasts: &Pasts<'_>,
     sources: &Sources<'_>,
-    lost: &[Determinant],
-) {
+    lost: &[LostReceipt],
+)
+    requires { AreNamed pasts.now lost.now }
+{
     if explain {
-        tell_why(rt, pasts.run(), sources, loss_reasons(alloc, pasts, lost));
+        tell_why(rt, alloc, pasts, sources, loss_reasons(alloc, pasts, lost));
     }
 }
 
-/// Tells why these receipts are unsafe, where that is asked for.
+/// Tells why the check says what it says, where that is asked for.
 fn explain_check<R: Eprint>(
     rt: &R,
     alloc: Global,
     explain: bool,
     pasts: &Pasts<'_>,
     sources: &Sources<'_>,
-    receipts: &[UnsafeReceipt],
+    checked: &Checked,
 )
-    requires { All (λ said. IsSaidOf pasts.now said.determinant said) receipts.now }
+    requires { IsChecked pasts.now checked.now }
 {
     if explain {
-        tell_why(
-            rt,
-            pasts.run(),
-            sources,
-            unsafe_reasons(alloc, pasts, receipts),
-        );
+        let overview = Overview::of(alloc, pasts, checked);
+        tell_overview(rt, pasts, sources, overview);
+        let reasons = unsafe_reasons(alloc, pasts, checked.unsafe_receipts.as_slice());
+        tell_why(rt, alloc, pasts, sources, reasons);
+        let undone = undone_reasons(alloc, pasts, checked.undone_receipts.as_slice());
+        tell_undone(rt, pasts, sources, undone);
     }
 }
 
@@ -122,9 +166,9 @@ fn answer<T: Eprint, W: Write>(
             Ok(true)
         }
         Question::Check => {
-            let receipts = write_check(alloc, pasts, sources, writer)?;
-            explain_check(rt, alloc, explain, pasts, sources, receipts.as_slice());
-            Ok(receipts.is_empty())
+            let checked = write_check(alloc, pasts, sources, writer)?;
+            explain_check(rt, alloc, explain, pasts, sources, &checked);
+            Ok(checked.is_safe())
         }
         Question::Draw(words) => {
             let around = place_asked(rt, alloc, sources, column_count(pasts), words)?;

@@ -11,7 +11,7 @@ use std::fmt;
 /// Everything was done, and all is well.
 pub const DONE: u8 = 0;
 
-/// The checked run is unsafe, or a command of a strict play was refused.
+/// The checked run is unsafe, or a restart in it left an orphan; or a command of a strict play was refused.
 pub const NOT_WELL: u8 = 1;
 
 /// The command line, the script or the recorded run has a fault.

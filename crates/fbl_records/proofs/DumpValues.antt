@@ -2,7 +2,7 @@
 use Rattle.fbl_records.proofs.Common.{◌≡◌, ◌≤◌, refl, arith, false, Some, Ok, All, Parts, IsDump, Send, Receipt, member_list, member_shape, depth, has_float}
 use Rattle.fbl_records.proofs.Common.{IsWritable, entry_data, event_data, pair_data, number_data, event_shape, pair_shape}
 use Rattle.fbl_runs.specs.declared.entry.Entry.{Entry}
-use Rattle.fbl_runs.specs.declared.entry.Entry.TheVariants.{Event, Hold, Store, Tell, Told}
+use Rattle.fbl_runs.specs.declared.entry.Entry.TheVariants.{Event, Hold, LaterReceipt, Restart, Store, Tell, Told}
 use Rattle.fbl_records.specs.Dumps.{parts_of_data}
 use Rattle.fbl_records.specs.DumpLines.{dump_data}
 use Rattle.fbl_records.proofs.Values.{flat, list_read, number_read, set_read}
@@ -30,6 +30,8 @@ flat_entry (Hold q d) = (refl, omega arith)
 flat_entry (Store q d) = (refl, omega arith)
 flat_entry (Tell m) = (refl, omega arith)
 flat_entry (Told m) = (refl, omega arith)
+flat_entry (LaterReceipt d life) = (refl, omega arith)
+flat_entry (Restart r) = (refl, omega arith)
 
 pub dump_writable : (dump : Parts) → IsWritable (dump_data dump)
 unfolding dump_data

@@ -5,3 +5,7 @@ pub mod Records
 pub mod Values
 pub mod DumpValues
 pub mod LogValues
+pub mod Cuts
+pub mod ForgottenLaws
+pub mod UndoneLaws
+pub mod Zips

@@ -10,7 +10,7 @@ use Rattle.fbl_trace.specs.declared.trace.Determinant.{Determinant}
 use Rattle.fbl_trace.specs.declared.trace.Mark.{Mark}
 use Rattle.fbl_trace.specs.declared.trace.Mark.TheVariants.{Send, Receipt}
 use Rattle.fbl_runs.specs.declared.entry.Entry.{Entry}
-use Rattle.fbl_runs.specs.declared.entry.Entry.TheVariants.{Event, Hold, Store, Tell, Told}
+use Rattle.fbl_runs.specs.declared.entry.Entry.TheVariants.{Event, Hold, LaterReceipt, Restart, Store, Tell, Told}
 use Rattle.fbl_dumps.specs.Dumps.{Parts}
 use Rattle.fbl_trace.specs.MemberSets.{member_list}
 use Rattle.fbl_input.specs.declared.key.Key.TheVariants as keys
@@ -28,7 +28,8 @@ abbrev pub record_data : List ℕ → ℕ → Determinant → Data
 record_data name q d = list_data (string name ∷ number_data q ∷ number_data d.from ∷ number_data d.ssn ∷ number_data d.to ∷ number_data d.rsn ∷ [])
 
 -- `["send", from, ssn, to]`, `["receipt", to, rsn, from, ssn]`, `["hold", holder, from, ssn, to, rsn]`,
--- `["store", member, from, ssn, to, rsn]`, `["tell", from, to, id]` or `["told", to, from, id]`
+-- `["store", member, from, ssn, to, rsn]`, `["tell", from, to, id]`, `["told", to, from, id]`, `["receipt", to, rsn, from, ssn, life]` or
+-- `["restart", member, life, receipts, sends]`
 abbrev pub entry_data : Entry → Data
 entry_data (Event (Send from ssn to)) = list_data (string (codes "send") ∷ number_data from ∷ number_data ssn ∷ number_data to ∷ [])
 entry_data (Event (Receipt to rsn from ssn)) =
@@ -37,6 +38,10 @@ entry_data (Hold holder d) = record_data (codes "hold") holder d
 entry_data (Store q d) = record_data (codes "store") q d
 entry_data (Tell m) = list_data (string (codes "tell") ∷ number_data m.from ∷ number_data m.to ∷ number_data m.id ∷ [])
 entry_data (Told m) = list_data (string (codes "told") ∷ number_data m.to ∷ number_data m.from ∷ number_data m.id ∷ [])
+entry_data (LaterReceipt d life) =
+    list_data (string (codes "receipt") ∷ number_data d.to ∷ number_data d.rsn ∷ number_data d.from ∷ number_data d.ssn ∷ number_data life ∷ [])
+entry_data (Restart r) =
+    list_data (string (codes "restart") ∷ number_data r.member ∷ number_data r.life ∷ number_data r.receipts ∷ number_data r.sends ∷ [])
 
 abbrev pub event_data : Mark → Data
 event_data e = entry_data (Event e)

@@ -5,3 +5,5 @@ pub mod EventLines
 pub mod Logs
 pub mod LogLines
 pub mod Texts
+pub mod Forgotten
+pub mod UndoneReasons

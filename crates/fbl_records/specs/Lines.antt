@@ -4,8 +4,11 @@ use Rattle.std.specs.List.{flat_map}
 use Rattle.std.specs.Ordering.{nat_cmp}
 use Rattle.std.specs.FinSet as set
 use Rattle.fbl_judge.specs.declared.check.UnsafeReceipt.{UnsafeReceipt}
+use Rattle.fbl_judge.specs.declared.undone.UndoneReceipt.{UndoneReceipt}
 use Rattle.fbl_trace.specs.declared.trace.Determinant.{Determinant}
 use Rattle.fbl_input.specs.Lines.{line, set_words}
+use Rattle.fbl_records.specs.declared.check_text.Said.{Said}
+use Rattle.fbl_records.specs.declared.check_text.Said.TheVariants.{Undone, Unsafe}
 
 abbrev pub lost_line : ℕ → List ℕ
 lost_line lost = line (codes "lost " ∷ decimal lost ∷ [])
@@ -31,3 +34,16 @@ outcome_line strike orphans = line (codes " strike " ∷ set_words strike ∷ co
 -- a receipt that could be lost: its determinant, and the words for where its moment stands
 abbrev pub unsafe_line : List ℕ → UnsafeReceipt → List ℕ
 unsafe_line words u = codes "unsafe" ++ determinant_words u.determinant ++ words ++ outcome_line u.strike u.orphans
+
+-- the orphans that a restart left
+abbrev pub left_line : set.FinSet nat_cmp → List ℕ
+left_line orphans = line (codes " orphans " ∷ set_words orphans ∷ [])
+
+-- a receipt that a restart undid: its determinant, and the words for where the restart stands
+abbrev pub undone_line : List ℕ → UndoneReceipt → List ℕ
+undone_line words u = codes "undone" ++ determinant_words u.determinant ++ words ++ left_line u.orphans
+
+-- the place of the receipt of which it is said
+abbrev pub said_place : Said → ℕ
+said_place (Unsafe u) = u.place
+said_place (Undone u) = u.place

@@ -1,6 +1,6 @@
 //! What an audit says.
 
-ghost use Rattle.std.specs.Prelude.{◌≡◌, ◌++◌, IfOk, IfSome, OnOk, string_bytes};
+ghost use Rattle.std.specs.Prelude.{◌≡◌, ◌++◌, IfOk, IfSome, OnOk, map, string_bytes};
 ghost use Rattle.std.specs.List.{flat_map};
 ghost use Rattle.fbl_input.specs.Faults.{PutsOut};
 ghost use Rattle.fbl_records.specs.Lines.{audit_lines, determinant_line, determinant_words, orphans_line};
@@ -10,7 +10,7 @@ use crate::reader::read_dump;
 use fbl_base::audit::{lost, orphans};
 use fbl_dumps::Dump;
 use fbl_input::{OutputFault, RunFault, push_set, put};
-use fbl_judge::Audit;
+use fbl_judge::{Audit, LostReceipt};
 use fbl_trace::{Determinant, MemberSet};
 use std::alloc::{AllocError, Global};
 use std::io::{Read, Write};
@@ -67,6 +67,30 @@ fn audit_text(alloc: Global, lost: &[Determinant], orphans: MemberSet) -> Result
     Ok(text)
 }
 
+/// Writes these lines of an audit.
+fn write_lines<W: Write>(
+    alloc: Global,
+    lost: &[Determinant],
+    orphans: MemberSet,
+    writer: &mut W,
+) -> Result<(), OutputFault>
+    ensures { PutsOut (λ _ text. text ≡ audit_lines lost.now orphans) (W.contents writer.old) (W.contents writer.new) result }
+{
+    let text = audit_text(alloc, lost, orphans)?;
+    put(writer, text.as_bytes())
+}
+
+/// What names these receipts.
+fn determinants(alloc: Global, lost: &[LostReceipt]) -> Result<Vec<Determinant>, AllocError>
+    ensures { IfOk result (λ v. v.items ≡ map (λ l. l.determinant) lost.now) }
+{
+    let mut determinants = Vec::new(alloc);
+    for receipt in lost {
+        determinants.push(receipt.determinant)?;
+    }
+    Ok(determinants)
+}
+
 /// Writes what an audit found: how many receipts are lost, the determinant of each, and the orphans.
 pub fn write_audit<W: Write>(
     alloc: Global,
@@ -75,8 +99,8 @@ pub fn write_audit<W: Write>(
 ) -> Result<(), OutputFault>
     ensures { PutsAudit audit.now (W.contents writer.old) (W.contents writer.new) result }
 {
-    let text = audit_text(alloc, audit.lost.as_slice(), audit.orphans)?;
-    put(writer, text.as_bytes())
+    let lost = determinants(alloc, audit.lost.as_slice())?;
+    write_lines(alloc, lost.as_slice(), audit.orphans, writer)
 }
 
 /// Audits the dump, and writes what the audit found.
@@ -85,7 +109,7 @@ fn write_dump_audit<W: Write>(alloc: Global, dump: &Dump, writer: &mut W) -> Res
 {
     let lost = lost(alloc, dump)?;
     let orphans = orphans(alloc, dump)?;
-    write_audit(alloc, &Audit { lost, orphans }, writer)
+    write_lines(alloc, lost.as_slice(), orphans, writer)
 }
 
 /// Audits the dump that the reader has. Nothing is written where the fault is another than `Write`.

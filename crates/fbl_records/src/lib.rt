@@ -5,16 +5,22 @@
 mod audit_text;
 mod check_text;
 mod event_lines;
+mod forgotten;
 pub mod laws;
 mod lines;
 mod log_version;
+mod overview;
 mod reader;
 mod reason_text;
+mod undone_text;
 
 pub use audit_text::{audit, write_audit};
-pub use check_text::write_check;
+pub use check_text::{Checked, write_check};
+pub use forgotten::{Forgotten, all_forgotten};
 pub use lines::{dump_text, log_text};
+pub use overview::{Overview, Told};
 pub use reader::{
     RawRecording, RecordedInput, Recording, checked_input, read_checked, read_dump, read_recorded,
 };
 pub use reason_text::Why;
+pub use undone_text::{UndoneReason, WhyUndone, undone_reasons};

@@ -14,7 +14,7 @@ ghost use Rattle.fbl_records.specs.Logs.{log_of_data};
 ghost use Rattle.fbl_runs.specs.declared.judged.Judged.TheVariants.{AtEachMoment};
 
 use fbl_dumps::Dump;
-use fbl_runs::{Entry, Run};
+use fbl_runs::{Entry, Restart, Run};
 use fbl_trace::{Determinant, Mark, Member, MemberSet};
 use serde_json::{Map, Value, put};
 use std::alloc::{AllocError, Global};
@@ -55,6 +55,33 @@ fn control_numbers(own: Member, other: Member, id: u32) -> [u32; 3]
     ensures { result ≡ own ∷ other ∷ id ∷ [] }
 {
     [u32::from(own.number()), u32::from(other.number()), id]
+}
+
+/// The numbers of a receipt that names a life of its sender.
+fn later_receipt_numbers(determinant: Determinant, life: u32) -> [u32; 5]
+    ensures { result ≡ determinant.to ∷ determinant.rsn ∷ determinant.from ∷ determinant.ssn ∷ life ∷ [] }
+{
+    let Determinant { from, ssn, to, rsn } = determinant;
+    [
+        u32::from(to.number()),
+        rsn,
+        u32::from(from.number()),
+        ssn,
+        life,
+    ]
+}
+
+/// The numbers of a restart.
+fn restart_numbers(restart: Restart) -> [u32; 4]
+    ensures { result ≡ restart.member ∷ restart.life ∷ restart.receipts ∷ restart.sends ∷ [] }
+{
+    let Restart {
+        member,
+        life,
+        receipts,
+        sends,
+    } = restart;
+    [u32::from(member.number()), life, receipts, sends]
 }
 
 /// A send or a receipt as a list.
@@ -103,6 +130,11 @@ impl Form<Entry> for EntryForm {
                 let numbers = control_numbers(message.to, message.from, message.id);
                 named_value(alloc, "told", &numbers)
             }
+            Entry::LaterReceipt { determinant, life } => {
+                let numbers = later_receipt_numbers(determinant, life);
+                named_value(alloc, "receipt", &numbers)
+            }
+            Entry::Restart(restart) => { named_value(alloc, "restart", &restart_numbers(restart)) }
         }
     }
 }

@@ -1,6 +1,7 @@
-//! Why receipts are lost, or could be, in words for a person: who holds them, when the others would have learned of them, and by which
-//! paths members that are left depend on them.
+//! Why receipts are lost, or could be, in words for a person: who holds them, who held them until a restart, when the others would have
+//! learned of them, and by which paths members that are left depend on them.
 
+use crate::forgotten::Forgotten;
 use fbl_input::Sources;
 use fbl_judge::{OrphanPath, Reason};
 use fbl_runs::{Entry, Run};
@@ -14,6 +15,8 @@ pub struct Why<'a> {
     /// Where its entries stand.
     pub sources: Sources<'a>,
     pub reasons: &'a [Reason],
+    /// In which restarts members forgot each receipt.
+    pub forgotten: &'a [Forgotten],
 }
 
 /// Writes an event of a path, behind this.
@@ -38,6 +41,25 @@ fn write_holders<W: fmt::Write>(f: &mut fmt::Formatter<W>, reason: &Reason) -> f
     }
 }
 
+/// Writes the orphan, and the events of the path to it, as in `orphan 2 depends on it: receipt 1 of member 1, send 1 of member 1`.
+pub(crate) fn write_path<W: fmt::Write>(
+    f: &mut fmt::Formatter<W>,
+    run: &Run,
+    path: &OrphanPath,
+) -> fmt::Result {
+    let orphan = path.orphan;
+    write!(f, "orphan {orphan} depends on it")?;
+    let mut before = ":";
+    for place in &path.places {
+        let entry = run.entries().get(*place).copied();
+        if let Some(event) = entry.and_then(Entry::event) {
+            write_step(f, before, &event)?;
+        }
+        before = ",";
+    }
+    f.write_str("\n")
+}
+
 impl Why<'_> {
     /// Writes who comes to know of a receipt at this place.
     fn write_next<W: fmt::Write>(
@@ -60,30 +82,32 @@ impl Why<'_> {
         }
     }
 
-    /// Writes the orphan, and the events of the path to it, as in `orphan 2 depends on it: receipt 1 of member 1, send 1 of member 1`.
-    fn write_path<W: fmt::Write>(
+    /// Writes in which restarts members forgot the receipt.
+    fn write_forgotten<W: fmt::Write>(
         &self,
         f: &mut fmt::Formatter<W>,
-        path: &OrphanPath,
+        forgotten: &Forgotten,
     ) -> fmt::Result {
-        let orphan = path.orphan;
-        write!(f, "orphan {orphan} depends on it")?;
-        let mut before = ":";
-        for place in &path.places {
-            if let Some(Entry::Event(event)) = self.run.entries().get(*place) {
-                write_step(f, before, event)?;
+        for restart in &forgotten.restarts {
+            if let Some(entry) = self.run.entries().get(*restart) {
+                let member = entry.member();
+                let spot = self.sources.spot(*restart);
+                write!(f, "; {member} held it until it restarted, at {spot}")?;
             }
-            before = ",";
         }
-        f.write_str("\n")
+        Ok(())
     }
 
     fn write_reason<W: fmt::Write>(
         &self,
         f: &mut fmt::Formatter<W>,
         reason: &Reason,
+        forgotten: Option<&Forgotten>,
     ) -> fmt::Result {
         write_holders(f, reason)?;
+        if let Some(forgotten) = forgotten {
+            self.write_forgotten(f, forgotten)?;
+        }
         if reason.at.is_some() {
             self.write_next(f, reason.next)?;
         } else if reason.paths.is_empty() {
@@ -91,7 +115,7 @@ impl Why<'_> {
         }
         f.write_str("\n")?;
         for path in &reason.paths {
-            self.write_path(f, path)?;
+            write_path(f, self.run, path)?;
         }
         Ok(())
     }
@@ -99,8 +123,8 @@ impl Why<'_> {
 
 impl fmt::Display for Why<'_> {
     fn fmt<W: fmt::Write>(&self, f: &mut fmt::Formatter<W>) -> fmt::Result {
-        for reason in self.reasons {
-            self.write_reason(f, reason)?;
+        for (number, reason) in self.reasons.iter().enumerate() {
+            self.write_reason(f, reason, self.forgotten.get(number))?;
         }
         Ok(())
     }

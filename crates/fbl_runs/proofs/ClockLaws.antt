@@ -1,30 +1,47 @@
--- Vector clocks: how many entries of each member precede one of a member's first entries.
-use Rattle.fbl_runs.proofs.Common.{ℕ, zero, suc, cond, ◌≡◌, ◌≢◌, ◌==◌, ◌<◌, ◌≤◌, ◌⊎◌, ◌↔◌, inl, inr, List, length, max, Some, None, slice_get, refl, sym, ap, subst, ◌∙◌, arith}
-use Rattle.fbl_runs.proofs.Common.{nat_tests, cases_eq, cases_lt, slice_get_within, WellFormed, Mark, Send, Receipt, send_of}
-use Rattle.fbl_runs.proofs.Common.{Causality, ControlMessage, Dependence, HappenedBefore, Entry, Event, Hold, Store, Tell, Told, Carries, Passes, Logs, entry_member, log_of, marks, IsAt, Leads, Position, Precedes, at, itself, step, Cut, HasCome}
-use Rattle.fbl_runs.specs.Clocks.{IsBrought, IsClock, seen}
-use Rattle.fbl_runs.specs.ControlMessages.{AreTold}
-use Rattle.fbl_runs.proofs.ControlLaws.{one_tell, told_before}
-use Rattle.fbl_runs.proofs.Listing.{one_position, seen-all, seen-own, seen-other, some_entry, placed, seen-later, sent_before}
+-- Vector clocks: what precedes an entry, by the clocks of what leads to it at once.
+use Rattle.fbl_runs.proofs.Common.{ℕ, zero, suc, cond, ◌≡◌, ◌≢◌, ◌==◌, ◌<◌, ◌≤◌, ◌+◌, ◌⊎◌, ◌↔◌, inl, inr, List, max, Option, Some, None, slice_get, refl, sym, ap, subst, ◌∙◌, arith}
+use Rattle.fbl_runs.proofs.Common.{nat_tests, cases_eq, cases_order, slice_get_within, Determinant, Mark, Send, Receipt, Told, mark_in, receipt_in, send_of}
+use Rattle.std.specs.Prelude.{option_and_then}
+use Rattle.fbl_trace.specs.Events.{determinant_of}
+use Rattle.fbl_runs.proofs.Common.{Event, Hold, LaterReceipt, Restart, Store, Tell, ControlMessage, receipt_of, [], ◌∷◌}
+use Rattle.fbl_runs.specs.declared.entry.Restart as restart
+use Rattle.fbl_runs.proofs.Common.{Begins, Carries, Causality, Cut, Dependence, Entry, HappenedBefore, IsAt, IsEarlier, Leads, Logs, Position, Precedes, StandsBehind, StoodBefore, Tells, at, entry_member, itself, log_of, step}
+use Rattle.fbl_runs.specs.declared.links.Link.{Link}
+use Rattle.fbl_runs.specs.Clocks.{StandsAt, seen}
+use Rattle.fbl_runs.specs.Links.{AreLinks, AreOfOneLife, IsLastPlace, IsLink, IsMessageOf, IsPlaceOf}
+use Rattle.fbl_runs.specs.Precedence.{AreBelow, HasColumn, IsAmong, IsBelow, IsClock, IsJoined, IsPast, IsSourceClock, message_taken, reached_cut, sources_of}
+use Rattle.fbl_runs.specs.Rules.{AreLawful}
+use Rattle.fbl_runs.proofs.ControlLaws.{told_before}
+use Rattle.fbl_runs.proofs.LeadsLaws.{are_told, begins_before, begins_one, carried, carries_one, earlier_before, here_stands, leads_before, same_position, stands_somewhere, tells_one}
+use Rattle.fbl_runs.proofs.Listing.{seen-later, some_entry, stands_at}
 
 pub Precedes-joined : {c : Causality} {logs : Logs} {i j k : Position} → Precedes c logs i j → Precedes c logs j k → Precedes c logs i k
 Precedes-joined p (itself h) = p
 Precedes-joined p (step q s) = step (Precedes-joined p q) s
 
--- both ends are there
+-- both ends of a step are there
+pub leads_there : (c : Causality) (logs : Logs) (i j : Position) → Leads c logs i j → ((a : Entry) × IsAt logs i a) × ((b : Entry) × IsAt logs j b)
+leads_there HappenedBefore logs i j (inl own) = ((own.0, own.2), (own.1, own.3))
+leads_there HappenedBefore logs i j (inr (inl carries)) = ((_, carries.3), (carries.2, carries.4))
+leads_there HappenedBefore logs i j (inr (inr (inl tells))) = ((_, tells.1), (_, tells.2))
+leads_there HappenedBefore logs i j (inr (inr (inr begins))) = ((_, begins.2), (_, begins.3))
+leads_there Dependence logs i j (inl (own, stood)) = ((own.0, own.2), (own.1, own.3))
+leads_there Dependence logs i j (inr carries) = ((_, carries.3), (carries.2, carries.4))
+
+-- both ends of a path are there
 pub first_there : {c : Causality} {logs : Logs} {i j : Position} → Precedes c logs i j → (e : Entry) × IsAt logs i e
 first_there (itself {a} h) = (a, h)
 first_there (step p s) = first_there p
 
 pub last_there : {c : Causality} {logs : Logs} {i j : Position} → Precedes c logs i j → (e : Entry) × IsAt logs j e
 last_there (itself {a} h) = (a, h)
-last_there (step p s) = (s.1, s.3)
+last_there {c} {logs} (step {j} {k} p s) = (leads_there c logs j k s).1
 
--- an earlier entry of the same member precedes
-pub own_precedes : {c : Causality} (logs : Logs) (m k l : ℕ) (a b : Entry) → IsAt logs (at m k) a → IsAt logs (at m l) b → k ≤ l → Precedes c logs (at m k) (at m l)
+-- an earlier entry of the same member happened before
+pub own_precedes : (logs : Logs) (m k l : ℕ) (a b : Entry) → IsAt logs (at m k) a → IsAt logs (at m l) b → k ≤ l → Precedes HappenedBefore logs (at m k) (at m l)
 own_precedes logs m k l a b at_k at_l before = elim (cases_eq k l) [
   | inl same ↦ (rw (← same) (itself at_k))
-  | inr ne ↦ step (itself at_k) (a, b, at_k, at_l, inl (refl, omega (arith, before, ne)))
+  | inr ne ↦ step (itself at_k) (inl (a, b, at_k, at_l, refl, omega (arith, before, ne)))
 ]
 
 -- an entry that another stands behind is there
@@ -36,176 +53,391 @@ pub last_step : {c : Causality} {logs : Logs} {i j : Position} → Precedes c lo
 last_step (itself h) = inl refl
 last_step (step {j} p s) = inr (j, p, s)
 
--- the cut has what the two have, and the member's first ones
-abbrev pub Joins : Cut → Cut → ℕ → ℕ → Cut → Type 0
-Joins before brought m count cut = (i : Position) → HasCome cut i ↔ HasCome before i ⊎ HasCome brought i ⊎ ((i.member ≡ m) × (i.number < count))
+-- ---- where positions are
 
--- the clock of one entry more
-pub IsClock-next : (c : Causality) (logs : Logs) (m l : ℕ) (b : Entry) (before brought cut : Cut) → IsAt logs (at m l) b → IsClock c logs m l before → IsBrought c logs b brought
-    → Joins before brought m (suc l) cut → IsClock c logs m (suc l) cut
-IsClock-next c logs m l b before brought cut here clock message joins = record {
-  all = λ i p. (joins i).1 (comes i p.0 p.1 p.2);
-  only = λ i come. elim ((joins i).0 come) [
-    | inl old ↦ (let p = clock.only i old in (p.0, omega (arith, p.1), p.2))
-    | inr (inl new) ↦ (let w = message.only i new in (l, omega arith, step w.4 (w.1, b, w.2, here, inr w.3)))
-    | inr (inr own) ↦ (l, omega arith, from_own i own.0 own.1)
-  ];
-} where
-  from_own : (i : Position) → i.member ≡ m → i.number < suc l → Precedes c logs i (at m l)
-  from_own i same below =
-      let a = there_before logs m i.number l b here (omega (arith, below)) in
-      let P : ℕ → Type 0 = λ x. Precedes c logs (at x i.number) (at m l) in
-      subst P (sym same) (own_precedes logs m i.number l a.0 b a.1 here (omega (arith, below)))
+-- one position stands at a place
+pub one_position : (entries : List Entry) (p : ℕ) (i j : Position) → StandsAt entries p i → StandsAt entries p j → i ≡ j
+one_position entries p i j at_i at_j =
+    let same : at_i.0 ≡ at_j.0 = (let s : Some at_i.0 ≡ Some at_j.0 = sym at_i.1 ∙ at_j.1 in cc) in
+    let member : i.member ≡ j.member = sym at_i.2 ∙ ap entry_member same ∙ at_j.2 in
+    same_position i j member (sym at_i.3 ∙ ap (seen entries p) member ∙ at_j.3)
 
-  comes : (i : Position) (k : ℕ) → k < suc l → Precedes c logs i (at m k) → HasCome before i ⊎ HasCome brought i ⊎ ((i.member ≡ m) × (i.number < suc l))
-  comes i k below p = elim (cases_eq k l) [
-    | inr ne ↦ inl (clock.all i (k, omega (arith, below, ne), p))
-    | inl same ↦ elim (last_step (rw same at p)) [
-      | inl is ↦ inr (inr (ap (λ x. x.member) is, (let e = ap (λ x. x.number) is in omega (arith, e))))
-      | inr s ↦ elim s.2.4 [
-        | inl own ↦ inl (clock.all i (s.0.number, own.1, (rw (← own.0) s.1)))
-        | inr carries ↦ inr (inl (message.all i s.0 s.2.0 s.2.2 (let same_b : s.2.1 ≡ b = (let e : Some s.2.1 ≡ Some b = sym s.2.3 ∙ here in cc) in (rw same_b at carries)) s.1))
-      ]
-    ]
-  ]
+not_later : (entries : List Entry) (p q : ℕ) (i : Position) → StandsAt entries p i → StandsAt entries q i → p < q → ⊥
+not_later entries p q i at_p at_q before = (let more = seen-later entries p q i.member at_p.0 at_p.1 at_p.2 before in omega (arith, more, at_p.3, at_q.3))
 
--- what an entry with no message brings
-pub IsBrought-none : (c : Causality) (logs : Logs) (b : Entry) → ((a : Entry) → ¬ (Passes c a b)) → IsBrought c logs b (λ q. 0)
-IsBrought-none c logs b none = record { all = λ i j a is carries p. absurd (none a carries); only = λ i come. absurd (omega (arith, come)) }
+-- and a position at one place
+pub one_place_of : (entries : List Entry) (p q : ℕ) (i : Position) → StandsAt entries p i → StandsAt entries q i → p ≡ q
+one_place_of entries p q i at_p at_q = elim (cases_order p q) [
+  | inl same ↦ same
+  | inr (inl below) ↦ absurd (not_later entries p q i at_p at_q below)
+  | inr (inr above) ↦ absurd (not_later entries q p i at_q at_p above)
+]
 
--- the clock of no entries
-pub IsClock-none : (c : Causality) (logs : Logs) (m : ℕ) → IsClock c logs m 0 (λ q. 0)
-IsClock-none c logs m = record { all = λ i p. absurd (omega (arith, p.1)); only = λ i come. absurd (omega (arith, come)) }
+-- the entry of a position that stands at a place is there
+pub there_at : (entries : List Entry) (p : ℕ) (i : Position) → StandsAt entries p i → (e : Entry) × IsAt (log_of entries) i e
+there_at entries p i stands = (stands.0, stands_at entries p i stands.0 stands stands.1)
 
--- nothing passes to an entry that is no receipt and is told nothing
-pub passes_none : (c : Causality) (b : Entry) → ((a : Entry) → ¬ (Carries a b)) → ((m : ControlMessage) → ¬ (b ≡ Told m)) → (a : Entry) → ¬ (Passes c a b)
-passes_none HappenedBefore b none untold a passes = elim passes [ inl carries ↦ none a carries | inr tells ↦ untold tells.0 tells.2 ]
-passes_none Dependence b none untold a carries = none a carries
+-- ---- the clock of an entry
 
--- a message passes from a send to its receipt
-pub carried : (c : Causality) (a b : Entry) → Carries a b → Passes c a b
-carried HappenedBefore a b carries = inl carries
-carried Dependence a b carries = carries
+-- the cut has what precedes one of these positions
+abbrev pub IsBrought : Causality → List Entry → List Link → (Position → Type 0) → Cut → Type 0
+IsBrought c entries links S cut =
+    (i : Position) (number : ℕ) → HasColumn c entries links i number → (i.number < cut number) ↔ (k : Position) × S k × Precedes c (log_of entries) i k
 
--- and to a receipt from its send alone
-pub from_send : (c : Causality) (s r : Mark) → send_of r ≡ Some s → (a : Entry) → Passes c a (Event r) → a ≡ Event s
-from_send c s r takes a passes = by_causality c passes where
-  sent : (a : Entry) → Carries a (Event r) → a ≡ Event s
-  sent a c =
-      let same : r ≡ c.1 = (let e = c.3 in cc) in
-      let send : Some c.0 ≡ Some s = sym c.4 ∙ sym (ap send_of same) ∙ takes in
-      c.2 ∙ (let e : c.0 ≡ s = cc in ap Event e)
+pub brought_none : (c : Causality) (entries : List Entry) (links : List Link) (S : Position → Type 0) (cut : Cut) → ((k : Position) → ¬ (S k)) → ((q : ℕ) → cut q ≡ 0) → IsBrought c entries links S cut
+brought_none c entries links S cut none nothing i number has = (λ come. absurd (let z = nothing number in omega (arith, come, z)), λ w. absurd (none w.0 w.1))
 
-  by_causality : (c : Causality) → Passes c a (Event r) → a ≡ Event s
-  by_causality HappenedBefore passes = elim passes [ inl carries ↦ sent a carries | inr tells ↦ (let e = tells.2 in cc) ]
-  by_causality Dependence carries = sent a carries
+-- where all of them precede one of them, that has its clock
+pub brought_one : (c : Causality) (entries : List Entry) (links : List Link) (S : Position → Type 0) (cut : Cut) (k : Position) → S k
+    → ((l : Position) → S l → Precedes c (log_of entries) l k) → IsClock c entries links k cut → IsBrought c entries links S cut
+brought_one c entries links S cut k one all clock i number has = (λ come. (k, one, (clock i number has).0 come), λ w. (clock i number has).1 (Precedes-joined w.2 (all w.0 w.1)))
 
--- what an entry brings, to which one entry alone passes, is the clock of that
-pub IsBrought-from : (c : Causality) (logs : Logs) (m k : ℕ) (x b : Entry) (cut : Cut) → ((a : Entry) → Passes c a b → a ≡ x) → Passes c x b
-    → ((j : Position) → IsAt logs j x → (j.member ≡ m) × (j.number ≡ k)) → IsAt logs (at m k) x → IsClock c logs m (suc k) cut → IsBrought c logs b cut
-IsBrought-from c logs m k x b cut alone passes once here clock = record {
-  all = λ i j a is passes' p.
-      let one = once j (is ∙ ap Some (alone a passes')) in
-      clock.all i (j.number, omega (arith, one.1), (rw one.0 at p));
-  only = λ i come.
-      let w = clock.only i come in
-      let own = last_there w.2 in
-      (at m k, x, here, passes, Precedes-joined w.2 (own_precedes logs m w.0 k own.0 x own.1 here (omega (arith, w.1))));
-}
+max_of : (a b d own k : ℕ) → (k < max (max (max a b) d) own) ↔ (k < a) ⊎ (k < b) ⊎ (k < d) ⊎ (k < own)
+max_of a b d own k = grind arith
 
--- what a receipt brings is the clock of its send
-pub IsBrought-send : (c : Causality) (n : ℕ) (entries : List Entry) → WellFormed n (marks entries) → (m k : ℕ) (s r : Mark) (cut : Cut)
-    → IsAt (log_of entries) (at m k) (Event s) → send_of r ≡ Some s → IsClock c (log_of entries) m (suc k) cut → IsBrought c (log_of entries) (Event r) cut
-IsBrought-send c n entries obeys m k s r cut here takes clock =
-    IsBrought-from c (log_of entries) m k (Event s) (Event r) cut (from_send c s r takes) (carried c (Event s) (Event r) (s, r, refl, refl, takes))
-    (λ j is. one_position n entries obeys j.member j.number m k s is here) here clock
+-- the entries that are counted with the entry's number up to it precede it
+abbrev pub IsOwn : Causality → List Entry → List Link → Position → ℕ → Type 0
+IsOwn c entries links j number = (i : Position) → HasColumn c entries links i number → i.number ≤ j.number → Precedes c (log_of entries) i j
 
--- what a member is told brings the clock of the tell
-pub IsBrought-tell : (n : ℕ) (entries : List Entry) → AreTold n entries → (m k : ℕ) (t : ControlMessage) (cut : Cut)
-    → IsAt (log_of entries) (at m k) (Tell t) → IsClock HappenedBefore (log_of entries) m (suc k) cut → IsBrought HappenedBefore (log_of entries) (Told t) cut
-IsBrought-tell n entries told m k t cut here clock =
-    IsBrought-from HappenedBefore (log_of entries) m k (Tell t) (Told t) cut from_tell (inr (t, refl, refl)) (λ j is. one_tell n entries told j.member j.number m k t is here) here clock where
-      from_tell : (a : Entry) → Passes HappenedBefore a (Told t) → a ≡ Tell t
-      from_tell a passes = elim passes [
-        | inl carries ↦ (let e = carries.3 in cc)
-        | inr tells ↦ (let same : t ≡ tells.0 = (let e = tells.2 in cc) in tells.1 ∙ ap Tell (sym same))
+module _ (c : Causality) (entries : List Entry) (links : List Link) (j : Position) (S T U : Position → Type 0) (column : ℕ) (a b d cut : Cut) (has : HasColumn c entries links j column)
+    (own : IsOwn c entries links j column) (ways : (k : Position) → Leads c (log_of entries) k j ↔ S k ⊎ T k ⊎ U k)
+    (is_a : IsBrought c entries links S a) (is_b : IsBrought c entries links T b) (is_d : IsBrought c entries links U d)
+    (joins : (q : ℕ) → cut q ≡ max (max (max (a q) (b q)) (d q)) (cond (q == column) (j.number + 1) 0))
+    (one : (q : ℕ) → HasColumn c entries links j q → q ≡ column) where
+  has_come : (i : Position) (q : ℕ) → HasColumn c entries links i q → i.number < cut q → Precedes c (log_of entries) i j
+  has_come i q at_q come =
+      let come' : i.number < max (max (max (a q) (b q)) (d q)) (cond (q == column) (j.number + 1) 0) = (rw joins at come) in
+      elim ((max_of (a q) (b q) (d q) (cond (q == column) (j.number + 1) 0) i.number).0 come') [
+        | inl x ↦ (let w = (is_a i q at_q).0 x in step w.2 ((ways w.0).1 (inl w.1)))
+        | inr (inl x) ↦ (let w = (is_b i q at_q).0 x in step w.2 ((ways w.0).1 (inr (inl w.1))))
+        | inr (inr (inl x)) ↦ (let w = (is_d i q at_q).0 x in step w.2 ((ways w.0).1 (inr (inr w.1))))
+        | inr (inr (inr x)) ↦
+            let both : (q ≡ column) × (i.number < j.number + 1) = grind (arith, nat_tests) in
+            own i (subst (HasColumn c entries links i) both.0 at_q) (omega (arith, both.1))
       ]
 
--- and no dependence
-pub told_brings_none : (logs : Logs) (t : ControlMessage) → IsBrought Dependence logs (Told t) (λ q. 0)
-told_brings_none logs t = IsBrought-none Dependence logs (Told t) (λ a carries. (let e = carries.3 in cc))
+  comes : (i : Position) (q : ℕ) → HasColumn c entries links i q → Precedes c (log_of entries) i j → i.number < cut q
+  comes i q at_q p =
+      let more = max_of (a q) (b q) (d q) (cond (q == column) (j.number + 1) 0) i.number in
+      let enough : (i.number < a q) ⊎ (i.number < b q) ⊎ (i.number < d q) ⊎ (i.number < cond (q == column) (j.number + 1) 0) = elim (last_step p) [
+        | inl is ↦
+            let same = one q (subst (λ (x : Position). HasColumn c entries links x q) is at_q) in
+            let number = ap (λ x. x.number) is in
+            inr (inr (inr (grind (arith, nat_tests, same, number))))
+        | inr (k, before, leads) ↦ elim ((ways k).0 leads) [
+          | inl x ↦ inl ((is_a i q at_q).1 (k, x, before))
+          | inr (inl x) ↦ inr (inl ((is_b i q at_q).1 (k, x, before)))
+          | inr (inr x) ↦ inr (inr (inl ((is_d i q at_q).1 (k, x, before))))
+        ]
+      ] in
+      (rw joins (more.1 enough))
 
--- ---- each of a member's entries has a clock
+  pub clock_next : IsClock c entries links j cut
+  clock_next i q at_q = (has_come i q at_q, comes i q at_q)
 
-max_joins : (a b c k : ℕ) → (k < max a (max b c)) ↔ (k < a) ⊎ (k < b) ⊎ (k < c)
-max_joins a b c k = grind arith
+-- where those are the member's
+pub own_happened : (entries : List Entry) (links : List Link) (j : Position) (q : ℕ) (b : Entry) → IsAt (log_of entries) j b → j.member ≡ q → IsOwn HappenedBefore entries links j q
+own_happened entries links j q b here at_j i at_i behind =
+    let a = there_before (log_of entries) j.member i.number j.number b here behind in
+    let P : ℕ → Type 0 = λ m. Precedes HappenedBefore (log_of entries) (at m i.number) j in
+    subst P (at_j ∙ sym at_i) (own_precedes (log_of entries) j.member i.number j.number a.0 b a.1 here behind)
 
--- the clocks of the entries among the first p
-abbrev pub HasClocks : Causality → List Entry → ℕ → Type 0
-HasClocks c entries p = (m count : ℕ) → count ≤ seen entries p m → (cut : Cut) × IsClock c (log_of entries) m count cut
+-- ---- by links
 
-module _ (c : Causality) (n : ℕ) (entries : List Entry) (obeys : WellFormed n (marks entries)) (told : AreTold n entries) where
-  abbrev next_cut : (m l : ℕ) → Cut → Cut → Cut
-  next_cut m l before brought q = max (before q) (max (brought q) (cond (q == m) (suc l) 0))
+-- what leads to an entry at once from its member's log, with a message, and from the restart that begins the life that it names
+abbrev pub ByOrder : Causality → Logs → Position → Position → Type 0
+ByOrder HappenedBefore logs j k = IsEarlier logs k j
+ByOrder Dependence logs j k = StoodBefore logs k j
 
-  joins_next : (m l : ℕ) (before brought : Cut) → Joins before brought m (suc l) (next_cut m l before brought)
-  joins_next m l before brought i =
-      let both = max_joins (before i.member) (brought i.member) (cond (i.member == m) (suc l) 0) i.number in
-      let own : (i.number < cond (i.member == m) (suc l) 0) ↔ (i.member ≡ m) × (i.number < suc l) = grind (arith, nat_tests) in (
-        λ come. elim (both.0 come) [ inl x ↦ inl x | inr (inl x) ↦ inr (inl x) | inr (inr x) ↦ inr (inr (own.0 x)) ],
-        λ h. both.1 (elim h [ inl x ↦ inl x | inr (inl x) ↦ inr (inl x) | inr (inr x) ↦ inr (inr (own.1 x)) ]),
+abbrev pub ByMessage : Causality → Logs → Position → Position → Type 0
+ByMessage HappenedBefore logs j k = IsMessageOf logs j k
+ByMessage Dependence logs j k = Carries logs k j
+
+abbrev pub ByRestart : Causality → Logs → Position → Position → Type 0
+ByRestart HappenedBefore logs j k = Begins logs k j
+ByRestart Dependence logs j k = ⊥
+
+pub ways : (c : Causality) (logs : Logs) (j k : Position) → Leads c logs k j ↔ ByOrder c logs j k ⊎ ByMessage c logs j k ⊎ ByRestart c logs j k
+ways HappenedBefore logs j k = (
+  elim [ inl own ↦ inl own | inr (inl carries) ↦ inr (inl (inl carries)) | inr (inr (inl tells)) ↦ inr (inl (inr tells)) | inr (inr (inr begins)) ↦ inr (inr begins) ],
+  elim [ inl own ↦ inl own | inr (inl (inl carries)) ↦ inr (inl carries) | inr (inl (inr tells)) ↦ inr (inr (inl tells)) | inr (inr begins) ↦ inr (inr (inr begins)) ],
+)
+ways Dependence logs j k = (elim [ inl own ↦ inl own | inr carries ↦ inr (inl carries) ], elim [ inl own ↦ inl own | inr (inl carries) ↦ inr carries | inr (inr none) ↦ absurd none ])
+
+-- a receipt takes a message, and another entry takes none
+receives : (r s : Mark) → send_of r ≡ Some s → ¬ (determinant_of r ≡ None)
+receives (Send from ssn to) s takes none = cc
+receives (Receipt to rsn from ssn) s takes none = cc
+
+taken_none : (logs : Logs) (i j : Position) (e : Entry) → IsAt logs j e → receipt_in e ≡ None → ¬ (Carries logs i j)
+taken_none logs i j e here none carries =
+    let same : e ≡ carries.2 = (let s : Some e ≡ Some carries.2 = sym here ∙ carries.4 in cc) in
+    receives carries.1 carries.0 carries.6 (ap (option_and_then determinant_of) (sym carries.5 ∙ ap mark_in (sym same)) ∙ none)
+
+told_none : (logs : Logs) (i j : Position) (e : Entry) (d : Determinant) → IsAt logs j e → receipt_in e ≡ Some d → ¬ (Tells logs i j)
+told_none logs i j e d here some tells =
+    let same : e ≡ Told tells.0 = (let s : Some e ≡ Some (Told tells.0) = sym here ∙ tells.2 in cc) in
+    (let none : None ≡ Some d = ap receipt_in (sym same) ∙ some in cc)
+
+taken_place : (entries : List Entry) (j : Position) (e : Entry) (r : Option Determinant) (o : Option ℕ) → IsAt (log_of entries) j e → receipt_in e ≡ r
+    → IsPlaceOf entries (IsMessageOf (log_of entries) j) o → IsPlaceOf entries (λ k. Carries (log_of entries) k j) (message_taken r o)
+taken_place entries j e None o here none found = λ k carries. taken_none (log_of entries) k j e here none carries
+taken_place entries j e (Some d) None here some found = λ k carries. found k (inl carries)
+taken_place entries j e (Some d) (Some place) here some found = (
+  found.0,
+  found.1,
+  elim found.2 [ inl carries ↦ carries | inr tells ↦ absurd (told_none (log_of entries) found.0 j e d here some tells) ],
+  λ k carries. found.3 k (inl carries),
+)
+
+module _ (entries : List Entry) (links : List Link) (are : AreLinks entries links) where
+  -- an entry is counted with one number
+  pub one_column : (c : Causality) (j : Position) (q r : ℕ) → HasColumn c entries links j q → HasColumn c entries links j r → q ≡ r
+  one_column HappenedBefore j q r a b = sym a ∙ b
+  one_column Dependence j q r a b =
+      let place : a.0 ≡ b.0 = one_place_of entries a.0 b.0 j a.2 b.2 in
+      let link : a.1 ≡ b.1 = (let s : Some a.1 ≡ Some b.1 = sym a.3 ∙ ap (slice_get links) place ∙ b.3 in cc) in
+      sym a.4 ∙ ap (λ (l : Link). l.life) link ∙ b.4
+
+  -- and those before it that are counted with it precede it
+  pub own_before : (c : Causality) (j : Position) (q : ℕ) (b : Entry) → IsAt (log_of entries) j b → HasColumn c entries links j q → IsOwn c entries links j q
+  own_before HappenedBefore j q b here at_j i at_i behind = own_happened entries links j q b here at_j i at_i behind
+  own_before Dependence j q b here at_j i at_i behind =
+      let logs = log_of entries in
+      let life : AreOfOneLife logs i j = (are.life at_i.0 at_j.0 i j at_i.1 at_j.1 at_i.2 at_j.2 at_i.3 at_j.3).0 (at_i.4 ∙ sym at_j.4) in
+      let a = there_at entries at_i.0 i at_i.2 in
+      elim (cases_eq i.number j.number) [
+        | inl same ↦ subst (λ (x : Position). Precedes Dependence logs i x) (same_position i j life.0 same) (itself a.1)
+        | inr ne ↦
+            let before : i.number < j.number = omega (arith, behind, ne) in
+            let stood : StandsBehind (logs i.member) i.number (j.number + 1) =
+            (omega arith, λ number r after upto is. absurd (let no = (life.1 number r is).1 (omega (arith, upto)) in omega (arith, after, no))) in
+            step (itself a.1) (inl ((a.0, b, a.1, here, life.0, before), stood))
+      ]
+
+  -- what the one of the place brings
+  brought_last : (c : Causality) (S : Position → Type 0) (P : Position → Position → Type 0) (o : Option ℕ) (cut : Cut) → ((k i : Position) → P k i → Leads c (log_of entries) k i)
+      → IsLastPlace entries S P o → IsSourceClock c entries links o cut → IsBrought c entries links S cut
+  brought_last c S P None cut leads last clock = brought_none c entries links S cut last clock
+  brought_last c S P (Some place) cut leads last clock = brought_one c entries links S cut last.0 last.2 (λ l at_l. elim (last.3 l at_l) [
+    | inl same ↦ subst (λ (x : Position). Precedes c (log_of entries) x last.0) (sym same) (itself (there_at entries place last.0 last.1).1)
+    | inr p ↦ (let w = leads l last.0 p in step (itself (leads_there c (log_of entries) l last.0 w).0.1) w)
+  ]) (clock last.0 last.1)
+
+  module _ (j : Position) (e : Entry) (here : IsAt (log_of entries) j e) (link : Link) (is : IsLink entries j link) where
+    order_place : (c : Causality) → IsLastPlace entries (ByOrder c (log_of entries) j) (λ k i. ByOrder c (log_of entries) i k) (sources_of c e link).before
+    order_place HappenedBefore = is.previous
+    order_place Dependence = is.stood
+
+    message_place : (c : Causality) → IsPlaceOf entries (ByMessage c (log_of entries) j) (sources_of c e link).message
+    message_place HappenedBefore = is.message
+    message_place Dependence = taken_place entries j e (receipt_in e) link.message here refl is.message
+
+    restart_place : (c : Causality) → IsPlaceOf entries (ByRestart c (log_of entries) j) (sources_of c e link).begins
+    restart_place HappenedBefore = is.begins
+    restart_place Dependence = λ k none. none
+
+    -- so its clock is found by those of what leads to it
+    pub clock_joined : (c : Causality) (number : ℕ) (base cut : Cut) → HasColumn c entries links j number → IsJoined c entries links (sources_of c e link) base
+        → ((q : ℕ) → cut q ≡ reached_cut base number (j.number + 1) q) → IsClock c entries links j cut
+    clock_joined c number base cut has joined reached =
+        let logs = log_of entries in
+        clock_next c entries links j (ByOrder c logs j) (ByMessage c logs j) (ByRestart c logs j) number joined.0 joined.1 joined.2 cut has (own_before c j number e here has) (ways c logs j)
+        (brought_last c (ByOrder c logs j) (λ k i. ByOrder c logs i k) (sources_of c e link).before joined.0 (λ k i own. (ways c logs i k).1 (inl own)) (order_place c) joined.3)
+        (brought_last c (ByMessage c logs j) (λ k i. ⊥) (sources_of c e link).message joined.1 (λ k i none. absurd none) (message_place c) joined.4)
+        (brought_last c (ByRestart c logs j) (λ k i. ⊥) (sources_of c e link).begins joined.2 (λ k i none. absurd none) (restart_place c) joined.5)
+        (λ q. reached q ∙ ap (λ k. max k (cond (q == number) (j.number + 1) 0)) (joined.6 q))
+        (λ q at_q. one_column c j q number at_q has)
+
+    -- what leads to it in its member's log stands among the ones before it
+    pub before_among : (c : Causality) → IsAmong entries (sources_of c e link).before j.number
+    before_among c place i some stands = among c (sources_of c e link).before (order_place c) place i some stands where
+      earlier : (c : Causality) (k : Position) → ByOrder c (log_of entries) j k → k.number < j.number
+      earlier HappenedBefore k own = own.5
+      earlier Dependence k own = own.0.5
+
+      among : (c : Causality) (o : Option ℕ) → IsLastPlace entries (ByOrder c (log_of entries) j) (λ k i. ByOrder c (log_of entries) i k) o → IsAmong entries o j.number
+      among c None last place i some stands = absurd cc
+      among c (Some x) last place i some stands =
+          let at_x : x ≡ place = cc in
+          let same : last.0 ≡ i = one_position entries place last.0 i (subst (λ (x : ℕ). StandsAt entries x last.0) at_x last.1) stands in
+          subst (λ (k : Position). k.number < j.number) same (earlier c last.0 last.2)
+
+    -- and each place of what leads to it comes before its own
+    module _ (n : ℕ) (lawful : AreLawful n entries) (p : ℕ) (stands : StandsAt entries p j) where
+      place_below : (c : Causality) (S : Position → Type 0) (P : Position → Position → Type 0) (o : Option ℕ) → ((k : Position) → S k → Leads c (log_of entries) k j) → IsLastPlace entries S P o
+          → IsBelow p o
+      place_below c S P None leads last place some = absurd cc
+      place_below c S P (Some x) leads last place some =
+          let at_x : x ≡ place = cc in
+          let before = leads_before n entries lawful c x p last.0 j last.1 stands (leads last.0 last.2) in
+          omega (arith, before, at_x)
+
+      pub sources_below : (c : Causality) → AreBelow p (sources_of c e link)
+      sources_below c = (
+        place_below c (ByOrder c (log_of entries) j) (λ k i. ByOrder c (log_of entries) i k) (sources_of c e link).before (λ k own. (ways c (log_of entries) j k).1 (inl own)) (order_place c),
+        place_below c (ByMessage c (log_of entries) j) (λ k i. ⊥) (sources_of c e link).message (λ k m. (ways c (log_of entries) j k).1 (inr (inl m))) (message_place c),
+        place_below c (ByRestart c (log_of entries) j) (λ k i. ⊥) (sources_of c e link).begins (λ k b. (ways c (log_of entries) j k).1 (inr (inr b))) (restart_place c),
       )
 
-  brings : (p : ℕ) (e : Entry) → HasClocks c entries p → slice_get entries p ≡ Some e → (brought : Cut) × IsBrought c (log_of entries) e brought
-  brings p (Hold q d) clocks here = (λ q. 0, IsBrought-none c (log_of entries) (Hold q d) (passes_none c (Hold q d) (λ a c. (let e = c.3 in cc)) (λ m is. cc)))
-  brings p (Store q d) clocks here = (λ q. 0, IsBrought-none c (log_of entries) (Store q d) (passes_none c (Store q d) (λ a c. (let e = c.3 in cc)) (λ m is. cc)))
-  brings p (Tell t) clocks here = (λ q. 0, IsBrought-none c (log_of entries) (Tell t) (passes_none c (Tell t) (λ a c. (let e = c.3 in cc)) (λ m is. cc)))
-  brings p (Told t) clocks here = by_causality c clocks where
-    by_causality : (c : Causality) → HasClocks c entries p → (brought : Cut) × IsBrought c (log_of entries) (Told t) brought
-    by_causality Dependence clocks = (λ q. 0, told_brings_none (log_of entries) t)
-    by_causality HappenedBefore clocks =
-        let sent = told_before n entries told p t here in
-        let at_tell = placed entries sent.0 (Tell t) t.from sent.2 refl in
-        let more = seen-later entries sent.0 p t.from (Tell t) sent.2 refl sent.1 in
-        let clock = clocks t.from (suc (seen entries sent.0 t.from)) (omega (arith, more)) in
-        (clock.0, IsBrought-tell n entries told t.from (seen entries sent.0 t.from) t clock.0 at_tell clock.1)
-  brings p (Event (Send from ssn to)) clocks here =
-      (λ q. 0, IsBrought-none c (log_of entries) (Event (Send from ssn to)) (passes_none c (Event (Send from ssn to)) (λ a c. no_send c.1 (let e = c.3 in cc) c.0 c.4) (λ m is. cc))) where
-        no_send : (r : Mark) → Send from ssn to ≡ r → (s : Mark) → ¬ (send_of r ≡ Some s)
-        no_send r is s takes = (let none : None ≡ Some s = ap send_of is ∙ takes in cc)
-  brings p (Event (Receipt to rsn from ssn)) clocks here =
-      let s = Send from ssn to in
-      let r = Receipt to rsn from ssn in
-      let sent = sent_before n entries obeys p r s here refl in
-      let at_send = placed entries sent.0 (Event s) from sent.2 refl in
-      let more = seen-later entries sent.0 p from (Event s) sent.2 refl sent.1 in
-      let clock = clocks from (suc (seen entries sent.0 from)) (omega (arith, more)) in
-      (clock.0, IsBrought-send c n entries obeys from (seen entries sent.0 from) s r clock.0 at_send refl clock.1)
+-- ---- each entry has a past
 
-  HasClocks-next : (p : ℕ) (e : Entry) → slice_get entries p ≡ Some e → HasClocks c entries p → HasClocks c entries (suc p)
-  HasClocks-next p e here clocks m count within = elim (cases_lt (seen entries p m) count) [
-    | inr old ↦ clocks m count old
-    | inl new ↦
-        let own : entry_member e ≡ m = is_own (cases_eq (entry_member e) m) new in
-        let last : suc (seen entries p m) ≡ count = (let one = seen-own entries p e m here own in omega (arith, one, new, within)) in
-        let P : ℕ → Type 0 = λ x. (cut : Cut) × IsClock c (log_of entries) m x cut in
-        subst P last (next own)
-  ] where
-    next : entry_member e ≡ m → (cut : Cut) × IsClock c (log_of entries) m (suc (seen entries p m)) cut
-    next own =
-        let l = seen entries p m in
-        let before = clocks m l (omega arith) in
-        let brought = brings p e clocks here in
-        (next_cut m l before.0 brought.0, IsClock-next c (log_of entries) m l e before.0 brought.0 _ (placed entries p e m here own) before.1 brought.1 (joins_next m l before.0 brought.0))
+-- the log has a restart that begins the life, or none
+abbrev Decided : List Entry → ℕ → Type 0
+Decided log life =
+    ((k : ℕ) × (r : restart.Restart) × (slice_get log k ≡ Some (Restart r)) × (r.life ≡ life)) ⊎ ((k : ℕ) (r : restart.Restart) → slice_get log k ≡ Some (Restart r) → r.life ≢ life)
 
-    is_own : (entry_member e ≡ m) ⊎ (entry_member e ≢ m) → seen entries p m < count → entry_member e ≡ m
-    is_own (inl own) new = own
-    is_own (inr other) new = (let same = seen-other entries p e m here other in absurd (omega (arith, same, new, within)))
+further : (x : Entry) (log : List Entry) (life : ℕ) → ((r : restart.Restart) → x ≡ Restart r → r.life ≢ life) → Decided log life → Decided (x ∷ log) life
+further x log life not_first (inl w) = inl (suc w.0, w.1, w.2, w.3)
+further x log life not_first (inr none) = inr (elim [ zero ↦ λ r is. not_first r (let s : Some x ≡ Some (Restart r) = is in cc) | suc k ↦ none k ])
 
-  clocks_below : (p : ℕ) → p ≤ length entries → HasClocks c entries p
-  clocks_below zero within = λ m count few. (λ q. 0, (let none : count ≡ 0 = omega (arith, few) in rw none (IsClock-none c (log_of entries) m)))
-  clocks_below (suc p) within = (let here = some_entry entries p (omega (arith, within)) in HasClocks-next p here.0 here.1 (clocks_below p (omega (arith, within))))
+with_first : (x : Entry) (log : List Entry) (life : ℕ) → Decided log life → Decided (x ∷ log) life
+with_first (Restart r) log life rest = elim (cases_eq r.life life) [
+  | inl same ↦ inl (0, r, refl, same)
+  | inr ne ↦ further (Restart r) log life (λ s is begins. ne (let same : r ≡ s = cc in ap (λ (r : restart.Restart). r.life) same ∙ begins)) rest
+]
+with_first (Event m) log life rest = further (Event m) log life (λ r is. absurd cc) rest
+with_first (LaterReceipt d l) log life rest = further (LaterReceipt d l) log life (λ r is. absurd cc) rest
+with_first (Hold q d) log life rest = further (Hold q d) log life (λ r is. absurd cc) rest
+with_first (Store q d) log life rest = further (Store q d) log life (λ r is. absurd cc) rest
+with_first (Tell m) log life rest = further (Tell m) log life (λ r is. absurd cc) rest
+with_first (Told m) log life rest = further (Told m) log life (λ r is. absurd cc) rest
 
-  -- each of a member's first entries has a clock
-  pub clock_of : (m count : ℕ) → count ≤ length (log_of entries m) → (cut : Cut) × IsClock c (log_of entries) m count cut
-  clock_of m count few = clocks_below (length entries) (omega arith) m count (rw seen-all few)
+find_restart : (log : List Entry) (life : ℕ) → Decided log life
+find_restart [] life = inr (λ k r is. absurd cc)
+find_restart (x ∷ log) life = with_first x log life (find_restart log life)
+
+module _ (n : ℕ) (entries : List Entry) (lawful : AreLawful n entries) where
+  abbrev HasClock : Position → Type 0
+  HasClock i = (cut : Cut) × IsClock HappenedBefore entries [] i cut
+
+  abbrev Brings : (Position → Type 0) → Type 0
+  Brings S = (cut : Cut) × IsBrought HappenedBefore entries [] S cut
+
+  abbrev HasClocks : ℕ → Type 0
+  HasClocks P = (p : ℕ) (i : Position) → p < P → StandsAt entries p i → HasClock i
+
+  nothing : (S : Position → Type 0) → ((k : Position) → ¬ (S k)) → Brings S
+  nothing S none = (λ q. 0, brought_none HappenedBefore entries [] S (λ q. 0) none (λ q. refl))
+
+  -- where just one of them leads to the entry
+  just_one : (S : Position → Type 0) (k : Position) (a : Entry) → IsAt (log_of entries) k a → S k → ((l : Position) → S l → l ≡ k) → HasClock k → Brings S
+  just_one S k a here one alone clock = (
+    clock.0,
+    brought_one HappenedBefore entries [] S clock.0 k one
+        (λ l is. subst (λ (x : Position). Precedes HappenedBefore (log_of entries) x k) (sym (alone l is)) (itself here)) clock.1,
+  )
+
+  module _ (P : ℕ) (j : Position) (stands : StandsAt entries P j) (e : Entry) (here : slice_get entries P ≡ Some e) (clocks : HasClocks P) where
+    at_j : IsAt (log_of entries) j e
+    at_j = stands_at entries P j e stands here
+
+    by_order : Brings (λ k. IsEarlier (log_of entries) k j)
+    by_order = by_number j.number refl where
+      by_number : (number : ℕ) → j.number ≡ number → Brings (λ k. IsEarlier (log_of entries) k j)
+      by_number zero first = nothing (λ k. IsEarlier (log_of entries) k j) (λ k own. (let less = own.5 in omega (arith, less, first)))
+      by_number (suc number) later =
+          let logs = log_of entries in
+          let k = at j.member number in
+          let a = there_before logs j.member number j.number e at_j (omega (arith, later)) in
+          let own : IsEarlier logs k j = (a.0, e, a.1, at_j, refl, omega (arith, later)) in
+          let place = stands_somewhere entries k a.0 a.1 in
+          let clock = clocks place.0 k (earlier_before n entries lawful place.0 P k j place.2 stands own) place.2 in (
+            clock.0,
+            brought_one HappenedBefore entries [] (λ k. IsEarlier logs k j) clock.0 k own (λ l before. (
+                let same = before.4 in
+                let less = before.5 in
+                let Q : ℕ → Type 0 = λ m. IsAt logs (at m l.number) before.0 → Precedes HappenedBefore logs (at m l.number) k in
+                subst Q (sym same) (λ at_l. own_precedes logs j.member l.number number before.0 a.0 at_l a.1 (omega (arith, less, later))) before.2)) clock.1,
+          )
+
+    from_send : (r s : Mark) (d : Determinant) → mark_in e ≡ Some r → send_of r ≡ Some s → receipt_in e ≡ Some d → Brings (IsMessageOf (log_of entries) j)
+    from_send r s d mark takes receipt =
+        let w = carried n entries lawful P j e r s stands here mark takes in
+        just_one (IsMessageOf (log_of entries) j) w.0 (Event w.4.0) w.4.3 (inl w.4)
+        (λ l. elim [ inl carries ↦ carries_one n entries lawful l w.0 j carries w.4 | inr tells ↦ absurd (told_none (log_of entries) l j e d at_j receipt tells) ])
+        (clocks w.1 w.0 w.2 w.3)
+
+    no_message : receipt_in e ≡ None → ((m : ControlMessage) → ¬ (e ≡ Told m)) → Brings (IsMessageOf (log_of entries) j)
+    no_message none untold = nothing (IsMessageOf (log_of entries) j) (λ k. elim [
+      | inl carries ↦ taken_none (log_of entries) k j e at_j none carries
+      | inr tells ↦ untold tells.0 (let s : Some e ≡ Some (Told tells.0) = sym at_j ∙ tells.2 in cc)
+    ])
+
+    no_restart : ((d : Determinant) (life : ℕ) → ¬ (e ≡ LaterReceipt d life)) → Brings (λ k. Begins (log_of entries) k j)
+    no_restart none = nothing (λ k. Begins (log_of entries) k j) (λ k begins. none begins.1 begins.0.life (let s : Some e ≡ Some (LaterReceipt begins.1 begins.0.life) = sym at_j ∙ begins.3 in cc))
+
+    from_tell : (m : ControlMessage) → e ≡ Told m → Brings (IsMessageOf (log_of entries) j)
+    from_tell m is =
+        let told : slice_get entries P ≡ Some (Told m) = here ∙ ap Some is in
+        let w = told_before n entries (are_told n entries lawful) P m told in
+        let there = here_stands entries w.0 (Tell m) w.2 in
+        let k = at m.from (seen entries w.0 m.from) in
+        let at_k = stands_at entries w.0 k (Tell m) there w.2 in
+        let tells : Tells (log_of entries) k j = (m, at_k, at_j ∙ ap Some is) in
+        just_one (IsMessageOf (log_of entries) j) k (Tell m) at_k (inr tells)
+        (λ l. elim [ inl carries ↦ absurd (taken_none (log_of entries) l j e at_j (ap receipt_in is) carries) | inr more ↦ tells_one n entries lawful l k j more tells ])
+        (clocks w.0 k w.1 there)
+
+    from_restart : (d : Determinant) (life : ℕ) → e ≡ LaterReceipt d life → Brings (λ k. Begins (log_of entries) k j)
+    from_restart d life is = elim (find_restart (log_of entries d.from) life) [
+      | inl (number, r, at_r, begun) ↦
+          let k = at d.from number in
+          let begins : Begins (log_of entries) k j = (r, d, at_r, at_j ∙ ap Some is ∙ ap (λ l. Some (LaterReceipt d l)) (sym begun), refl) in
+          let place = stands_somewhere entries k (Restart r) at_r in
+          just_one (λ k. Begins (log_of entries) k j) k (Restart r) at_r begins (λ l more. begins_one n entries lawful l k j more begins)
+          (clocks place.0 k (begins_before n entries lawful place.0 P k j place.2 stands begins) place.2)
+      | inr none ↦ nothing (λ k. Begins (log_of entries) k j) (λ k begins. (
+          let same : LaterReceipt d life ≡ LaterReceipt begins.1 begins.0.life = (let s : Some (LaterReceipt d life) ≡ Some (LaterReceipt begins.1 begins.0.life) = sym (at_j ∙ ap Some is) ∙ begins.3 in cc) in
+          let from : d ≡ begins.1 = cc in
+          let life' : life ≡ begins.0.life = cc in
+          let member : k.member ≡ d.from = sym begins.4 ∙ ap (λ (d : Determinant). d.from) (sym from) in
+          none k.number begins.0 (subst (λ (m : ℕ). slice_get (log_of entries m) k.number ≡ Some (Restart begins.0)) member begins.2) (sym life')))
+    ]
+
+    clock_here : Brings (IsMessageOf (log_of entries) j) → Brings (λ k. Begins (log_of entries) k j) → HasClock j
+    clock_here message begins =
+        let order = by_order in
+        let cut : Cut = λ q. max (max (max (order.0 q) (message.0 q)) (begins.0 q)) (cond (q == j.member) (j.number + 1) 0) in (
+          cut,
+          clock_next HappenedBefore entries [] j (λ k. IsEarlier (log_of entries) k j) (IsMessageOf (log_of entries) j) (λ k. Begins (log_of entries) k j) j.member order.0 message.0 begins.0 cut refl
+              (own_happened entries [] j j.member e at_j refl) (ways HappenedBefore (log_of entries) j) order.1 message.1 begins.1 (λ q. refl) (λ q same. sym same),
+        )
+
+  clock_of_entry : (P : ℕ) (j : Position) → StandsAt entries P j → (e : Entry) → slice_get entries P ≡ Some e → HasClocks P → HasClock j
+  clock_of_entry P j stands (Event (Send from ssn to)) here clocks =
+      let e = Event (Send from ssn to) in
+      clock_here P j stands e here clocks (no_message P j stands e here clocks refl (λ m is. cc)) (no_restart P j stands e here clocks (λ d life is. cc))
+  clock_of_entry P j stands (Event (Receipt to rsn from ssn)) here clocks =
+      let e = Event (Receipt to rsn from ssn) in
+      clock_here P j stands e here clocks
+      (from_send P j stands e here clocks (Receipt to rsn from ssn) (Send from ssn to) _ refl refl refl) (no_restart P j stands e here clocks (λ d life is. cc))
+  clock_of_entry P j stands (LaterReceipt d life) here clocks =
+      let e = LaterReceipt d life in
+      clock_here P j stands e here clocks (from_send P j stands e here clocks (receipt_of d) (Send d.from d.ssn d.to) d refl refl refl) (from_restart P j stands e here clocks d life refl)
+  clock_of_entry P j stands (Hold q d) here clocks =
+      clock_here P j stands (Hold q d) here clocks (no_message P j stands (Hold q d) here clocks refl (λ m is. cc)) (no_restart P j stands (Hold q d) here clocks (λ d life is. cc))
+  clock_of_entry P j stands (Store q d) here clocks =
+      clock_here P j stands (Store q d) here clocks (no_message P j stands (Store q d) here clocks refl (λ m is. cc)) (no_restart P j stands (Store q d) here clocks (λ d life is. cc))
+  clock_of_entry P j stands (Tell m) here clocks =
+      clock_here P j stands (Tell m) here clocks (no_message P j stands (Tell m) here clocks refl (λ m is. cc)) (no_restart P j stands (Tell m) here clocks (λ d life is. cc))
+  clock_of_entry P j stands (Told m) here clocks =
+      clock_here P j stands (Told m) here clocks (from_tell P j stands (Told m) here clocks m refl) (no_restart P j stands (Told m) here clocks (λ d life is. cc))
+  clock_of_entry P j stands (Restart r) here clocks =
+      clock_here P j stands (Restart r) here clocks (no_message P j stands (Restart r) here clocks refl (λ m is. cc)) (no_restart P j stands (Restart r) here clocks (λ d life is. cc))
+
+  clocks_below : (P : ℕ) → HasClocks P
+  clocks_below zero p i below stands = absurd (omega (arith, below))
+  clocks_below (suc P) p i below stands = elim (cases_eq p P) [
+    | inl same ↦
+        let there = subst (λ (x : ℕ). StandsAt entries x i) same stands in
+        clock_of_entry P i there there.0 there.1 (clocks_below P)
+    | inr ne ↦ clocks_below P p i (omega (arith, below, ne)) stands
+  ]
+
+  -- the past of an entry is a cut
+  pub has_past : (j : Position) (e : Entry) → IsAt (log_of entries) j e → (cut : Cut) × IsPast entries j cut
+  has_past j e here =
+      let place = stands_somewhere entries j e here in
+      let clock = clocks_below (suc place.0) place.0 j (omega arith) place.2 in
+      (clock.0, λ i. clock.1 i i.member refl)

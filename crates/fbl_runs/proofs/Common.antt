@@ -11,7 +11,8 @@ pub use Rattle.fbl_runs.specs.declared.causality.Causality.{Causality}
 pub use Rattle.fbl_runs.specs.declared.causality.Causality.TheVariants.{Dependence, HappenedBefore}
 pub use Rattle.fbl_runs.specs.declared.control.ControlMessage.{ControlMessage}
 pub use Rattle.fbl_runs.specs.declared.entry.Entry.{Entry}
-pub use Rattle.fbl_runs.specs.declared.entry.Entry.TheVariants.{Event, Hold, Store, Tell, Told}
-pub use Rattle.fbl_runs.specs.Entries.{Carries, IsArrival, IsRecord, Logs, Passes, Tells, entry_member, is_at, log_of, mark_in, marks}
-pub use Rattle.fbl_runs.specs.HappenedBefore.{IsAt, Leads, Position, Precedes, at, itself, step}
-pub use Rattle.fbl_runs.specs.Moments.{Cut, DependsOn, HasCome, HoldsAt, IsKnownTo, IsReceiptAt, IsStoredAt}
+pub use Rattle.fbl_runs.specs.declared.entry.Entry.TheVariants.{Event, Hold, LaterReceipt, Restart, Store, Tell, Told}
+pub use Rattle.fbl_runs.specs.Entries.{IsArrival, IsRecord, Logs, entry_member, is_at, log_of, mark_in, marks, named_life, receipt_in, recorded_in, restart_in}
+pub use Rattle.fbl_runs.specs.HappenedBefore.{Begins, Carries, IsAt, IsEarlier, Leads, Position, Precedes, StoodBefore, Tells, at, itself, step}
+pub use Rattle.fbl_runs.specs.Lives.{StandsBehind, StandsInLife, life_in, standing}
+pub use Rattle.fbl_runs.specs.Moments.{Cut, HasCome, HoldsAt, IsKnownTo, IsReceiptAt, IsStoredAt, Stands}

@@ -2,7 +2,6 @@
 use Rattle.fbl_runs.proofs.Common.{ℕ, zero, suc, true, false, cond, ◌≡◌, ◌≢◌, ◌==◌, ◌<◌, ◌≤◌, ◌+◌, inl, inr, List, [], ◌∷◌, ◌++◌, length, take, drop, Some, slice_get}
 use Rattle.fbl_runs.proofs.Common.{refl, sym, ap, subst, ◌∙◌, arith, nat_tests, cases_eq, cases_order, append-nil, length-append, filter-append, filter_map-append}
 use Rattle.fbl_runs.proofs.Common.{At-filter_map, At-front, At-seam, filter_map-At, slice_get-take, slice_get_within, take-more, take-append-drop, take_all, length-take}
-use Rattle.fbl_runs.proofs.Common.{MayFollow-last, MayFollow-new, WellFormed-front, in_flight-sent, MayFollow, WellFormed, Mark, Send, Receipt, send_of}
 use Rattle.fbl_runs.proofs.Common.{Entry, Event, Hold, Store, Tell, Told, entry_member, is_at, log_of, mark_in, marks, IsAt, Position, at}
 use Rattle.std.proofs.lemmas.List.{take-take}
 use Rattle.fbl_runs.specs.Clocks.{StandsAt, seen}
@@ -97,56 +96,3 @@ one_place entries m k q l x once at_m at_q =
     let same : a.0 ≡ b.0 = once a.0 b.0 a.2 b.2 in
     let member : m ≡ q = sym a.3 ∙ b.3 in
     (member, sym a.4 ∙ ap (λ p. seen entries p m) same ∙ ap (λ m'. seen entries b.0 m') member ∙ b.4)
-
--- ---- the rules
-
-module _ (n : ℕ) (entries : List Entry) (obeys : WellFormed n (marks entries)) where
-  front_obeys : (p : ℕ) (e : Mark) → slice_get entries p ≡ Some (Event e) → WellFormed n (marks (take p entries) ++ e ∷ [])
-  front_obeys p e here =
-      let t = marks (take p entries) in
-      let rest = marks (drop (suc p) entries) in
-      let front : marks (take (suc p) entries) ≡ t ++ e ∷ [] = (rw (take-more entries p (Event e) here) (filter_map-append mark_in (take p entries) (Event e ∷ []))) in
-      let whole : marks entries ≡ (t ++ e ∷ []) ++ rest =
-      ap marks (sym (take-append-drop (suc p) entries)) ∙ filter_map-append mark_in (take (suc p) entries) (drop (suc p) entries) ∙ ap (λ x. x ++ rest) front in
-      WellFormed-front n (t ++ e ∷ []) rest (rw whole at obeys)
-
-  pub may : (p : ℕ) (e : Mark) → slice_get entries p ≡ Some (Event e) → MayFollow n (marks (take p entries)) e
-  may p e here = MayFollow-last n (marks (take p entries)) e (front_obeys p e here)
-
-  is_mark : (e : Entry) (m : Mark) → mark_in e ≡ Some m → e ≡ Event m
-  is_mark (Event m') m is = cc
-  is_mark (Hold q d) m is = cc
-  is_mark (Store q d) m is = cc
-  is_mark (Tell t) m is = cc
-  is_mark (Told t) m is = cc
-
-  -- no send or receipt stands twice
-  not_twice : (p q : ℕ) (e : Mark) → slice_get entries p ≡ Some (Event e) → slice_get entries q ≡ Some (Event e) → p < q → ⊥
-  not_twice p q e at_p at_q before =
-      let among = filter_map-At mark_in (take q entries) p (Event e) e (slice_get-take entries q p (Event e) before at_p) refl in
-      MayFollow-new n (marks (take q entries)) e (WellFormed-front n (marks (take q entries)) (e ∷ []) (front_obeys q e at_q)) (may q e at_q) among
-
-  pub once : (p q : ℕ) (e : Mark) → slice_get entries p ≡ Some (Event e) → slice_get entries q ≡ Some (Event e) → p ≡ q
-  once p q e at_p at_q = elim (cases_order p q) [
-    | inl same ↦ same
-    | inr (inl below) ↦ absurd (not_twice p q e at_p at_q below)
-    | inr (inr above) ↦ absurd (not_twice q p e at_q at_p above)
-  ]
-
-  -- what a receipt takes is sent before
-  pub sent_before : (p : ℕ) (r s : Mark) → slice_get entries p ≡ Some (Event r) → send_of r ≡ Some s → (q : ℕ) × (q < p) × (slice_get entries q ≡ Some (Event s))
-  sent_before p (Send from ssn to) s here takes = cc
-  sent_before p (Receipt to rsn from ssn) s here takes =
-      let m = may p (Receipt to rsn from ssn) here in
-      let sent = in_flight-sent (marks (take p entries)) from ssn to 0 m.5 in
-      let among = At-filter_map mark_in (take p entries) sent.0 (Send from ssn to) sent.1 in
-      let below = slice_get_within (take p entries) among.0 among.1 among.2 in
-      let is : among.1 ≡ Event s = is_mark among.1 (Send from ssn to) among.3 ∙ (let same : Send from ssn to ≡ s = cc in ap Event same) in
-      let early : among.0 < p = omega (arith, below, length-take p entries) in
-      (among.0, early, front_at among.0 among.1 among.2 ∙ ap Some is) where
-        front_at : (i : ℕ) (x : Entry) → slice_get (take p entries) i ≡ Some x → slice_get entries i ≡ Some x
-        front_at i x is = (rw take-append-drop at (At-front (take p entries) (drop p entries) i x is))
-
-  -- one send stands at one position
-  pub one_position : (m k q l : ℕ) (e : Mark) → IsAt (log_of entries) (at m k) (Event e) → IsAt (log_of entries) (at q l) (Event e) → (m ≡ q) × (k ≡ l)
-  one_position m k q l e at_m at_q = one_place entries m k q l (Event e) (λ a b. once a b e) at_m at_q

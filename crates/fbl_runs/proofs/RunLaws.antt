@@ -1,60 +1,150 @@
 -- Which entries are those of a run.
 use Rattle.std.specs.Option.{is_some}
-use Rattle.fbl_runs.proofs.Common.{Option, None, true, false, ℕ, zero, suc, ◌≡◌, ◌<◌, ◌≤◌, ◌+◌, ◌↔◌, ◌⊎◌, inl, inr, List, [], ◌∷◌, ◌++◌, length, Some, None, slice_get, refl, sym, ap, subst, ◌∙◌, arith, take, append-nil, take-more, filter_map, filter_map-append, length-append, Event, Hold, Store, Tell, Told, HappenedBefore, IsKnownTo}
-use Rattle.fbl_runs.proofs.Common.{cases_lt, slice_get_within, Determinant, Mark, Entry, entry_member, log_of, mark_in, marks, at}
+use Rattle.fbl_runs.proofs.Common.{Bool, Option, None, true, false, ℕ, zero, suc, ◌≡◌, ◌<◌, ◌≤◌, ◌+◌, ◌↔◌, ◌⊎◌, inl, inr, List, [], ◌∷◌, ◌++◌, length, Some, slice_get, refl, sym, ap, subst, ◌∙◌, arith, take, append-nil, take-more, filter_map, filter_map-append, length-append, false≢true}
+use Rattle.fbl_runs.proofs.Common.{cases_lt, slice_get_within, receipt_of, Determinant, Mark, Send, Receipt, Entry, Event, Hold, LaterReceipt, Restart, Store, Tell, Told, entry_member, log_of, mark_in, marks, named_life, recorded_in, restart_in, at, IsKnownTo, HappenedBefore, WellFormed}
 use Rattle.fbl_dumps.specs.Dumps.{IsDump, Parts}
 use Rattle.fbl_dumps.proofs.DumpLaws.{member_below}
-use Rattle.std.proofs.Common.{map}
-use Rattle.fbl_runs.specs.declared.clocks.Advance.{Advance}
+use Rattle.std.proofs.Common.{map, ◌||◌}
+use Rattle.std.specs.List.{list_any}
+use Rattle.fbl_trace.specs.Configs.{FAllowed, MembersAllowed}
+use Rattle.fbl_trace.specs.MemberSets.{AllBelow}
 use Rattle.fbl_runs.specs.declared.fault.RecordRule.{RecordRule}
 use Rattle.fbl_runs.specs.declared.fault.RecordRule.TheVariants.{NotBefore, Outside, TooMany}
-use Rattle.fbl_runs.specs.Clocks.{IsAdvance, cut_of, seen}
+use Rattle.fbl_runs.specs.Clocks.{seen}
 use Rattle.fbl_runs.specs.ControlMessages.{AreTold, MayBeTold}
-use Rattle.fbl_runs.specs.Entries.{recorded_in}
-use Rattle.fbl_runs.specs.Indexes.{HasReceived}
 use Rattle.fbl_runs.specs.Lawful.{BreaksAt, IsKnownAt, ObeysAt, records}
-use Rattle.fbl_runs.specs.Logs.{IsLog, IsRun, RunParts, hold_of, run_of_dump, trace_of}
-use Rattle.fbl_runs.proofs.ClockLaws.{Precedes-joined, last_there, own_precedes}
-use Rattle.fbl_runs.proofs.Listing.{locate_all, placed}
+use Rattle.fbl_dumps.specs.declared.refusal.DumpRefusal.{DumpRefusal}
+use Rattle.fbl_trace.specs.Configs.{IsFirstBreach}
+use Rattle.fbl_runs.specs.declared.fault.LogBreach.{LogBreach}
+use Rattle.fbl_runs.specs.declared.fault.RecordFault.{RecordFault}
+use Rattle.fbl_runs.specs.Lawful.{IsFirstBad}
+use Rattle.fbl_runs.specs.Logs.{FollowRules, IsBreachBy, IsLog, IsLogBreach, IsRun, RefusesBy, RefusesLog, RunParts, hold_of, run_of_dump, trace_of}
+use Rattle.fbl_runs.specs.Rules.{AreLawful, FollowsAt, IsLawful, MayFollow, has_life, have_lives}
+use Rattle.fbl_runs.proofs.Common.{Causality, Logs, IsAt, IsReceiptAt, Position, Precedes, itself, step, receipt_in, cases_eq}
+use Rattle.fbl_runs.specs.Clocks.{StandsAt}
+use Rattle.fbl_runs.specs.Indexes.{IsFirstReceipt, IsReceiptPlace}
+use Rattle.fbl_runs.proofs.IndexLaws.{one_entry, one_position, position_at}
+use Rattle.fbl_runs.proofs.Listing.{locate_all, seen-later, stands_at}
+pub use Rattle.fbl_runs.proofs.PlainLaws.{lawful_plain}
 
--- what the entry says is held or stored precedes it exactly where it has come by the entry's clock
-pub known_iff : (entries : List Entry) (p : ℕ) (e : Entry) (d : Determinant) (advance : Advance) → IsAdvance HappenedBefore entries p advance → slice_get entries p ≡ Some e → recorded_in e ≡ Some d
-    → HasReceived (log_of entries) (cut_of advance.with) d ↔ IsKnownAt entries p
-known_iff entries p e d advance is here says = (
-  λ received e' d' here' says'.
-      let same : e ≡ e' = (let s : Some e ≡ Some e' = sym here ∙ here' in cc) in
-      let same_d : d ≡ d' = (let s : Some d ≡ Some d' = sym says ∙ ap recorded_in same ∙ says' in cc) in
-      subst (λ (x : Entry). IsKnownTo (log_of entries) d' (at (entry_member x) (seen entries p (entry_member x)))) same
-      (subst (λ (x : Determinant). IsKnownTo (log_of entries) x (at (entry_member e) (seen entries p (entry_member e)))) same_d
-      (subst (λ (m : ℕ). IsKnownTo (log_of entries) d (at m (seen entries p m))) (sym own) (known received))),
-  λ known'.
-      let depends = subst (λ (m : ℕ). IsKnownTo (log_of entries) d (at m (seen entries p m))) own (known' e d here says) in
-      (depends.0, depends.1, is.with.all depends.0 (seen entries p advance.member, (let n = is.number in omega (arith, n)), depends.2)),
-) where
-  own : entry_member e ≡ advance.member
-  own = is.member e here
+-- ---- the rules of a run
 
-  known : HasReceived (log_of entries) (cut_of advance.with) d → IsKnownTo (log_of entries) d (at advance.member (seen entries p advance.member))
-  known received =
-      let w = is.with.only received.0 received.2 in
-      let there = last_there w.2 in (
-        received.0,
-        received.1,
-        Precedes-joined w.2 (own_precedes (log_of entries) advance.member w.0 (seen entries p advance.member) there.0 e there.1 (placed entries p e advance.member here own)
-            (let n = is.number in let l = w.1 in omega (arith, n, l))),
-      )
+-- an entry that breaks no rule of lives may follow in a run
+pub lawful_next : (n : ℕ) (before : List Entry) (e : Entry) → MayFollow n before e → IsLawful n before e
+lawful_next n before (Event (Send from ssn to)) may = (may.0 (Send from ssn to) refl).2
+lawful_next n before (Event (Receipt to rsn from ssn)) may = (let due = (may.0 (Receipt to rsn from ssn) refl).3 in (due.send, due.sent))
+lawful_next n before (LaterReceipt d life) may = (let due = (may.0 (receipt_of d) refl).3 in (due.send, due.sent))
+lawful_next n before (Restart r) may = (let m = may.1 r refl in (m.2, m.0))
+lawful_next n before (Hold q d) may = tt
+lawful_next n before (Store q d) may = tt
+lawful_next n before (Tell m) may = may.2
+lawful_next n before (Told m) may = may.2
+
+-- where each entry breaks none, the entries are those of a run
+pub lawful_lives : (n : ℕ) (entries : List Entry) → ((i : ℕ) → FollowsAt n entries i) → AreLawful n entries
+lawful_lives n entries follows p e here = lawful_next n (take p entries) e (follows p e here)
+
+-- what follows the rules, by the case, is lawful
+pub lawful_by : (log : RunParts) (lived : Bool) → have_lives log.entries ≡ lived → FollowRules log lived → AreLawful log.members log.entries
+lawful_by log false none rules = lawful_plain log.members log.entries none rules.0 rules.1
+lawful_by log true some rules = lawful_lives log.members log.entries rules
 
 -- entries that break no rule are those of a run
-pub is_log : (log : RunParts) → IsDump (trace_of log) → AreTold log.members log.entries → ((i : ℕ) → ObeysAt log.members log.entries i) → IsLog log
-is_log log trace told good = record {
-  run = record { f = trace.f; strike = trace.strike; lawful = record { size = trace.members; events = trace.events; told = told; members = λ i e. (good i).1 e } };
+pub is_log : (log : RunParts) → MembersAllowed log.members → FAllowed log.members log.f → AllBelow log.strike log.members → FollowRules log (have_lives log.entries)
+    → ((i : ℕ) → ObeysAt log.members log.entries i) → IsLog log
+is_log log size f strike rules good = record {
+  run = record { f = f; strike = strike; lawful = record { size = size; lawful = lawful_by log (have_lives log.entries) refl rules; members = λ i e. (good i).1 e } };
+  rules = rules;
   known = λ j e d here says.
       let w = locate_all log.entries j.member j.number e here in
-      let depends = (good w.0).2 e d w.2 says in
+      let known = (good w.0).2 e d w.2 says in
       let P : ℕ → ℕ → Type 0 = λ m k. IsKnownTo (log_of log.entries) d (at m k) in
-      subst (λ (k : ℕ). P j.member k) w.4 (subst (λ (m : ℕ). P m (seen log.entries w.0 m)) w.3 depends);
+      subst (λ (k : ℕ). P j.member k) w.4 (subst (λ (m : ℕ). P m (seen log.entries w.0 m)) w.3 known);
   few = λ i. (good i).0;
 }
+
+-- ---- what is known
+
+joined : {c : Causality} {logs : Logs} {i j k : Position} → Precedes c logs i j → Precedes c logs j k → Precedes c logs i k
+joined p (itself here) = p
+joined p (step q s) = step (joined p q) s
+
+-- a receipt stands in its receiver's log
+receipt_own : (e : Entry) (d : Determinant) → receipt_in e ≡ Some d → entry_member e ≡ d.to
+receipt_own (Event (Send from ssn to)) d is = absurd cc
+receipt_own (Event (Receipt to rsn from ssn)) d is = (let same : record { from = from; ssn = ssn; to = to; rsn = rsn } ≡ d = cc in ap (λ (x : Determinant). x.to) same)
+receipt_own (LaterReceipt x life) d is = (let same : x ≡ d = cc in ap (λ (x : Determinant). x.to) same)
+receipt_own (Hold q x) d is = absurd cc
+receipt_own (Store q x) d is = absurd cc
+receipt_own (Tell m) d is = absurd cc
+receipt_own (Told m) d is = absurd cc
+receipt_own (Restart r) d is = absurd cc
+
+-- where a determinant's receipts stand
+receipt_place_of : (entries : List Entry) (d : Determinant) (i : Position) → IsReceiptAt (log_of entries) d i → (p : ℕ) × IsReceiptPlace entries d p × StandsAt entries p i
+receipt_place_of entries d i is = (let w = locate_all entries i.member i.number is.0 is.1 in (w.0, (is.0, w.2, is.2), (is.0, w.2, w.3, w.4)))
+
+-- the first of them precedes each
+first_precedes : (entries : List Entry) (d : Determinant) (first p : ℕ) (i j : Position) → IsReceiptPlace entries d first → IsReceiptPlace entries d p → first ≤ p → StandsAt entries first i → StandsAt entries p j
+    → Precedes HappenedBefore (log_of entries) i j
+first_precedes entries d first p i j at_first at_p before stands_i stands_j = elim (cases_eq first p) [
+  | inl same ↦
+      let same_i : StandsAt entries p i = subst (λ (p : ℕ). StandsAt entries p i) same stands_i in
+      subst (λ (k : Position). Precedes HappenedBefore (log_of entries) i k) (one_position entries p i j same_i stands_j) (itself here_i)
+  | inr ne ↦
+      let later = seen-later entries first p j.member at_first.0 at_first.1 own_first (omega (arith, before, ne)) in
+      let number_i : seen entries first j.member ≡ i.number = ap (seen entries first) (sym same_member) ∙ stands_i.3 in
+      let number_j = stands_j.3 in
+      step (itself here_i) (inl (at_first.0, at_p.0, here_i, here_j, same_member, (omega (arith, later, number_i, number_j))))
+] where
+  here_i : IsAt (log_of entries) i at_first.0
+  here_i = stands_at entries first i at_first.0 stands_i at_first.1
+
+  here_j : IsAt (log_of entries) j at_p.0
+  here_j = stands_at entries p j at_p.0 stands_j at_p.1
+
+  own_j : j.member ≡ d.to
+  own_j = sym (one_entry entries p j at_p.0 stands_j at_p.1) ∙ receipt_own at_p.0 d at_p.2
+
+  own_i : i.member ≡ d.to
+  own_i = sym (one_entry entries first i at_first.0 stands_i at_first.1) ∙ receipt_own at_first.0 d at_first.2
+
+  same_member : i.member ≡ j.member
+  same_member = own_i ∙ sym own_j
+
+  own_first : entry_member at_first.0 ≡ j.member
+  own_first = receipt_own at_first.0 d at_first.2 ∙ sym own_j
+
+-- what is held or stored at a place is known there where the first of its receipts precedes it
+pub known_first : (entries : List Entry) (place first : ℕ) (d : Determinant) (j : Position) → StandsAt entries place j → IsFirstReceipt entries d (Some first) → (b : Bool)
+    → ((i : Position) → StandsAt entries first i → (b ≡ true) ↔ Precedes HappenedBefore (log_of entries) i j) → (b ≡ true) ↔ IsKnownTo (log_of entries) d j
+known_first entries place first d j stands is b precedes = (
+  λ yes'. (i, (is.0.0, stands_at entries first i is.0.0 stands_i is.0.1, is.0.2), (precedes i stands_i).0 yes'),
+  λ known.
+      let w = receipt_place_of entries d known.0 known.1 in
+      let after : first ≤ w.0 = elim (cases_lt w.0 first) [ inl early ↦ absurd (is.1 w.0 early w.1) | inr late ↦ late ] in
+      (precedes i stands_i).1 (joined (first_precedes entries d first w.0 i known.0 is.0 w.1 after stands_i w.2) known.2),
+) where
+  i : Position
+  i = at (entry_member is.0.0) (seen entries first (entry_member is.0.0))
+
+  stands_i : StandsAt entries first i
+  stands_i = position_at entries first is.0.0 is.0.1
+
+pub known_none : (entries : List Entry) (d : Determinant) (j : Position) → IsFirstReceipt entries d None → ¬ (IsKnownTo (log_of entries) d j)
+known_none entries d j none known = (let w = receipt_place_of entries d known.0 known.1 in none w.0 w.1)
+
+-- so the entry at the place, which says that it is held or stored, is known
+pub is_known : (entries : List Entry) (place : ℕ) (e : Entry) (d : Determinant) (P : Type 0) → slice_get entries place ≡ Some e → recorded_in e ≡ Some d
+    → P ↔ IsKnownTo (log_of entries) d (at (entry_member e) (seen entries place (entry_member e))) → P ↔ IsKnownAt entries place
+is_known entries place e d P here is known = (
+  λ p e' d' here' is'.
+      let same : e ≡ e' = (let s : Some e ≡ Some e' = sym here ∙ here' in cc) in
+      let same_d : d ≡ d' = (let s : Some d ≡ Some d' = sym is ∙ ap recorded_in same ∙ is' in cc) in
+      subst (λ (x : Entry). IsKnownTo (log_of entries) d' (at (entry_member x) (seen entries place (entry_member x)))) same
+      (subst (λ (x : Determinant). IsKnownTo (log_of entries) x (at (entry_member e) (seen entries place (entry_member e)))) same_d (known.0 p)),
+  λ known'. known.1 (known' e d here is),
+)
 
 -- ---- dumps
 
@@ -96,6 +186,17 @@ pair_in_dump dump k h here = behind dump.events where
   behind [] = (k, held dump.held k here)
   behind (m ∷ ms) = (let r = behind ms in (suc r.0, r.1))
 
+-- in a dump nobody restarts
+pub no_lives_in_dump : (dump : Parts) → have_lives (run_of_dump dump).entries ≡ false
+no_lives_in_dump dump = event dump.events where
+  held : (hs : List (ℕ × Determinant)) → list_any has_life (map hold_of hs) ≡ false
+  held [] = refl
+  held (h ∷ hs) = held hs
+
+  event : (ms : List Mark) → list_any has_life (map Event ms ++ map hold_of dump.held) ≡ false
+  event [] = held dump.held
+  event (m ∷ ms) = event ms
+
 -- a dump's run obeys the rules of runs
 pub is_run : (dump : Parts) → IsDump dump → IsRun (run_of_dump dump)
 is_run dump is = record {
@@ -103,11 +204,10 @@ is_run dump is = record {
   strike = is.strike;
   lawful = record {
     size = is.members;
-    events = rw (events_of_dump dump) is.events;
-    told = λ i e here. elim (entry_of_dump dump i e here) [
+    lawful = lawful_plain dump.members (run_of_dump dump).entries (no_lives_in_dump dump) (rw (events_of_dump dump) is.events) (λ i e here. elim (entry_of_dump dump i e here) [
       | inl w ↦ (let P : Entry → Type 0 = λ e. MayBeTold dump.members (take i (run_of_dump dump).entries) e in subst P (sym w.3) tt)
       | inr w ↦ (let P : Entry → Type 0 = λ e. MayBeTold dump.members (take i (run_of_dump dump).entries) e in subst P (sym w.3) tt)
-    ];
+    ]);
     members = λ i e here. elim (entry_of_dump dump i e here) [
       | inl w ↦ rw w.3 (member_below dump.members dump.events w.0 w.1 is.events w.2)
       | inr w ↦ rw w.3 (is.held w.0 w.1 w.2).1
@@ -164,6 +264,8 @@ records-le (Hold q d ∷ t) (suc p) = (let rest = records-le t p in omega (arith
 records-le (Store q d ∷ t) (suc p) = (let rest = records-le t p in omega (arith, rest))
 records-le (Tell m ∷ t) (suc p) = (let rest = records-le t p in omega (arith, rest))
 records-le (Told m ∷ t) (suc p) = (let rest = records-le t p in omega (arith, rest))
+records-le (LaterReceipt d life ∷ t) (suc p) = (let rest = records-le t p in omega (arith, rest))
+records-le (Restart r ∷ t) (suc p) = (let rest = records-le t p in omega (arith, rest))
 
 pub records-is_some : (entries : List Entry) (p : ℕ) (e : Entry) (o : Option Determinant) → slice_get entries p ≡ Some e → o ≡ recorded_in e → is_some o ≡ true
     → length (records (take (p + 1) entries)) ≡ length (records (take p entries)) + 1
@@ -176,15 +278,27 @@ records-is_none entries p e None here is no' = records-none entries p e here (sy
 records-is_none entries p e (Some d) here is no' = cc
 
 pub marks-is_some : (entries : List Entry) (p : ℕ) (e : Entry) (o : Option Mark) → slice_get entries p ≡ Some e → o ≡ mark_in e → is_some o ≡ true
-    → ((m : Mark) × (slice_get entries p ≡ Some (Event m))) × (length (marks (take (p + 1) entries)) ≡ length (marks (take p entries)) + 1)
+    → ((m : Mark) × (mark_in e ≡ Some m)) × (length (marks (take (p + 1) entries)) ≡ length (marks (take p entries)) + 1)
 marks-is_some entries p e None here is yes' = cc
-marks-is_some entries p (Hold q d) (Some m) here is yes' = cc
-marks-is_some entries p (Store q d) (Some m) here is yes' = cc
-marks-is_some entries p (Tell t) (Some m) here is yes' = cc
-marks-is_some entries p (Told t) (Some m) here is yes' = cc
-marks-is_some entries p (Event e) (Some m) here is yes' = ((e, here), (rw (marks-some entries p (Event e) e here refl, length-append) refl))
+marks-is_some entries p e (Some m) here is yes' = ((m, sym is), (rw (marks-some entries p e m here (sym is), length-append) refl))
 
 pub marks-is_none : (entries : List Entry) (p : ℕ) (e : Entry) (o : Option Mark) → slice_get entries p ≡ Some e → o ≡ mark_in e → is_some o ≡ false
     → length (marks (take (p + 1) entries)) ≡ length (marks (take p entries))
 marks-is_none entries p e None here is no' = ap length (marks-none entries p e here (sym is))
 marks-is_none entries p e (Some m) here is no' = cc
+
+-- ---- refusals
+
+-- what a log in which nobody restarts is refused for, and what one is in which some do
+pub refuses_by : (log : RunParts) (lived : Bool) (r : DumpRefusal) → have_lives log.entries ≡ lived → RefusesBy lived log r → RefusesLog log r
+refuses_by log lived r is refuses = subst (λ (b : Bool). RefusesBy b log r) (sym is) refuses
+
+pub breach_by : (log : RunParts) (lived : Bool) (r : DumpRefusal) (x : LogBreach) → have_lives log.entries ≡ lived → IsBreachBy lived log r x → IsLogBreach log r x
+breach_by log lived r x is breaks = subst (λ (b : Bool). IsBreachBy b log r x) (sym is) breaks
+
+pub rules_by : (log : RunParts) (lived : Bool) → have_lives log.entries ≡ lived → FollowRules log lived → FollowRules log (have_lives log.entries)
+rules_by log lived is rules = subst (FollowRules log) (sym is) rules
+
+-- the first entry that breaks a rule of holds and stores does not obey them
+pub first_bad_breach : (n : ℕ) (entries : List Entry) (fault : RecordFault) → IsFirstBad n entries fault → IsFirstBreach (ObeysAt n entries) fault.place
+first_bad_breach n entries fault bad = (bad.0, breaks n entries fault.place fault.rule bad.2)

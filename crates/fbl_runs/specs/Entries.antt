@@ -1,15 +1,13 @@
--- The entries of a run's log: sends and receipts, from when on a determinant is held or stored, and control messages.
+-- The entries of a run's log: sends and receipts, from when on a determinant is held or stored, control messages, and restarts.
 use Rattle.std.specs.Prelude.{ℕ, ◌≡◌, ◌==◌, ◌⊎◌, Bool, List, Option, Some, None, option_and_then}
 use Rattle.std.specs.List.{filter, filter_map}
 use Rattle.fbl_trace.specs.declared.trace.Determinant.{Determinant}
 use Rattle.fbl_trace.specs.declared.trace.Mark.{Mark}
 use Rattle.fbl_trace.specs.declared.trace.Mark.TheVariants.{Receipt}
-use Rattle.fbl_trace.specs.Events.{determinant_of, member_of, send_of}
-use Rattle.fbl_runs.specs.declared.causality.Causality.{Causality}
-use Rattle.fbl_runs.specs.declared.causality.Causality.TheVariants.{Dependence, HappenedBefore}
-use Rattle.fbl_runs.specs.declared.control.ControlMessage.{ControlMessage}
+use Rattle.fbl_trace.specs.Events.{determinant_of, member_of, receipt_of}
 use Rattle.fbl_runs.specs.declared.entry.Entry.{Entry}
-use Rattle.fbl_runs.specs.declared.entry.Entry.TheVariants.{Event, Hold, Store, Tell, Told}
+use Rattle.fbl_runs.specs.declared.entry.Entry.TheVariants.{Event, Hold, LaterReceipt, Restart, Store, Tell, Told}
+use Rattle.fbl_runs.specs.declared.entry.Restart as restart
 
 -- the member in whose log it stands
 abbrev pub entry_member : Entry → ℕ
@@ -18,14 +16,14 @@ entry_member (Hold holder d) = holder
 entry_member (Store member d) = member
 entry_member (Tell m) = m.from
 entry_member (Told m) = m.to
+entry_member (LaterReceipt d life) = d.to
+entry_member (Restart r) = r.member
 
 -- the send or receipt, if it is one
 abbrev pub mark_in : Entry → Option Mark
 mark_in (Event e) = Some e
-mark_in (Hold holder d) = None
-mark_in (Store member d) = None
-mark_in (Tell m) = None
-mark_in (Told m) = None
+mark_in (LaterReceipt d life) = Some (receipt_of d)
+mark_in e = None
 
 -- the sends and receipts, in order
 abbrev pub marks : List Entry → List Mark
@@ -41,34 +39,31 @@ receipts_in entries = filter_map receipt_in entries
 
 -- what it says is held or stored from here on, if it does
 abbrev pub recorded_in : Entry → Option Determinant
-recorded_in (Event e) = None
 recorded_in (Hold holder d) = Some d
 recorded_in (Store member d) = Some d
-recorded_in (Tell m) = None
-recorded_in (Told m) = None
+recorded_in e = None
+
+-- the restart, if it is one
+abbrev pub restart_in : Entry → Option restart.Restart
+restart_in (Restart r) = Some r
+restart_in e = None
+
+-- the life of its sender that it names, if it is a receipt: 0 where the receipt names none
+abbrev pub named_life : Entry → ℕ
+named_life (LaterReceipt d life) = life
+named_life e = 0
 
 -- it is a hold or a store
 abbrev pub IsRecord : Entry → Type 0
 IsRecord e = (d : Determinant) × (recorded_in e ≡ Some d)
 
--- a message comes in with it, or a control message
+-- a message comes in with it, or a control message, or its member is back
 abbrev pub IsArrival : Entry → Type 0
 IsArrival (Event (Receipt to rsn from ssn)) = Unit {0}
+IsArrival (LaterReceipt d life) = Unit {0}
 IsArrival (Told m) = Unit {0}
+IsArrival (Restart r) = Unit {0}
 IsArrival _ = ⊥
-
--- the second takes the message that the first sends
-abbrev pub Carries : Entry → Entry → Type 0
-Carries a b = (s : Mark) × (r : Mark) × (a ≡ Event s) × (b ≡ Event r) × (send_of r ≡ Some s)
-
--- the second is told what the first tells
-abbrev pub Tells : Entry → Entry → Type 0
-Tells a b = (m : ControlMessage) × (a ≡ Tell m) × (b ≡ Told m)
-
--- the one leads to the other by a message: control messages carry no dependence
-abbrev pub Passes : Causality → Entry → Entry → Type 0
-Passes HappenedBefore a b = Carries a b ⊎ Tells a b
-Passes Dependence a b = Carries a b
 
 -- whether it stands in the member's log
 abbrev pub is_at : ℕ → Entry → Bool

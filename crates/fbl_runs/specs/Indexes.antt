@@ -1,60 +1,70 @@
--- The members' logs, and who held and stored which determinants from when on, as an index keeps them.
-use Rattle.std.specs.Prelude.{ℕ, ◌≡◌, ◌<◌, ◌≤◌, List, [], length, Option, Some, None, slice_get, option_and_then}
+-- The members' logs, and where each receipt first stands, as an index keeps them.
+use Rattle.std.specs.Prelude.{ℕ, ◌≡◌, ◌<◌, ◌≤◌, List, [], length, Option, Some, None, slice_get, if◌then◌else◌}
+use Rattle.std.specs.Option.{option_or}
+use Rattle.std.specs.HashMap as hash_map
 use Rattle.fbl_trace.specs.declared.trace.Determinant.{Determinant}
-use Rattle.fbl_trace.specs.Events.{receipt_of}
+use Rattle.fbl_trace.specs.Events.{same_determinant}
 use Rattle.fbl_runs.specs.declared.entry.Entry.{Entry}
-use Rattle.fbl_runs.specs.declared.entry.Entry.TheVariants.{Event, Hold, Store}
-use Rattle.fbl_runs.specs.declared.numbers.Keeping.{Keeping}
-use Rattle.fbl_runs.specs.declared.index.Records.{Records}
+use Rattle.fbl_runs.specs.declared.entry.Entry.TheVariants.{Hold, Restart, Store}
+use Rattle.fbl_runs.specs.declared.entry.Restart as restart
 use Rattle.fbl_runs.specs.declared.index.Tables.{Tables}
-use Rattle.fbl_runs.specs.Clocks.{StandsAt, cut_of}
+use Rattle.fbl_runs.specs.declared.links.Link.{Link}
+use Rattle.fbl_runs.specs.declared.records.RecordPlaces.{RecordPlaces}
+use Rattle.fbl_runs.specs.Clocks.{StandsAt}
 use Rattle.fbl_runs.specs.Entries.{IsRecord, Logs, log_of, receipt_in}
-use Rattle.fbl_runs.specs.HappenedBefore.{Position, at}
-use Rattle.fbl_runs.specs.Numbers.{AreNumbers, first_in, first_of}
-use Rattle.fbl_runs.specs.Moments.{Cut, HasCome, IsReceiptAt}
+use Rattle.fbl_runs.specs.HappenedBefore.{IsAt, Position, at}
+use Rattle.fbl_runs.specs.Links.{AreLinks}
+use Rattle.fbl_runs.specs.Moments.{Cut, HasCome}
+use Rattle.fbl_runs.specs.Records.{AreRecordPlaces}
 
--- what the entry says is held, if it is a hold
-abbrev pub held_in : Entry → Option Keeping
-held_in (Hold q d) = Some (record { member = q; determinant = d })
-held_in e = None
+-- the entry at the place is a receipt that the determinant names
+abbrev pub IsReceiptPlace : List Entry → Determinant → ℕ → Type 0
+IsReceiptPlace entries d place = (e : Entry) × (slice_get entries place ≡ Some e) × (receipt_in e ≡ Some d)
 
--- what the entry says is stored, if it is a store
-abbrev pub stored_in : Entry → Option Keeping
-stored_in (Store q d) = Some (record { member = q; determinant = d })
-stored_in e = None
-
--- what the entry is a receipt of, with its receiver, if it is one
-abbrev pub received_in : Entry → Option Keeping
-received_in e = option_and_then (λ d. Some (record { member = d.to; determinant = d })) (receipt_in e)
-
--- where in the log the entry first stands, if it does
-abbrev pub IsFirst : List Entry → Entry → Option ℕ → Type 0
-IsFirst log e None = (k : ℕ) → ¬ (slice_get log k ≡ Some e)
-IsFirst log e (Some k) = (slice_get log k ≡ Some e) × ((j : ℕ) → slice_get log j ≡ Some e → k ≤ j)
+-- it is the first such place, if there is one
+abbrev pub IsFirstReceipt : List Entry → Determinant → Option ℕ → Type 0
+IsFirstReceipt entries d None = (place : ℕ) → ¬ (IsReceiptPlace entries d place)
+IsFirstReceipt entries d (Some place) = IsReceiptPlace entries d place × ((other : ℕ) → other < place → ¬ (IsReceiptPlace entries d other))
 
 -- the places are those of the entries of the member's log
 pub record ArePlaces (entries log : List Entry) (q : ℕ) (places : List ℕ) : Type 0 where
   pub count : length places ≡ length log
   pub each : (k p : ℕ) → slice_get places k ≡ Some p → StandsAt entries p (at q k)
 
--- of the first entries, the tables have the places of the members' logs, and of each hold and store where it first stands there
+-- the place that the tables have for the determinant's first receipt
+abbrev pub receipt_place : Tables → Determinant → Option ℕ
+receipt_place tables d = hash_map.get same_determinant tables.receipts d
+
+-- that with one entry more at the place, which is what this determinant names, if it is a receipt
+abbrev pub first_with : Option ℕ → Option Determinant → ℕ → Determinant → Option ℕ
+first_with found None place d = found
+first_with found (Some received) place d = if same_determinant received d then option_or found (Some place) else found
+
+-- of the first entries, the tables have the places of the members' logs, and where each receipt first stands
 pub record AreTables (entries front : List Entry) (tables : Tables) : Type 0 where
   pub room : length tables.logs.items ≡ 16
   pub logs : (q : ℕ) (places : List ℕ) → slice_get tables.logs.items q ≡ Some places → ArePlaces entries (log_of front q) q places
-  pub kept : AreNumbers tables.receipts × AreNumbers tables.holds × AreNumbers tables.stores
   pub outside : (q : ℕ) → 16 ≤ q → log_of front q ≡ []
-  pub receipts : (d : Determinant) → IsFirst (log_of front d.to) (Event (receipt_of d)) (first_of tables.receipts (record { member = d.to; determinant = d }))
-  pub holds : (q : ℕ) (d : Determinant) → IsFirst (log_of front q) (Hold q d) (first_of tables.holds (record { member = q; determinant = d }))
-  pub stores : (q : ℕ) (d : Determinant) → IsFirst (log_of front q) (Store q d) (first_of tables.stores (record { member = q; determinant = d }))
+  pub receipts : (d : Determinant) → IsFirstReceipt front d (receipt_place tables d)
 
--- at the cut the receipt with the determinant has come
-abbrev pub HasReceived : Logs → Cut → Determinant → Type 0
-HasReceived logs cut d = (i : Position) × IsReceiptAt logs d i × HasCome cut i
+-- what an index keeps of the entries
+pub record IsIndex (entries : List Entry) (kept : Tables) (places : RecordPlaces) (leading : List Link) : Type 0 where
+  pub tables : AreTables entries entries kept
+  pub records : AreRecordPlaces entries 0 places
+  pub links : AreLinks entries leading
 
--- the records are of where each member's log first says that it holds the determinant, and that it stores it
-pub record AreRecords (logs : Logs) (d : Determinant) (records : Records) : Type 0 where
-  pub holds : (q : ℕ) → IsFirst (logs q) (Hold q d) (first_in (cut_of records.holds q))
-  pub stores : (q : ℕ) → IsFirst (logs q) (Store q d) (first_in (cut_of records.stores q))
+-- the entry is a hold, or a store
+abbrev pub IsHold : Entry → Type 0
+IsHold (Hold q d) = Unit {0}
+IsHold e = ⊥
+
+abbrev pub IsStore : Entry → Type 0
+IsStore (Store q d) = Unit {0}
+IsStore e = ⊥
+
+-- at the cut the entry has come, and its member has not restarted since then
+abbrev pub IsOfLife : Logs → Cut → Position → Type 0
+IsOfLife logs cut i = HasCome cut i × ((k : ℕ) (r : restart.Restart) → i.number < k → k < cut i.member → ¬ (IsAt logs (at i.member k) (Restart r)))
 
 -- behind the entry at l stand holds and stores up to the end, and there is none at the end
 pub record EndsStep (log : List Entry) (l end : ℕ) : Type 0 where

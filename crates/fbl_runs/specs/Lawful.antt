@@ -4,12 +4,11 @@ use Rattle.fbl_trace.specs.declared.trace.Determinant.{Determinant}
 use Rattle.fbl_trace.specs.Breaches.{IsOutside}
 use Rattle.fbl_trace.specs.declared.trace.Mark.{Mark}
 use Rattle.fbl_runs.specs.declared.entry.Entry.{Entry}
-use Rattle.fbl_runs.specs.declared.entry.Entry.TheVariants.{Event}
 use Rattle.fbl_runs.specs.declared.fault.RecordFault.{RecordFault}
 use Rattle.fbl_runs.specs.declared.fault.RecordRule.{RecordRule}
 use Rattle.fbl_runs.specs.declared.fault.RecordRule.TheVariants.{TooMany, Outside, NotBefore}
 use Rattle.fbl_runs.specs.Clocks.{seen}
-use Rattle.fbl_runs.specs.Entries.{entry_member, log_of, marks, recorded_in}
+use Rattle.fbl_runs.specs.Entries.{entry_member, log_of, mark_in, marks, recorded_in}
 use Rattle.fbl_runs.specs.HappenedBefore.{at}
 use Rattle.fbl_runs.specs.Moments.{IsKnownTo}
 
@@ -47,4 +46,5 @@ IsFirstBad n entries fault =
 
 -- the place among the entries is that of the send or receipt that stands at the place among the sends and receipts
 abbrev pub IsEventPlace : List Entry → ℕ → ℕ → Type 0
-IsEventPlace entries event place = (m : Mark) × (slice_get entries place ≡ Some (Event m)) × (length (marks (take place entries)) ≡ event)
+IsEventPlace entries event place =
+    (e : Entry) × (m : Mark) × (slice_get entries place ≡ Some e) × (mark_in e ≡ Some m) × (length (marks (take place entries)) ≡ event)

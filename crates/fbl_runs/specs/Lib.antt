@@ -1,10 +1,16 @@
 pub mod Entries
+pub mod Lives
 pub mod HappenedBefore
 pub mod ControlMessages
+pub mod Rules
 pub mod Moments
 pub mod Runs
 pub mod Clocks
-pub mod Numbers
+pub mod Links
+pub mod Precedence
+pub mod Records
 pub mod Indexes
+pub mod KnownLives
+pub mod LifeRules
 pub mod Lawful
 pub mod Logs

@@ -4,14 +4,13 @@ use Rattle.std.specs.FinSet as set
 use Rattle.fbl_trace.specs.declared.trace.Determinant.{Determinant}
 use Rattle.fbl_trace.specs.Configs.{MembersAllowed}
 use Rattle.fbl_trace.specs.MemberSets.{AllBelow, Members}
-use Rattle.fbl_trace.specs.Rules.{WellFormed}
 use Rattle.fbl_runs.specs.declared.entry.Entry.{Entry}
 use Rattle.fbl_runs.specs.declared.judged.Judged.{Judged}
 use Rattle.fbl_runs.specs.declared.judged.Judged.TheVariants.{AtEachMoment, AtItsEnd}
-use Rattle.fbl_runs.specs.ControlMessages.{AreTold}
-use Rattle.fbl_runs.specs.Entries.{Logs, entry_member, marks}
+use Rattle.fbl_runs.specs.Entries.{Logs, entry_member}
 use Rattle.fbl_runs.specs.HappenedBefore.{Position}
-use Rattle.fbl_runs.specs.Moments.{Cut, DependsAt, HoldsAt, IsFirstDependent, IsLeastMoment, IsMoment, IsStoredAt, last_cut}
+use Rattle.fbl_runs.specs.Moments.{Cut, DependsAt, HoldsAt, IsLeastDependent, IsMoment, IsReceiptAt, IsStoredAt, Stands, last_cut}
+use Rattle.fbl_runs.specs.Rules.{AreLawful}
 
 -- a run: the group's size and f, who is taken to be lost already, when it is judged, and the members' logs
 pub record Run : Type 0 where
@@ -23,11 +22,10 @@ pub record Run : Type 0 where
 
 -- ---- the rules of a run
 
--- the entries, in some order that obeys the rules of traces and of control messages; each is one of the group's
+-- the entries, in some order that obeys the rules; each is one of the group's
 pub record AreEntries (n : ℕ) (entries : List Entry) : Type 0 where
   pub size : MembersAllowed n
-  pub events : WellFormed n (marks entries)
-  pub told : AreTold n entries
+  pub lawful : AreLawful n entries
   pub members : (i : ℕ) (e : Entry) → slice_get entries i ≡ Some e → entry_member e < n
 
 -- ---- safety
@@ -47,10 +45,14 @@ abbrev pub LosesAt : Run → Cut → Members → Determinant → Type 0
 LosesAt run cut members d =
     ¬ (IsStoredAt run.logs cut d) × ((q : ℕ) → set.contains members q ≡ false → ¬ (HoldsAt run.logs cut d q))
 
+-- the receipt, which stands at the moment, is lost with the members
+abbrev pub LosesReceiptAt : Run → Cut → Members → Position → Type 0
+LosesReceiptAt run cut members i = Stands run.logs cut i × ((d : Determinant) × IsReceiptAt run.logs d i × LosesAt run cut members d)
+
 -- at the moment the loss of the members leaves this one as an orphan: it depends on a receipt that is lost
 abbrev pub IsOrphanAt : Run → Cut → Members → ℕ → Type 0
 IsOrphanAt run cut members q =
-    (set.contains members q ≡ false) × ((d : Determinant) × LosesAt run cut members d × DependsAt run.logs cut d q)
+    (set.contains members q ≡ false) × ((i : Position) × LosesReceiptAt run cut members i × DependsAt run.logs cut i q)
 
 -- whichever members are lost at the moment, nobody is an orphan
 abbrev pub SafeAt : Run → Cut → Type 0
@@ -82,7 +84,8 @@ abbrev pub IsCovered : Run → Cut → Determinant → ℕ → Type 0
 IsCovered run cut d member =
     ¬ (IsStoredAt run.logs cut d) → (members : Members) → AreStruckOrHold run cut d members → (set.contains members member ≡ true) ⊎ (bound run < set.len members)
 
--- that is so at the least moment at which a member depends on a receipt
+-- that is so at each least moment at which a member depends on a receipt that stands there, whichever restarts have come
 abbrev pub IsSafeFromTheFirst : Run → Type 0
 IsSafeFromTheFirst run =
-    (d : Determinant) (j : Position) (cut : Cut) → IsFirstDependent run.logs d j → IsLeastMoment run.logs j cut → IsCovered run cut d j.member
+    (i : Position) (d : Determinant) (q : ℕ) (cut : Cut) → IsReceiptAt run.logs d i → IsLeastDependent run.logs i q cut → Stands run.logs cut i
+    → IsCovered run cut d q

@@ -36,7 +36,7 @@ pub struct ControlMessages {
 }
 
 /// The first end of a message that is outside a group of `n`.
-fn end_outside(n: u8, from: Member, to: Member) -> Option<Outsider>
+pub(crate) fn end_outside(n: u8, from: Member, to: Member) -> Option<Outsider>
     ensures { MatchOption result ((from < n) × (to < n)) (IsEndOutside n from to) }
 {
     if from.number() >= n {

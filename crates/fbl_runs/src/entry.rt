@@ -1,17 +1,38 @@
 //! Entries of a run's log.
 
 ghost use Rattle.std.specs.Prelude.{◌≡◌};
-ghost use Rattle.fbl_runs.specs.Entries.{entry_member, mark_in, receipt_in, recorded_in};
+ghost use Rattle.fbl_runs.specs.Entries.{entry_member, mark_in, named_life, receipt_in, recorded_in, restart_in};
 
 use crate::control::ControlMessage;
 use fbl_trace::{Determinant, Mark, Member};
 use std::fmt;
 
+/// A member's restart: its memory is gone, and it is back in a life of its own with the first of the events that stood, so many receipts
+/// and sends. The others are undone.
+#[derive(Clone, Copy, PartialEq, Eq, Debug)]
+pub struct Restart {
+    /// Who restarts.
+    pub member: Member,
+    /// The life that begins. A member begins in life 0, and its lives rise.
+    pub life: u32,
+    /// How many receipts are kept.
+    pub receipts: u32,
+    /// How many sends are kept.
+    pub sends: u32,
+}
+
 /// An entry of a run's log.
 #[derive(Clone, Copy, PartialEq, Eq, Debug)]
 pub enum Entry {
-    /// A member sends a message or takes one.
+    /// A member sends a message, or takes one that its sender sent in its life 0.
     Event(Mark),
+    /// A member takes a message that its sender sent, or kept, in a later life.
+    LaterReceipt {
+        /// What names the receipt.
+        determinant: Determinant,
+        /// The sender's life.
+        life: u32,
+    },
     /// From here on the member's volatile memory has the determinant.
     Hold {
         /// The member.
@@ -30,6 +51,8 @@ pub enum Entry {
     Tell(ControlMessage),
     /// Its receiver takes the control message.
     Told(ControlMessage),
+    /// A member is back after a crash.
+    Restart(Restart),
 }
 
 impl Entry {
@@ -43,6 +66,8 @@ impl Entry {
             Entry::Store { member, .. } => member,
             Entry::Tell(message) => message.from,
             Entry::Told(message) => message.to,
+            Entry::LaterReceipt { determinant, .. } => determinant.to,
+            Entry::Restart(restart) => restart.member,
         }
     }
 
@@ -52,7 +77,8 @@ impl Entry {
     {
         match self {
             Entry::Event(event) => Some(event),
-            Entry::Hold { .. } | Entry::Store { .. } | Entry::Tell(_) | Entry::Told(_) => None,
+            Entry::LaterReceipt { determinant, .. } => Some(determinant.receipt()),
+            _ => None,
         }
     }
 
@@ -68,13 +94,34 @@ impl Entry {
         ensures { result ≡ recorded_in self }
     {
         match self {
-            Entry::Event(_) | Entry::Tell(_) | Entry::Told(_) => None,
             Entry::Hold { determinant, .. } | Entry::Store { determinant, .. } => Some(determinant),
+            _ => None,
+        }
+    }
+
+    /// The restart, if it is one.
+    pub fn restart(self) -> Option<Restart>
+        ensures { result ≡ restart_in self }
+    {
+        match self {
+            Entry::Restart(restart) => Some(restart),
+            _ => None,
+        }
+    }
+
+    /// The life of its sender that it names, if it is a receipt: 0 where the receipt names none.
+    pub fn life(self) -> u32
+        ensures { result ≡ named_life self }
+    {
+        match self {
+            Entry::LaterReceipt { life, .. } => life,
+            _ => 0,
         }
     }
 }
 
-/// As a log has it, as in `["hold",1,0,1,1,1]`, `["store",1,0,1,1,1]`, `["tell",0,1,7]` and `["told",1,0,7]`.
+/// As a log has it, as in `["hold",1,0,1,1,1]`, `["store",1,0,1,1,1]`, `["tell",0,1,7]`, `["told",1,0,7]`, `["receipt",1,1,0,1,2]` and
+/// `["restart",0,2,3,1]`.
 impl fmt::Display for Entry {
     fn fmt<W: fmt::Write>(&self, f: &mut fmt::Formatter<W>) -> fmt::Result {
         match self {
@@ -101,6 +148,18 @@ impl fmt::Display for Entry {
                 f,
                 "[\"told\",{to},{from},{id}]"
             ),
+            Entry::LaterReceipt { determinant, life } => {
+                let Determinant { from, ssn, to, rsn } = determinant;
+                write!(f, "[\"receipt\",{to},{rsn},{from},{ssn},{life}]")
+            }
+            Entry::Restart(
+                Restart {
+                    member,
+                    life,
+                    receipts,
+                    sends,
+                },
+            ) => write!(f, "[\"restart\",{member},{life},{receipts},{sends}]"),
         }
     }
 }

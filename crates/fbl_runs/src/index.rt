@@ -1,21 +1,24 @@
-//! The members' logs, and who held and stored which determinants from when on.
+//! The members' logs, what leads to each entry at once, and where each determinant is held and stored.
 
-ghost use Rattle.std.specs.Prelude.{◌≡◌, ◌<◌, ◌+◌, ◌↔◌, ℕ, true, IfOk, OnOk, [], ◌∷◌, ◌++◌, length, take};
+ghost use Rattle.std.specs.Prelude.{◌≡◌, ◌<◌, ◌≤◌, ◌+◌, ◌↔◌, ℕ, true, IfOk, OnOk, Some, [], ◌∷◌, ◌++◌, length, slice_get, take};
 ghost use Rattle.std.specs.FinSet as set;
-ghost use Rattle.fbl_trace.specs.Events.{receipt_of};
 ghost use Rattle.fbl_runs.specs.Clocks.{StandsAt, cut_of};
-ghost use Rattle.fbl_runs.specs.Entries.{Logs, log_of};
-ghost use Rattle.fbl_runs.specs.HappenedBefore.{IsAt, at};
-ghost use Rattle.fbl_runs.specs.declared.entry.Entry.TheVariants.{Event};
-ghost use Rattle.fbl_runs.specs.Indexes.{AreRecords, AreTables, EndsStep, HasReceived, IsFirst, held_in, received_in, stored_in};
-ghost use Rattle.fbl_runs.specs.Moments.{HoldsAt, IsStoredAt};
-ghost use Rattle.fbl_runs.specs.Numbers.{first_in};
+ghost use Rattle.fbl_runs.specs.Entries.{log_of, receipt_in};
+ghost use Rattle.fbl_runs.specs.HappenedBefore.{IsAt, Position, at};
+ghost use Rattle.fbl_runs.specs.Indexes.{AreTables, EndsStep, IsFirstReceipt, IsHold, IsOfLife, IsStore, first_with, receipt_place};
+ghost use Rattle.fbl_runs.specs.Links.{AreLinks, IsLink};
+ghost use Rattle.fbl_runs.specs.Moments.{HasCome, HoldsAt, IsStoredAt};
+ghost use Rattle.fbl_runs.specs.Records.{IsNextRecord, IsRecordAt};
+ghost use Rattle.fbl_runs.specs.Rules.{AreLawful};
 
 use crate::clock::Clock;
 use crate::entry::Entry;
-use crate::numbers::{Keeping, Numbers};
+use crate::links::{Link, Links};
+use crate::records::RecordPlaces;
 use fbl_trace::{Determinant, Member, MemberSet};
 use std::alloc::{AllocError, Global};
+use std::collections::HashMap;
+use std::hash::{BuildHasherDefault, FoldHasher};
 use std::marker::Model;
 
 /// Where the entries of a member's log stand among all.
@@ -55,55 +58,12 @@ impl Places {
     }
 }
 
-/// What the entry says is held, if it is a hold.
-fn held(entry: &Entry) -> Option<Keeping>
-    ensures { result ≡ held_in entry.now }
-{
-    match *entry {
-        Entry::Hold {
-            holder,
-            determinant,
-        } => Some(Keeping {
-            member: holder,
-            determinant,
-        }),
-        _ => None,
-    }
-}
-
-/// What the entry says is stored, if it is a store.
-fn stored(entry: &Entry) -> Option<Keeping>
-    ensures { result ≡ stored_in entry.now }
-{
-    match *entry {
-        Entry::Store {
-            member,
-            determinant,
-        } => Some(Keeping {
-            member,
-            determinant,
-        }),
-        _ => None,
-    }
-}
-
-/// What the entry is a receipt of, with its receiver, if it is one.
-fn received(entry: &Entry) -> Option<Keeping>
-    ensures { result ≡ received_in entry.now }
-{
-    let determinant = entry.receipt()?;
-    Some(Keeping {
-        member: determinant.to,
-        determinant,
-    })
-}
-
 #[derive(Drop)]
 pub(crate) struct Tables {
+    /// For each member, at its number, the places of its entries.
     logs: Vec<Places>,
-    receipts: Numbers,
-    holds: Numbers,
-    stores: Numbers,
+    /// The place of the first receipt that each determinant names.
+    receipts: HashMap<Determinant, usize, BuildHasherDefault<FoldHasher>>,
 }
 
 impl Tables {
@@ -116,10 +76,22 @@ impl Tables {
         }
         Ok(Tables {
             logs,
-            receipts: Numbers::new(alloc),
-            holds: Numbers::new(alloc),
-            stores: Numbers::new(alloc),
+            receipts: HashMap::new(alloc),
         })
+    }
+
+    /// Keeps the place of the entry, if it is the first receipt that its determinant names.
+    fn keep_receipt(&mut self, entry: &Entry, place: usize) -> Result<(), AllocError>
+        ensures logs { self.new.logs.items ≡ self.old.logs.items }
+        ensures receipts { OnOk result ((d : _) → receipt_place self.new d ≡ first_with (receipt_place self.old d) (receipt_in entry.now) place d) }
+    {
+        let Some(determinant) = entry.receipt() else {
+            return Ok(());
+        };
+        if self.receipts.get(&determinant).is_none() {
+            self.receipts.insert(determinant, place)?;
+        }
+        Ok(())
     }
 
     /// Takes in the entry at the place, the next one.
@@ -130,69 +102,80 @@ impl Tables {
     {
         let entry = &entries[place];
         let at = entry.member().number() as usize;
-        let number = self.logs[at].as_slice().len();
-        self.receipts.note(received(entry), number)?;
-        self.holds.note(held(entry), number)?;
-        self.stores.note(stored(entry), number)?;
+        self.keep_receipt(entry, place)?;
         self.logs[at].push(place)?;
         Ok(())
     }
 }
 
-/// From when on a determinant is held and stored: for each member, how many entries it has up to the first that says so, and 0 where none
-/// does.
-#[derive(Clone, Copy)]
-pub struct Records {
-    holds: Clock,
-    stores: Clock,
+/// Whether the entry is a hold.
+fn is_hold(entry: &Entry) -> bool
+    ensures { (result ≡ true) ↔ IsHold entry.now }
+{
+    matches!(*entry, Entry::Hold { .. })
 }
 
-impl Records {
-    /// Whether at the clock's cut the determinant is on stable storage.
-    pub fn is_stored(&self, clock: &Clock) -> bool
-        ensures { (logs : Logs) (d : _) → AreRecords logs d self.now → (result ≡ true) ↔ IsStoredAt logs (cut_of clock.now) d }
-    {
-        !self.stores.reached_by(clock).is_empty()
-    }
-
-    /// The members that hold the determinant at the clock's cut.
-    pub fn holders(&self, clock: &Clock) -> MemberSet
-        ensures { (logs : Logs) (d : _) → AreRecords logs d self.now → (q : ℕ)
-            → (set.contains result q ≡ true) ↔ HoldsAt logs (cut_of clock.now) d q }
-    {
-        self.holds.reached_by(clock)
-    }
+/// Whether the entry is a store.
+fn is_store(entry: &Entry) -> bool
+    ensures { (result ≡ true) ↔ IsStore entry.now }
+{
+    matches!(*entry, Entry::Store { .. })
 }
 
-/// The entries of a run, with the members' logs, and who held and stored which determinants from when on. Contracts see the entries.
+/// The entries of a run, with the members' logs, what leads to each entry at once, and where each determinant is held and stored. Contracts
+/// see the entries.
 #[derive(Drop)]
 pub struct Index<'a> {
     entries: &'a [Entry],
     tables: Tables,
+    records: RecordPlaces,
+    links: Links,
 }
 
 impl<'a> Model for Index<'a> {
     ghost use Rattle.std.specs.Prelude.{List};
     ghost use Rattle.fbl_runs.specs.declared.entry.Entry.{Entry};
-    ghost use Rattle.fbl_runs.specs.Indexes.{AreTables};
+    ghost use Rattle.fbl_runs.specs.Indexes.{IsIndex};
 
     ghost Value = { List Entry };
 
     ghost view = { λ i. i.entries.now };
 
-    ghost invariant = { λ i. AreTables i.entries.now i.entries.now i.tables };
+    ghost invariant = { λ i. IsIndex i.entries.now i.tables i.records i.links.links.items };
 }
 
 impl<'a> Index<'a> {
-    /// The index of the entries.
+    /// The index of the entries, which obey the rules. `Err` comes only where there is no memory for it.
     pub fn of(alloc: Global, entries: &'a [Entry]) -> Result<Index<'a>, AllocError>
+        requires { (n : ℕ) × AreLawful n entries.now }
         ensures { IfOk result (λ index. index ≡ entries.now) }
     {
         let mut tables = Tables::new(alloc)?;
         for place in 0..entries.len() {
             tables.add(entries, place)?;
         }
-        Ok(Index { entries, tables })
+        let records = RecordPlaces::of(alloc, entries)?;
+        let links = Links::of(alloc, entries)?;
+        Ok(Index {
+            entries,
+            tables,
+            records,
+            links,
+        })
+    }
+
+    /// The entries.
+    pub fn entries(&self) -> &'a [Entry]
+        ensures { result.now ≡ self.now }
+    {
+        self.entries
+    }
+
+    /// What leads to each entry at once, at its place.
+    pub(crate) fn links(&self) -> &[Link]
+        ensures { AreLinks self.now result.now }
+    {
+        self.links.links.as_slice()
     }
 
     /// How many entries the member has.
@@ -223,6 +206,14 @@ impl<'a> Index<'a> {
         self.tables.logs[member.number() as usize].as_slice()[number]
     }
 
+    /// What leads to the entry at the place at once.
+    pub fn link(&self, place: usize) -> Link
+        requires { place < length self.now }
+        ensures { (j : Position) → StandsAt self.now place j → IsLink self.now j result }
+    {
+        self.links()[place]
+    }
+
     /// The member's entry with the number.
     fn entry(&self, member: Member, number: usize) -> &'a Entry
         requires { number < length (log_of self.now member) }
@@ -231,14 +222,6 @@ impl<'a> Index<'a> {
         let entries = self.entries;
         let place = self.place(member, number);
         &entries[place]
-    }
-
-    /// The number of the receipt with the determinant in its receiver's log.
-    pub fn receipt_number(&self, determinant: &Determinant) -> Option<usize>
-        ensures { IsFirst (log_of self.now determinant.now.to) (Event (receipt_of determinant.now)) result }
-    {
-        let counts = self.tables.receipts.counts(determinant);
-        counts.count(determinant.to).checked_sub(1)
     }
 
     /// The number behind the step of the member's entry with the number.
@@ -255,21 +238,100 @@ impl<'a> Index<'a> {
         count
     }
 
-    /// Whether at the clock's cut the receipt with the determinant has come.
-    pub(crate) fn has_received(&self, determinant: &Determinant, clock: &Clock) -> bool
-        ensures { (result ≡ true) ↔ HasReceived (log_of self.now) (cut_of clock.now) determinant.now }
+    /// The place of the first receipt that the determinant names.
+    pub fn receipt_place(&self, determinant: &Determinant) -> Option<usize>
+        ensures { IsFirstReceipt self.now determinant.now result }
     {
-        let counts = self.tables.receipts.counts(determinant);
-        counts.is_reached_by(determinant.to, clock)
+        self.tables.receipts.get(determinant).copied()
     }
 
-    /// From when on the determinant is held and stored.
-    pub fn records(&self, determinant: &Determinant) -> Records
-        ensures { AreRecords (log_of self.now) determinant.now result }
+    /// The place of the first hold or store of the determinant.
+    pub fn first_record(&self, determinant: &Determinant) -> Option<usize>
+        ensures { IsNextRecord self.now determinant.now 0 result }
     {
-        Records {
-            holds: self.tables.holds.counts(determinant),
-            stores: self.tables.stores.counts(determinant),
+        self.records.first(determinant)
+    }
+
+    /// The place of the next hold or store of what the entry at the place holds or stores.
+    pub fn next_record(&self, place: usize) -> Option<usize>
+        requires { place < length self.now }
+        ensures { (d : _) → IsRecordAt self.now d place → IsNextRecord self.now d (place + 1) result }
+    {
+        self.records.next(place)
+    }
+
+    /// Whether the entry at the place has come at the clock's cut.
+    fn has_come(&self, place: usize, clock: &Clock) -> bool
+        requires { place < length self.now }
+        ensures { (i : Position) → StandsAt self.now place i → (result ≡ true) ↔ HasCome (cut_of clock.now) i }
+    {
+        let member = self.entries()[place].member();
+        self.link(place).number < clock.count(member)
+    }
+
+    /// Whether at the clock's cut the entry at the place has come, and its member is still in its life.
+    fn is_of_life(&self, place: usize, clock: &Clock) -> bool
+        requires within { place < length self.now }
+        requires cut { (q : ℕ) → cut_of clock.now q ≤ length (log_of self.now q) }
+        ensures { (i : Position) → StandsAt self.now place i → (result ≡ true) ↔ IsOfLife (log_of self.now) (cut_of clock.now) i }
+    {
+        let links = self.links();
+        let member = self.entries()[place].member();
+        let count = clock.count(member);
+        if links[place].number >= count {
+            return false;
         }
+        let last = self.place(member, count - 1);
+        links[last].life == links[place].life
+    }
+
+    /// Whether the entry at the place is a store that has come at the clock's cut.
+    fn is_stored_by(&self, place: usize, clock: &Clock) -> bool
+        requires { place < length self.now }
+        ensures { (e : _) (i : Position) → slice_get self.now place ≡ Some e → StandsAt self.now place i
+            → (result ≡ true) ↔ IsStore e × HasCome (cut_of clock.now) i }
+    {
+        is_store(&self.entries()[place]) && self.has_come(place, clock)
+    }
+
+    /// Whether the entry at the place is a hold that has come at the clock's cut, in its member's life then.
+    fn is_held_by(&self, place: usize, clock: &Clock) -> bool
+        requires within { place < length self.now }
+        requires cut { (q : ℕ) → cut_of clock.now q ≤ length (log_of self.now q) }
+        ensures { (e : _) (i : Position) → slice_get self.now place ≡ Some e → StandsAt self.now place i
+            → (result ≡ true) ↔ IsHold e × IsOfLife (log_of self.now) (cut_of clock.now) i }
+    {
+        is_hold(&self.entries()[place]) && self.is_of_life(place, clock)
+    }
+
+    /// Whether at the clock's cut the determinant is on stable storage.
+    pub fn is_stored(&self, determinant: &Determinant, clock: &Clock) -> bool
+        ensures { (result ≡ true) ↔ IsStoredAt (log_of self.now) (cut_of clock.now) determinant.now }
+    {
+        let mut next = self.first_record(determinant);
+        while let Some(place) = next {
+            if self.is_stored_by(place, clock) {
+                return true;
+            }
+            next = self.next_record(place);
+        }
+        false
+    }
+
+    /// The members that hold the determinant at the clock's cut.
+    pub fn holders(&self, determinant: &Determinant, clock: &Clock) -> MemberSet
+        requires { (q : ℕ) → cut_of clock.now q ≤ length (log_of self.now q) }
+        ensures { (q : ℕ)
+            → (set.contains result q ≡ true) ↔ HoldsAt (log_of self.now) (cut_of clock.now) determinant.now q }
+    {
+        let mut holders = MemberSet::empty();
+        let mut next = self.first_record(determinant);
+        while let Some(place) = next {
+            if self.is_held_by(place, clock) {
+                holders = holders.with(self.entries()[place].member());
+            }
+            next = self.next_record(place);
+        }
+        holders
     }
 }

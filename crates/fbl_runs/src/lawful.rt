@@ -1,19 +1,21 @@
 //! Which entries may stand in a log.
 
-ghost use Rattle.std.specs.Prelude.{◌≡◌, ◌<◌, ◌+◌, ◌≤◌, ◌↔◌, ℕ, IfOk, IfSome, MatchOption, Some, length, slice_get, take, true};
+ghost use Rattle.std.specs.Prelude.{◌≡◌, ◌<◌, ◌+◌, ◌≤◌, ◌↔◌, ℕ, IfOk, IfSome, MatchOption, Some, false, length, slice_get, take, true};
 ghost use Rattle.fbl_dumps.specs.Dumps.{IsDump, RefusesDump, IsDumpBreach};
-ghost use Rattle.fbl_runs.specs.Clocks.{IsAdvance, IsLawful};
 ghost use Rattle.fbl_runs.specs.Entries.{marks};
 ghost use Rattle.fbl_runs.specs.declared.causality.Causality.TheVariants.{HappenedBefore};
 ghost use Rattle.fbl_runs.specs.Lawful.{BreaksAt, IsEventPlace, IsFirstBad, IsKnownAt, ObeysAt, records};
-ghost use Rattle.fbl_runs.specs.Logs.{IsLog, IsLogBreach, RefusesLog, parts_of_log, trace_of};
+ghost use Rattle.fbl_runs.specs.Logs.{IsBreachBy, IsLog, IsLogBreach, RefusesLog, RefusesPlain, parts_of_log, trace_of};
+ghost use Rattle.fbl_runs.specs.Precedence.{AreClocks};
+ghost use Rattle.fbl_runs.specs.Rules.{AreLawful, has_life, have_lives};
 
 use crate::causality::Causality;
-use crate::clocks::{Advance, Clocks};
+use crate::clocks::Clocks;
 use crate::control::first_untold;
 use crate::entry::Entry;
 use crate::fault::{LogBreach, RecordFault, RecordRule};
 use crate::index::Index;
+use crate::life_rules::first_life_fault;
 use crate::run::RawLog;
 use fbl_dumps::{DumpRefusal, RawDump, checked_dump};
 use fbl_trace::{Breach, EventFault, GroupRule, MOST_PAIRS, Mark, Outsider, group_breach};
@@ -60,14 +62,18 @@ fn trace_refusal(alloc: Global, raw: &RawLog) -> Option<(DumpRefusal, Breach)>
     checked_dump(alloc, trace).err()
 }
 
-/// Whether what the entry at the place says is held or stored, if it says so, is a receipt that happened before it.
-fn is_known(index: &Index<'_>, entry: &Entry, advance: &Advance) -> bool
-    ensures { (p : ℕ) → IsAdvance HappenedBefore index.now p advance.now → slice_get index.now p ≡ Some entry.now
-        → (result ≡ true) ↔ IsKnownAt index.now p }
+/// Whether what the entry at the place says is held or stored, if it says so, is a receipt that happened before it. Of the receipts that a
+/// determinant names the first precedes the others: they are of one member.
+fn is_known(index: &Index<'_>, clocks: &Clocks, place: usize) -> bool
+    requires { place < length index.now }
+    ensures { AreClocks HappenedBefore index.now clocks.now → (result ≡ true) ↔ IsKnownAt index.now place }
 {
-    match entry.recorded() {
-        Some(determinant) => index.has_received(&determinant, &advance.with),
-        None => true,
+    let Some(determinant) = index.entries()[place].recorded() else {
+        return true;
+    };
+    match index.receipt_place(&determinant) {
+        Some(first) => clocks.precedes(index, first, place),
+        None => false,
     }
 }
 
@@ -75,22 +81,23 @@ fn is_known(index: &Index<'_>, entry: &Entry, advance: &Advance) -> bool
 fn broken_rule(
     members: u8,
     index: &Index<'_>,
-    entry: &Entry,
-    advance: &Advance,
+    clocks: &Clocks,
+    place: usize,
     before: usize,
 ) -> Option<RecordRule>
-    ensures { (p : ℕ) → IsAdvance HappenedBefore index.now p advance.now → slice_get index.now p ≡ Some entry.now
-        → before ≡ length (records (take p index.now))
-        → MatchOption result (ObeysAt members index.now p) (BreaksAt members index.now p) }
+    requires { place < length index.now }
+    ensures { AreClocks HappenedBefore index.now clocks.now → before ≡ length (records (take place index.now))
+        → MatchOption result (ObeysAt members index.now place) (BreaksAt members index.now place) }
 {
+    let entry = &index.entries()[place];
     if entry.recorded().is_some() && before >= MOST_PAIRS {
         return Some(RecordRule::TooMany);
     }
-    let member = advance.member;
+    let member = entry.member();
     if member.number() >= members {
         return Some(RecordRule::Outside(Outsider { member, members }));
     }
-    if !is_known(index, entry, advance) {
+    if !is_known(index, clocks, place) {
         return Some(RecordRule::NotBefore);
     }
     None
@@ -102,15 +109,14 @@ fn first_bad(
     members: u8,
     entries: &[Entry],
 ) -> Result<Option<RecordFault>, AllocError>
-    requires { IsLawful entries.now }
+    requires { (n : ℕ) × AreLawful n entries.now }
     ensures { IfOk result (λ r. MatchOption r ((i : ℕ) → ObeysAt members entries.now i) (IsFirstBad members entries.now)) }
 {
     let index = Index::of(alloc, entries)?;
-    let mut clocks = Clocks::new(alloc, Causality::HappenedBefore);
+    let clocks = Clocks::of(alloc, Causality::HappenedBefore, &index)?;
     let mut count = 0;
     for (place, entry) in entries.iter().enumerate() {
-        let advance = clocks.add(entries, place)?;
-        if let Some(rule) = broken_rule(members, &index, entry, &advance, count) {
+        if let Some(rule) = broken_rule(members, &index, &clocks, place, count) {
             let entry = *entry;
             return Ok(Some(RecordFault { place, entry, rule }));
         }
@@ -137,12 +143,13 @@ pub fn event_place(entries: &[Entry], event: usize) -> Option<usize>
     None
 }
 
-/// What the log is refused for, where this is what its sends and receipts are refused for: the place is that among all entries.
+/// What the log, in which no member restarts, is refused for, where this is what its sends and receipts are refused for: the place is that
+/// among all entries.
 fn log_breach(raw: &RawLog, refusal: DumpRefusal, breach: &Breach) -> (DumpRefusal, LogBreach)
     requires refused { RefusesDump (trace_of (parts_of_log raw.now)) refusal }
     requires breach { IsDumpBreach (trace_of (parts_of_log raw.now)) refusal breach.now }
-    ensures refused { RefusesLog (parts_of_log raw.now) result.0 }
-    ensures breach { IsLogBreach (parts_of_log raw.now) result.0 result.1 }
+    ensures refused { RefusesPlain (parts_of_log raw.now) result.0 }
+    ensures breach { IsBreachBy false (parts_of_log raw.now) result.0 result.1 }
 {
     let Breach::Event(fault) = *breach else {
         return (refusal, LogBreach::Trace(*breach));
@@ -155,8 +162,9 @@ fn log_breach(raw: &RawLog, refusal: DumpRefusal, breach: &Breach) -> (DumpRefus
     )
 }
 
-/// Why the log is refused, if it is, as `checked_log` says it.
-pub(crate) fn refusal(alloc: Global, raw: &RawLog) -> Option<(DumpRefusal, LogBreach)>
+/// Why the log, in which no member restarts, is refused, if it is.
+fn plain_refusal(alloc: Global, raw: &RawLog) -> Option<(DumpRefusal, LogBreach)>
+    requires { have_lives raw.now.entries.items ≡ false }
     ensures log { MatchOption result (IsLog (parts_of_log raw.now)) (λ e. RefusesLog (parts_of_log raw.now) e.0) }
     ensures breach { IfSome result (λ e. IsLogBreach (parts_of_log raw.now) e.0 e.1) }
 {
@@ -175,5 +183,70 @@ pub(crate) fn refusal(alloc: Global, raw: &RawLog) -> Option<(DumpRefusal, LogBr
         Ok(None) => None,
         Ok(Some(fault)) => Some((DumpRefusal::BadEvent(fault.place), LogBreach::Record(fault))),
         Err(_) => Some((DumpRefusal::Memory, LogBreach::Trace(Breach::Memory))),
+    }
+}
+
+/// Why the log, in which some member restarts, is refused, if it is.
+fn lived_refusal(alloc: Global, raw: &RawLog) -> Option<(DumpRefusal, LogBreach)>
+    requires { have_lives raw.now.entries.items ≡ true }
+    ensures log { MatchOption result (IsLog (parts_of_log raw.now)) (λ e. RefusesLog (parts_of_log raw.now) e.0) }
+    ensures breach { IfSome result (λ e. IsLogBreach (parts_of_log raw.now) e.0 e.1) }
+{
+    let (members, f) = (raw.members, raw.f);
+    match group_breach(members, f) {
+        Some(GroupRule::Members) => return Some((
+            DumpRefusal::BadMembers,
+            LogBreach::Trace(Breach::Members { members }),
+        )),
+        Some(GroupRule::F) => return Some((
+            DumpRefusal::BadF,
+            LogBreach::Trace(Breach::F { f, members }),
+        )),
+        None => {}
+    }
+    match first_life_fault(alloc, members, raw.entries.as_slice()) {
+        Ok(None) => {}
+        Ok(Some(fault)) => return Some((
+            DumpRefusal::BadEvent(fault.place),
+            LogBreach::Life(fault),
+        )),
+        Err(_) => return Some((DumpRefusal::Memory, LogBreach::Trace(Breach::Memory))),
+    }
+    if let Some(outsider) = raw.strike.outsider(members) {
+        return Some((
+            DumpRefusal::BadStrike,
+            LogBreach::Trace(Breach::Strike(outsider)),
+        ));
+    }
+    match first_bad(alloc, members, raw.entries.as_slice()) {
+        Ok(None) => None,
+        Ok(Some(fault)) => Some((DumpRefusal::BadEvent(fault.place), LogBreach::Record(fault))),
+        Err(_) => Some((DumpRefusal::Memory, LogBreach::Trace(Breach::Memory))),
+    }
+}
+
+/// Whether some entry is a restart, or a receipt that names a later life.
+fn are_lived(entries: &[Entry]) -> bool
+    ensures { result ≡ have_lives entries.now }
+{
+    entries.iter().any(has_life)
+}
+
+/// Whether the entry is a restart, or a receipt that names a later life.
+fn has_life(entry: &Entry) -> bool
+    ensures { result ≡ has_life entry.now }
+{
+    matches!(*entry, Entry::Restart(_) | Entry::LaterReceipt { .. })
+}
+
+/// Why the log is refused, if it is, as `checked_log` says it.
+pub(crate) fn refusal(alloc: Global, raw: &RawLog) -> Option<(DumpRefusal, LogBreach)>
+    ensures log { MatchOption result (IsLog (parts_of_log raw.now)) (λ e. RefusesLog (parts_of_log raw.now) e.0) }
+    ensures breach { IfSome result (λ e. IsLogBreach (parts_of_log raw.now) e.0 e.1) }
+{
+    if are_lived(raw.entries.as_slice()) {
+        lived_refusal(alloc, raw)
+    } else {
+        plain_refusal(alloc, raw)
     }
 }

@@ -11,16 +11,23 @@ mod fault;
 mod index;
 mod judged;
 mod lawful;
-mod numbers;
+mod life_rules;
+mod links;
+mod lives;
+mod records;
 mod run;
 
 pub use causality::Causality;
 pub use clock::Clock;
-pub use clocks::{Advance, Clocks};
+pub use clocks::Clocks;
 pub use control::{ControlMessage, ControlMessages};
-pub use entry::Entry;
-pub use fault::{ControlFault, ControlRule, LogBreach, RecordFault, RecordRule};
-pub use index::{Index, Records};
+pub use entry::{Entry, Restart};
+pub use fault::{
+    ControlFault, ControlRule, LifeFault, LifeRule, LogBreach, RecordFault, RecordRule,
+};
+pub use index::Index;
 pub use judged::Judged;
 pub use lawful::{event_place, marks_of};
+pub use life_rules::LifeRules;
+pub use links::Link;
 pub use run::{RawLog, Run, checked_log};

@@ -127,8 +127,9 @@ impl Run {
 }
 
 /// The log as a run, judged at each moment, once its rules are checked, in this order: the group's numbers, the sends and receipts in
-/// the order in which they are listed, the strike set, the control messages, and the holds and stores. The refusal is that of the first
-/// rule that is broken; its place is that among all entries. Lack of memory may come before any but the group's numbers.
+/// the order in which they are listed, the strike set, the control messages, and the holds and stores. Where some member restarts: the
+/// group's numbers, the entries but the holds and stores, the strike set, and the holds and stores. The refusal is that of the first rule
+/// that is broken; its place is that among all entries. Lack of memory may come before any but the group's numbers.
 pub fn checked_log(alloc: Global, raw: RawLog) -> Result<Run, (DumpRefusal, LogBreach)>
     ensures log { IfOk result (λ run. run ≡ parts_of_log raw) }
     ensures rules { IfOk result IsLog }

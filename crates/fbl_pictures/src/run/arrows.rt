@@ -1,79 +1,47 @@
 //! The arrows of messages and of control messages.
 
-ghost use Rattle.std.specs.Prelude.{◌≡◌, ◌++◌, IfOk, OnOk};
-ghost use Rattle.fbl_pictures.specs.RunShapes.{AreEndsOf, AreReceiptPlaces, AreToldPlaces, arrow_of, control_arrow as control_arrow_of, entry_arrow, event_arrow as event_arrow_of, in_time, message_arrow as message_arrow_of, taken_in, told_in};
+ghost use Rattle.std.specs.Prelude.{◌≡◌, ◌++◌, IfOk, OnOk, None, slice_get, slice_index_or};
+ghost use Rattle.fbl_pictures.specs.RunShapes.{AreSources, AreTaken, arrow_by, arrow_from as arrow_from_of, entry_arrow, entry_stub, event_stub as event_stub_of, in_time, kind_of_arrow, stub_of};
 ghost use Rattle.fbl_history.specs.Shapes.{drawn};
 
 use crate::run::columns::Columns;
+use crate::run::standing::is_undone;
 use crate::run::window::Window;
 use fbl_history::{ArrowKind, Shape};
-use fbl_runs::{ControlMessage, Entry};
-use fbl_trace::{Mark, Member, MessageName};
+use fbl_judge::Pasts;
+use fbl_runs::Entry;
+use fbl_trace::Mark;
 use std::alloc::{AllocError, Global};
-use std::collections::HashMap;
+use std::collections::HashSet;
 use std::hash::{BuildHasherDefault, FoldHasher};
 
-/// For each name of a message, a place.
-type Places<M> = HashMap<M, usize, BuildHasherDefault<FoldHasher>>;
+/// A set of places.
+type PlaceSet = HashSet<usize, BuildHasherDefault<FoldHasher>>;
 
-/// Where messages are received, and control messages taken.
-#[derive(Drop)]
-struct Ends {
-    /// For each message that is received, the place of its receipt.
-    receipts: Places<MessageName>,
-    /// For each control message that is taken, the place of its told.
-    tolds: Places<ControlMessage>,
-}
-
-/// The message that an entry takes, if it is a receipt.
-fn message_taken(entry: Entry) -> Option<MessageName>
-    ensures { result ≡ taken_in entry }
+/// For each entry of the run the place of the send whose message it takes, or of the tell that it is told.
+pub(crate) fn sources_of(alloc: Global, pasts: &Pasts<'_>) -> Result<Vec<Option<usize>>, AllocError>
+    ensures { IfOk result (λ sources. AreSources pasts.now.entries sources.items) }
 {
-    let receipt = entry.receipt()?;
-    Some(MessageName {
-        from: receipt.from,
-        ssn: receipt.ssn,
-    })
-}
-
-/// The control message that an entry takes, if it is a told.
-fn control_taken(entry: Entry) -> Option<ControlMessage>
-    ensures { result ≡ told_in entry }
-{
-    match entry {
-        Entry::Told(message) => Some(message),
-        _ => None,
-    }
-}
-
-/// The place of each message's receipt.
-fn receipt_places(alloc: Global, entries: &[Entry]) -> Result<Places<MessageName>, AllocError>
-    ensures { IfOk result (AreReceiptPlaces entries.now) }
-{
-    let mut places = HashMap::new(alloc);
+    let entries = pasts.entries();
+    let index = pasts.index();
+    let mut sources = Vec::new(alloc);
     for place in 0..entries.len() {
-        if let Some(message) = message_taken(entries[place]) {
-            if !places.contains_key(&message) {
-                places.insert(message, place)?;
-            }
+        sources.push(index.link(place).message)?;
+    }
+    Ok(sources)
+}
+
+/// The places from which something is taken.
+fn taken_places(alloc: Global, sources: &[Option<usize>]) -> Result<PlaceSet, AllocError>
+    ensures { IfOk result (AreTaken sources.now) }
+{
+    let mut taken = HashSet::new(alloc);
+    for source in sources {
+        if let Some(place) = *source {
+            taken.insert(place)?;
         }
     }
-    Ok(places)
-}
-
-/// The place of each control message's told.
-fn told_places(alloc: Global, entries: &[Entry]) -> Result<Places<ControlMessage>, AllocError>
-    ensures { IfOk result (AreToldPlaces entries.now) }
-{
-    let mut places = HashMap::new(alloc);
-    for place in 0..entries.len() {
-        if let Some(message) = control_taken(entries[place]) {
-            if !places.contains_key(&message) {
-                places.insert(message, place)?;
-            }
-        }
-    }
-    Ok(places)
+    Ok(taken)
 }
 
 /// Adds what is drawn of an entry, if anything is: in grey if the entry has not come.
@@ -97,121 +65,174 @@ fn push_in_time(
     Ok(())
 }
 
-/// The arrow of a message that is sent at a place, and is received at another or is in flight.
-fn message_arrow(
-    window: &Window,
-    place: usize,
-    from: Member,
-    to: Member,
-    end: Option<usize>,
-) -> Option<Shape>
-    ensures { result ≡ message_arrow_of window.now place from to end }
-{
-    match end {
-        Some(end) => window.arrow(from, place, to, end, ArrowKind::Message),
-        None => window.in_flight(from, place, to),
-    }
-}
-
-/// The arrow of a control message that is told at a place, and is taken at another or by nobody.
-fn control_arrow(
-    window: &Window,
-    place: usize,
-    message: ControlMessage,
-    end: Option<usize>,
-) -> Option<Shape>
-    ensures { result ≡ control_arrow_of window.now place message end }
-{
-    match end {
-        Some(end) => window.arrow(message.from, place, message.to, end, ArrowKind::Control),
-        None => window.untaken(message, place),
-    }
-}
-
-/// The arrow of an event among these entries, if it is a send.
-fn event_arrow(
-    window: &Window,
-    entries: &[Entry],
-    ends: &Ends,
-    place: usize,
-    event: Mark,
-) -> Option<Shape>
-    requires { AreEndsOf entries.now ends.now }
-    ensures { result ≡ event_arrow_of window.now entries.now place event }
-{
-    // the contract alone names the entries, as those that the ends are of
-    let _entries = entries;
-    match event {
-        Mark::Send { from, ssn, to } => {
-            let end = ends.receipts.get(&MessageName { from, ssn }).copied();
-            message_arrow(window, place, from, to, end)
-        }
-        Mark::Receipt { .. } => None,
-    }
-}
-
-/// The arrow of an entry, if it is a send or a tell.
-fn arrow(
-    window: &Window,
-    entries: &[Entry],
-    ends: &Ends,
-    place: usize,
-    entry: Entry,
-) -> Option<Shape>
-    requires { AreEndsOf entries.now ends.now }
-    ensures { result ≡ arrow_of window.now entries.now place entry }
+/// How the arrow to the entry is drawn, which is undone or not.
+fn arrow_kind(undone: bool, entry: Entry) -> ArrowKind
+    ensures { result ≡ kind_of_arrow undone entry }
 {
     match entry {
-        Entry::Event(event) => event_arrow(window, entries, ends, place, event),
-        Entry::Tell(message) => {
-            let end = ends.tolds.get(&message).copied();
-            control_arrow(window, place, message, end)
-        }
-        Entry::Hold { .. } | Entry::Store { .. } | Entry::Told(_) => None,
+        Entry::Told(_) => ArrowKind::Control,
+        _ if undone => ArrowKind::Undone,
+        _ => ArrowKind::Message,
     }
 }
 
-/// Adds what is drawn of the arrow of an entry, if it is a send or a tell.
+/// Adds what is drawn of the arrow from the entry at one place, if there is one, to that at another, which is undone or not.
+fn push_arrow_from(
+    shapes: &mut Vec<Shape>,
+    window: &Window,
+    moment: &Columns,
+    undone: bool,
+    from: Option<Entry>,
+    source: usize,
+    place: usize,
+    entry: &Entry,
+) -> Result<(), AllocError>
+    ensures { OnOk result
+        (shapes.new.items ≡ shapes.old.items ++ arrow_from_of window.now moment.now undone from source place entry.now) }
+{
+    let Some(sent) = from else {
+        return Ok(());
+    };
+    let from = sent.member();
+    let has_come = moment.has_come(source, from);
+    let kind = arrow_kind(undone, *entry);
+    let arrow = window.arrow(from, source, entry.member(), place, kind);
+    push_in_time(shapes, has_come, arrow)
+}
+
+/// Adds what is drawn of the arrow to the entry at the place, if it takes a message or is told.
 fn push_arrow(
     shapes: &mut Vec<Shape>,
     window: &Window,
     entries: &[Entry],
+    sources: &[Option<usize>],
+    standing: &[bool],
     moment: &Columns,
-    ends: &Ends,
     place: usize,
     entry: &Entry,
 ) -> Result<(), AllocError>
-    requires { AreEndsOf entries.now ends.now }
     ensures { OnOk result
-        (shapes.new.items ≡ shapes.old.items ++ entry_arrow window.now entries.now moment.now place entry.now) }
+        (shapes.new.items ≡ shapes.old.items
+        ++ entry_arrow window.now entries.now sources.now standing.now moment.now place entry.now) }
 {
-    let has_come = moment.has_come(place, entry.member());
-    let arrow = arrow(window, entries, ends, place, *entry);
-    push_in_time(shapes, has_come, arrow)
+    let source = match sources.get(place) {
+        Some(source) => *source,
+        None => None,
+    };
+    match source {
+        Some(source) => push_arrow_from(
+            shapes,
+            window,
+            moment,
+            is_undone(standing, moment, place, entry.member()),
+            entries.get(source).copied(),
+            source,
+            place,
+            entry,
+        ),
+        None => Ok(()),
+    }
 }
 
-/// Adds what is drawn of the arrows of all messages and control messages, where the moment is before these columns, if one is drawn.
+/// Adds the arrows of all messages and control messages that are taken.
 pub(crate) fn push_arrows(
     shapes: &mut Vec<Shape>,
-    alloc: Global,
     window: &Window,
     entries: &[Entry],
+    sources: &[Option<usize>],
+    standing: &[bool],
     moment: &Columns,
 ) -> Result<(), AllocError>
     ensures { OnOk result
-        (shapes.new.items ≡ shapes.old.items ++ drawn (entry_arrow window.now entries.now moment.now) 0 entries.now) }
+        (shapes.new.items ≡ shapes.old.items
+        ++ drawn (entry_arrow window.now entries.now sources.now standing.now moment.now) 0 entries.now) }
 {
-    let ends = Ends {
-        receipts: receipt_places(alloc, entries)?,
-        tolds: told_places(alloc, entries)?,
-    };
     for place in 0..entries.len() {
         push_arrow(
             shapes,
             window,
             entries,
+            sources,
+            standing,
             moment,
-            &ends,
+            place,
+            &entries[place],
+        )?;
+    }
+    Ok(())
+}
+
+/// The stub of the event's message, if it is a send, which is undone or not, and the stub is drawn.
+fn event_stub(window: &Window, undone: bool, place: usize, event: Mark) -> Option<Shape>
+    ensures { result ≡ event_stub_of window.now undone place event }
+{
+    match event {
+        Mark::Send { from, to, .. } => window.in_flight(undone, from, place, to),
+        Mark::Receipt { .. } => None,
+    }
+}
+
+/// The stub of what the entry sends or tells, if it does and the stub is drawn.
+fn stub(window: &Window, undone: bool, place: usize, entry: Entry) -> Option<Shape>
+    ensures { result ≡ stub_of window.now undone place entry }
+{
+    match entry {
+        Entry::Event(event) => event_stub(window, undone, place, event),
+        Entry::Tell(message) => window.untaken(message, place),
+        _ => None,
+    }
+}
+
+/// Adds what is drawn of the stub of what the entry sends or tells, where nobody takes it.
+fn push_stub(
+    shapes: &mut Vec<Shape>,
+    window: &Window,
+    sources: &[Option<usize>],
+    taken: &PlaceSet,
+    standing: &[bool],
+    moment: &Columns,
+    place: usize,
+    entry: &Entry,
+) -> Result<(), AllocError>
+    requires { AreTaken sources.now taken.now }
+    ensures { OnOk result
+        (shapes.new.items ≡ shapes.old.items
+        ++ entry_stub window.now sources.now standing.now moment.now place entry.now) }
+{
+    // the contract alone names the sources, as those of what is taken
+    let _sources = sources;
+    if taken.contains(&place) {
+        return Ok(());
+    }
+    let member = entry.member();
+    let undone = is_undone(standing, moment, place, member);
+    let stub = stub(window, undone, place, *entry);
+    push_in_time(shapes, moment.has_come(place, member), stub)
+}
+
+/// Adds the stubs of all messages and control messages that nobody takes.
+pub(crate) fn push_stubs(
+    shapes: &mut Vec<Shape>,
+    alloc: Global,
+    window: &Window,
+    entries: &[Entry],
+    sources: &[Option<usize>],
+    standing: &[bool],
+    moment: &Columns,
+) -> Result<(), AllocError>
+    ensures { OnOk result
+        (shapes.new.items ≡ shapes.old.items
+        ++ drawn (entry_stub window.now sources.now standing.now moment.now) 0 entries.now) }
+{
+    let taken = taken_places(alloc, sources)?;
+    for place in 0..entries.len() {
+        push_stub(
+            shapes,
+            window,
+            sources,
+            &taken,
+            standing,
+            moment,
             place,
             &entries[place],
         )?;

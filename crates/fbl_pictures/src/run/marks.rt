@@ -1,14 +1,16 @@
 //! The marks of entries.
 
-ghost use Rattle.std.specs.Prelude.{◌≡◌, ◌≤◌, ◌+◌, ◌++◌, ◌∷◌, [], IfOk, OnOk, length};
+ghost use Rattle.std.specs.Prelude.{ℕ, ◌≡◌, ◌≤◌, ◌+◌, ◌++◌, ◌∷◌, [], IfOk, OnOk, length};
 ghost use Rattle.fbl_history.specs.declared.shape.Glyph.{Glyph};
 ghost use Rattle.fbl_runs.specs.Clocks.{cut_of};
+ghost use Rattle.fbl_runs.specs.Entries.{log_of};
 ghost use Rattle.fbl_pictures.specs.RunShapes.{AreGlyphs, IsEventKind, IsGlyphOf, IsHeld, IsKind, IsReceiptKind, judged_kind};
 
 use crate::run::members::Lines;
+use crate::run::standing::is_undone;
 use fbl_history::{Glyph, GlyphKind, ReceiptKind};
 use fbl_judge::Pasts;
-use fbl_runs::{Clock, ControlMessage, Entry};
+use fbl_runs::{Clock, ControlMessage, Entry, Restart};
 use fbl_trace::{Determinant, Mark, MemberSet};
 use std::alloc::{AllocError, Global};
 
@@ -19,8 +21,11 @@ pub(crate) struct Receipts<'a> {
     pub(crate) pasts: &'a Pasts<'a>,
     /// What has come where they are judged.
     pub(crate) clock: &'a Clock,
+    /// Which entries stand there.
+    pub(crate) standing: &'a [bool],
     /// Who is struck, and where the moment is, if one is drawn: what is right of it is not judged.
     pub(crate) lines: &'a Lines,
+    ghost within: { (q : ℕ) → cut_of clock.now q ≤ length (log_of pasts.now.entries q) },
 }
 
 /// The kind of a receipt that these members hold.
@@ -44,9 +49,9 @@ impl Receipts<'_> {
         ensures { IsHeld self.now.pasts.now (cut_of self.now.clock.now) self.now.lines.now.struck determinant result }
     {
         let f = self.pasts.run().f();
-        let records = self.pasts.index().records(&determinant);
-        let is_stored = records.is_stored(self.clock);
-        let holders = records.holders(self.clock);
+        let index = self.pasts.index();
+        let is_stored = index.is_stored(&determinant, self.clock);
+        let holders = index.holders(&determinant, self.clock);
         GlyphKind::Held {
             determinant,
             kind: judged_kind(f, self.lines.struck, is_stored, holders),
@@ -54,47 +59,62 @@ impl Receipts<'_> {
         }
     }
 
-    /// The kind of glyph of a receipt, which has come or not.
-    fn receipt_kind(&self, has_come: bool, determinant: Determinant) -> GlyphKind
+    /// The kind of glyph of a receipt, which has come or not, and is undone or not.
+    fn receipt_kind(&self, has_come: bool, undone: bool, determinant: Determinant) -> GlyphKind
         ensures { IsReceiptKind self.now.pasts.now
-            (cut_of self.now.clock.now) self.now.lines.now.struck has_come determinant result }
+            (cut_of self.now.clock.now) self.now.lines.now.struck has_come undone determinant result }
     {
-        if has_come {
-            return self.held_kind(determinant);
-        }
+        let kind = match (has_come, undone) {
+            (true, true) => ReceiptKind::Undone,
+            (true, false) => return self.held_kind(determinant),
+            (false, _) => ReceiptKind::ToCome,
+        };
         GlyphKind::Held {
             determinant,
-            kind: ReceiptKind::ToCome,
+            kind,
             holders: MemberSet::empty(),
         }
     }
 
-    /// The kind of glyph of an event, which has come or not.
-    fn event_kind(&self, has_come: bool, event: Mark) -> GlyphKind
-        ensures { IsEventKind self.now.pasts.now (cut_of self.now.clock.now) self.now.lines.now.struck has_come event result }
+    /// The kind of glyph of an event, which has come or not, and is undone or not.
+    fn event_kind(&self, has_come: bool, undone: bool, event: Mark) -> GlyphKind
+        ensures { IsEventKind self.now.pasts.now
+            (cut_of self.now.clock.now) self.now.lines.now.struck has_come undone event result }
     {
         match event {
-            Mark::Send { ssn, to, .. } => GlyphKind::Send {
-                ssn,
-                to,
-                undone: false,
-            },
+            Mark::Send { ssn, to, .. } => GlyphKind::Send { ssn, to, undone },
             Mark::Receipt { to, rsn, from, ssn } => {
-                self.receipt_kind(has_come, Determinant { from, ssn, to, rsn })
+                self.receipt_kind(has_come, undone, Determinant { from, ssn, to, rsn })
             }
         }
     }
 
-    /// The kind of glyph of an entry, which has come or not.
-    fn entry_kind(&self, has_come: bool, entry: Entry) -> GlyphKind
-        ensures { IsKind self.now.pasts.now (cut_of self.now.clock.now) self.now.lines.now.struck has_come entry result }
+    /// The kind of glyph of an entry, which has come or not, and is undone or not.
+    fn entry_kind(&self, has_come: bool, undone: bool, entry: Entry) -> GlyphKind
+        ensures { IsKind self.now.pasts.now
+            (cut_of self.now.clock.now) self.now.lines.now.struck has_come undone entry result }
     {
         match entry {
-            Entry::Event(event) => self.event_kind(has_come, event),
+            Entry::Event(event) => self.event_kind(has_come, undone, event),
             Entry::Hold { determinant, .. } => GlyphKind::Hold(determinant),
             Entry::Store { determinant, .. } => GlyphKind::Store(determinant),
             Entry::Tell(ControlMessage { to, id, .. }) => GlyphKind::Tell { to, id },
             Entry::Told(ControlMessage { from, id, .. }) => GlyphKind::Told { from, id },
+            Entry::LaterReceipt { determinant, .. } => {
+                self.receipt_kind(has_come, undone, determinant)
+            }
+            Entry::Restart(
+                Restart {
+                    life,
+                    receipts,
+                    sends,
+                    ..
+                },
+            ) => GlyphKind::Restart {
+                life,
+                receipts,
+                sends,
+            },
         }
     }
 
@@ -109,12 +129,13 @@ impl Receipts<'_> {
         ensures { OnOk result
             ((mark : Glyph)
             × IsGlyphOf self.now.pasts.now
-            (cut_of self.now.clock.now) self.now.lines.now place column entry.now mark
+            (cut_of self.now.clock.now) self.now.standing.now self.now.lines.now place column entry.now mark
             × (glyphs.new.items ≡ glyphs.old.items ++ mark ∷ [])) }
     {
         let member = entry.member();
         let has_come = self.lines.moment.has_come(place, member);
-        let kind = self.entry_kind(has_come, *entry);
+        let undone = is_undone(self.standing, &self.lines.moment, place, member);
+        let kind = self.entry_kind(has_come, undone, *entry);
         glyphs.push(Glyph {
             column,
             member,
@@ -134,7 +155,7 @@ impl Receipts<'_> {
         requires { first + length entries.now ≤ usize.MAX }
         ensures { IfOk result
             (λ glyphs. AreGlyphs self.now.pasts.now
-            (cut_of self.now.clock.now) self.now.lines.now first 0 entries.now glyphs.items) }
+            (cut_of self.now.clock.now) self.now.standing.now self.now.lines.now first 0 entries.now glyphs.items) }
     {
         let mut glyphs = Vec::new(alloc);
         for column in 0..entries.len() {

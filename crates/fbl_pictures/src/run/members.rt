@@ -1,13 +1,14 @@
 //! The labels and the lines of members, and the line of a moment.
 
-ghost use Rattle.std.specs.Prelude.{◌≡◌, ◌++◌, ◌≤◌, OnOk};
+ghost use Rattle.std.specs.Prelude.{◌≡◌, ◌++◌, ◌≤◌, None, OnOk};
 ghost use Rattle.std.specs.Option.{option_to_list};
-ghost use Rattle.fbl_pictures.specs.RunShapes.{member_line, member_shapes, members_drawn, moment_drawn, moment_part as moment_part_of, orphan_line as orphan_line_of, run_status};
+ghost use Rattle.fbl_pictures.specs.RunShapes.{life_part as life_part_of, lives_parts, member_line, member_shapes, members_drawn, moment_drawn, moment_part as moment_part_of, orphan_line as orphan_line_of, parts_to_restart, run_status};
 
-use crate::names::{line_kind, push_any, push_names};
+use crate::names::{push_any, push_names};
 use crate::run::columns::Columns;
 use crate::run::window::Window;
 use fbl_history::{LineKind, Shape, Status};
+use fbl_runs::Entry;
 use fbl_trace::{Member, MemberSet};
 use std::alloc::AllocError;
 
@@ -33,14 +34,81 @@ fn status(is_struck: bool, start: Option<usize>) -> Status
     }
 }
 
-/// The line of a member: of one that is struck at a moment, dashed from there.
-fn line(window: &Window, member: Member, is_struck: bool, moment: Option<usize>) -> Shape
-    ensures { result ≡ member_line window.now member is_struck moment }
+/// The part of a member's line from the start of a life to its last entry, if it has one and the part is drawn.
+fn life_part(
+    window: &Window,
+    member: Member,
+    start: Option<usize>,
+    last: Option<usize>,
+) -> Option<Shape>
+    ensures { result ≡ life_part_of window.now member start last }
 {
-    match moment {
-        Some(place) if is_struck => window.down_from(member, place),
-        _ => window.member_line(member, line_kind(is_struck)),
+    let last = last?;
+    window.part(member, start, last, LineKind::Up)
+}
+
+/// Adds that part, and the one from there to the restart at the place, while the member is down.
+fn push_to_restart(
+    shapes: &mut Vec<Shape>,
+    window: &Window,
+    member: Member,
+    start: Option<usize>,
+    last: Option<usize>,
+    place: usize,
+) -> Result<(), AllocError>
+    ensures { OnOk result
+        (shapes.new.items ≡ shapes.old.items ++ parts_to_restart window.now member start last place) }
+{
+    push_any(shapes, life_part(window, member, start, last))?;
+    push_any(shapes, window.part(member, last, place, LineKind::Down))
+}
+
+/// Adds the line of a member, dashed before each of its restarts.
+fn push_lives(
+    shapes: &mut Vec<Shape>,
+    window: &Window,
+    entries: &[Entry],
+    member: Member,
+) -> Result<(), AllocError>
+    ensures { OnOk result
+        (shapes.new.items ≡ shapes.old.items ++ lives_parts window.now member None None 0 entries.now) }
+{
+    let mut start = None;
+    let mut last = None;
+    for place in 0..entries.len() {
+        let entry = &entries[place];
+        if entry.member().number() == member.number() {
+            if entry.restart().is_some() {
+                push_to_restart(shapes, window, member, start, last, place)?;
+                start = Some(place);
+            }
+            last = Some(place);
+        }
     }
+    push_any(shapes, window.part(member, start, window.end, LineKind::Up))
+}
+
+/// Adds the line of a member: dashed before each of its restarts, or, if it is struck, from the moment on if there is one.
+fn push_line(
+    shapes: &mut Vec<Shape>,
+    window: &Window,
+    entries: &[Entry],
+    member: Member,
+    is_struck: bool,
+    moment: Option<usize>,
+) -> Result<(), AllocError>
+    ensures { OnOk result
+        (shapes.new.items ≡ shapes.old.items ++ member_line window.now entries.now member is_struck moment) }
+{
+    if !is_struck {
+        return push_lives(shapes, window, entries, member);
+    }
+    let line = match moment {
+        Some(place) => window.down_from(member, place),
+        None => window.member_line(member, LineKind::Down),
+    };
+    shapes.push(line)?;
+    Ok(())
 }
 
 /// The line of an orphan from the place at which it starts, if it is one and the line is drawn: up to the moment, if there is one.
@@ -63,16 +131,18 @@ fn orphan_line(
 fn push_member(
     shapes: &mut Vec<Shape>,
     window: &Window,
+    entries: &[Entry],
     member: Member,
     is_struck: bool,
     start: Option<usize>,
     moment: Option<usize>,
 ) -> Result<(), AllocError>
-    ensures { OnOk result (shapes.new.items ≡ shapes.old.items ++ member_shapes window.now member is_struck start moment) }
+    ensures { OnOk result
+        (shapes.new.items ≡ shapes.old.items ++ member_shapes window.now entries.now member is_struck start moment) }
 {
     let status = status(is_struck, start);
     push_names(shapes, window.columns(), member, Some(status))?;
-    shapes.push(line(window, member, is_struck, moment))?;
+    push_line(shapes, window, entries, member, is_struck, moment)?;
     push_any(shapes, orphan_line(window, member, start, moment))
 }
 
@@ -81,10 +151,11 @@ pub(crate) fn push_members(
     shapes: &mut Vec<Shape>,
     members: u8,
     window: &Window,
+    entries: &[Entry],
     lines: &Lines,
 ) -> Result<(), AllocError>
     requires { members ≤ 16 }
-    ensures { OnOk result (shapes.new.items ≡ shapes.old.items ++ members_drawn members window.now lines.now) }
+    ensures { OnOk result (shapes.new.items ≡ shapes.old.items ++ members_drawn members window.now entries.now lines.now) }
 {
     for number in 0..members {
         let member = Member::at(number);
@@ -93,6 +164,7 @@ pub(crate) fn push_members(
         push_member(
             shapes,
             window,
+            entries,
             member,
             lines.struck.has(member),
             start,

@@ -7,29 +7,34 @@ mod finding;
 mod marks;
 mod members;
 mod paths;
+mod standing;
 mod window;
 
-ghost use Rattle.std.specs.Prelude.{◌≡◌, ◌≤◌, ◌<◌, IfOk, IfSome, count_by, length, string_bytes};
+ghost use Rattle.std.specs.Prelude.{◌≡◌, ◌≤◌, ◌<◌, ℕ, IfOk, IfSome, count_by, length, string_bytes};
 ghost use Rattle.fbl_input.specs.Faults.{PutsOut};
+ghost use Rattle.fbl_runs.specs.Clocks.{cut_of};
+ghost use Rattle.fbl_runs.specs.Entries.{log_of};
+ghost use Rattle.fbl_runs.specs.HappenedBefore.{Position};
 ghost use Rattle.fbl_runs.specs.declared.judged.Judged.TheVariants.{AtEachMoment, AtItsEnd};
-ghost use Rattle.fbl_judge.specs.Audits.{IsAudit};
+ghost use Rattle.fbl_judge.specs.Audits.{AreNamed, IsAudit};
 ghost use Rattle.fbl_judge.specs.Unsafe.{IsSaidOf};
 ghost use Rattle.fbl_pictures.specs.RunPictures.{IsAuditedPicture, IsFindingText, IsPlaceText, IsRunPicture, IsUnsafePicture, counted as counted_of, drawn_around, run_heading as run_heading_of, things as things_of};
-ghost use Rattle.fbl_pictures.specs.RunShapes.{AreShapesOf, IsPlaceOf, is_event, shown_entries as shown_entries_of};
+ghost use Rattle.fbl_pictures.specs.RunShapes.{AreShapesOf, is_event, shown_entries as shown_entries_of};
 ghost use Rattle.fbl_pictures.specs.Windows.{window_around};
 
 use crate::headings::{audit_words, escaped_text, heading, part_words, unsafe_words};
 use crate::names::push_any;
-use crate::run::arrows::push_arrows;
+use crate::run::arrows::{push_arrows, push_stubs, sources_of};
 use crate::run::finding::Finding;
 use crate::run::marks::Receipts;
 use crate::run::members::{Lines, push_members, push_moment};
 use crate::run::paths::push_paths;
+use crate::run::standing::standing_of;
 use crate::run::window::Window;
 use crate::svg::picture_text;
 use fbl_history::Shape;
 use fbl_input::{OutputFault, Sources, put, spot_text};
-use fbl_judge::{Audit, Pasts, UnsafeReceipt, audit_of, first_unsafe};
+use fbl_judge::{Audit, LostReceipt, Pasts, UnsafeReceipt, audit_of, first_unsafe};
 use fbl_runs::{Entry, Judged};
 use std::alloc::{AllocError, Global};
 use std::io::Write;
@@ -72,16 +77,35 @@ fn shapes_of(
     pasts: &Pasts<'_>,
     window: &Window,
     finding: &Finding<'_>,
+    standing: &[bool],
     lines: &Lines,
 ) -> Result<Vec<Shape>, AllocError>
-    ensures { IfOk result (λ shapes. AreShapesOf pasts.now window.now finding.now lines.now shapes.items) }
+    requires { AreNamed pasts.now finding.now.receipts.now }
+    ensures { IfOk result (λ shapes. AreShapesOf pasts.now window.now finding.now standing.now lines.now shapes.items) }
 {
     let members = pasts.run().members();
     let entries = shown_entries(pasts);
+    let sources = sources_of(alloc, pasts)?;
     let mut shapes = Vec::new(alloc);
     push_any(&mut shapes, window.numbers())?;
-    push_members(&mut shapes, members, window, lines)?;
-    push_arrows(&mut shapes, alloc, window, entries, &lines.moment)?;
+    push_members(&mut shapes, members, window, entries, lines)?;
+    push_arrows(
+        &mut shapes,
+        window,
+        entries,
+        sources.as_slice(),
+        standing,
+        &lines.moment,
+    )?;
+    push_stubs(
+        &mut shapes,
+        alloc,
+        window,
+        entries,
+        sources.as_slice(),
+        standing,
+        &lines.moment,
+    )?;
     push_moment(&mut shapes, members, window, &lines.moment)?;
     push_paths(&mut shapes, alloc, pasts, window, finding, members)?;
     Ok(shapes)
@@ -131,21 +155,23 @@ fn finding_text(
     finding: &Finding<'_>,
     words: &str,
 ) -> Result<String, AllocError>
-    requires at { IsPlaceOf pasts.now finding.now.at }
+    requires named { AreNamed pasts.now finding.now.receipts.now }
+    requires within { (q : ℕ) → cut_of finding.now.moment q ≤ length (log_of pasts.now.entries q) }
     requires around { IfSome around (λ place. place < length (shown_entries_of pasts.now)) }
     ensures { IfOk result (λ text. IsFindingText pasts.now around finding.now words.now (string_bytes text)) }
 {
     let entries = shown_entries(pasts);
     let window = Window::around(entries.len(), around);
     let heading = run_heading(alloc, pasts, &window, words)?;
-    let clock = finding.clock(pasts);
-    let lines = finding.lines(pasts, &clock);
+    let lines = finding.lines(pasts);
+    let standing = standing_of(alloc, pasts, &finding.moment)?;
     let receipts = Receipts {
         pasts: &*pasts,
-        clock: &clock,
+        clock: &finding.moment,
+        standing: standing.as_slice(),
         lines: &lines,
     };
-    let shapes = shapes_of(alloc, pasts, &window, finding, &lines)?;
+    let shapes = shapes_of(alloc, pasts, &window, finding, standing.as_slice(), &lines)?;
     let glyphs = receipts.glyphs(alloc, window.first, &entries[window.first..window.end])?;
     picture_text(
         alloc,
@@ -174,6 +200,7 @@ fn audited_text(
         orphans: audit.orphans,
         receipts: audit.lost.as_slice(),
         at: None,
+        moment: pasts.last(),
     };
     finding_text(alloc, pasts, around, &finding, words.as_str())
 }
@@ -204,7 +231,7 @@ fn unsafe_text(
     around: Option<usize>,
     said: &UnsafeReceipt,
 ) -> Result<String, AllocError>
-    requires said { IsSaidOf pasts.now said.now.determinant said.now }
+    requires said { (i : Position) × IsSaidOf pasts.now i said.now }
     requires around { IfSome around (λ place. place < length (shown_entries_of pasts.now)) }
     ensures { IfOk result (λ text. IsUnsafePicture pasts.now sources.now around said.now (string_bytes text)) }
 {
@@ -216,12 +243,16 @@ fn unsafe_text(
         said.strike,
         said.orphans,
     )?;
-    let receipts = [said.determinant];
+    let receipts = [LostReceipt {
+        place: said.place,
+        determinant: said.determinant,
+    }];
     let finding = Finding {
         strike: said.strike,
         orphans: said.orphans,
         receipts: &receipts,
         at: said.at,
+        moment: said.moment,
     };
     finding_text(alloc, pasts, around, &finding, words.as_str())
 }
@@ -248,7 +279,7 @@ fn said_text(
     asked: Option<usize>,
     said: &UnsafeReceipt,
 ) -> Result<String, AllocError>
-    requires said { IsSaidOf pasts.now said.now.determinant said.now }
+    requires said { (i : Position) × IsSaidOf pasts.now i said.now }
     requires asked { IfSome asked (λ place. place < length (shown_entries_of pasts.now)) }
     ensures { IfOk result
         (λ text. IsUnsafePicture pasts.now sources.now

@@ -2,6 +2,7 @@
 
 ghost use Rattle.std.specs.Prelude.{◌≡◌, ◌++◌, ◌≤◌, List, OnOk, slice_get};
 ghost use Rattle.std.specs.List.{range_with_len};
+ghost use Rattle.fbl_judge.specs.Audits.{AreNamed};
 ghost use Rattle.fbl_pictures.specs.RunShapes.{ArePathsDrawn, AreStepsTo, path_shapes, step_between as step_between_of, step_shape};
 ghost use Rattle.fbl_history.specs.declared.shape.Shape.{Shape};
 
@@ -62,12 +63,13 @@ fn push_path_to(
     finding: &Finding<'_>,
     member: Member,
 ) -> Result<(), AllocError>
+    requires { AreNamed pasts.now finding.now.receipts.now }
     ensures { OnOk result
         ((steps : List Shape) × AreStepsTo pasts.now window.now finding.now member steps
         × (shapes.new.items ≡ shapes.old.items ++ steps)) }
 {
     if let Some(cause) = finding.cause(pasts, member) {
-        if let Some(path) = path_to(alloc, pasts, &cause, member)? {
+        if let Some(path) = path_to(alloc, pasts, cause.place, member, &finding.moment)? {
             push_path(shapes, window, pasts.entries(), path.as_slice())?;
         }
     }
@@ -83,7 +85,8 @@ pub(crate) fn push_paths(
     finding: &Finding<'_>,
     members: u8,
 ) -> Result<(), AllocError>
-    requires { members ≤ 16 }
+    requires members { members ≤ 16 }
+    requires named { AreNamed pasts.now finding.now.receipts.now }
     ensures { OnOk result
         ((paths : List Shape) × ArePathsDrawn pasts.now window.now finding.now (range_with_len 0 members) paths
         × (shapes.new.items ≡ shapes.old.items ++ paths)) }

@@ -1,7 +1,7 @@
 //! The part of a run that is drawn, and what is drawn in it of lines and arrows that go beyond.
 
 ghost use Rattle.std.specs.Prelude.{◌≡◌, ◌<◌, ◌≤◌, ◌-◌, IfSome};
-ghost use Rattle.fbl_pictures.specs.Windows.{arrow_within, column_of, down_within, edge_of, in_flight_within, line_within, member_line_within, moment_within, numbers_of, orphan_within, start_within, untaken_within, window_around};
+ghost use Rattle.fbl_pictures.specs.Windows.{arrow_within, column_of, down_within, edge_of, in_flight_within, line_within, member_line_within, moment_within, numbers_of, orphan_within, part_within, start_within, untaken_within, window_around};
 
 use fbl_history::{ArrowKind, LineKind, Shape};
 use fbl_runs::ControlMessage;
@@ -143,6 +143,30 @@ impl Window {
         })
     }
 
+    /// The same from the left end on, where there is no first entry.
+    pub(crate) fn part(
+        &self,
+        member: Member,
+        start: Option<usize>,
+        end: usize,
+        kind: LineKind,
+    ) -> Option<Shape>
+        ensures { result ≡ part_within self.now member start end kind }
+    {
+        if let Some(start) = start {
+            return self.line(member, start, end, kind);
+        }
+        if end < self.first {
+            return None;
+        }
+        Some(Shape::Line {
+            member,
+            start: None,
+            end: end.min(self.end).saturating_sub(self.first),
+            kind,
+        })
+    }
+
     /// The part of an orphan's line from the entry at which it starts to be one up to the moment before the entry at the place, if it is drawn.
     pub(crate) fn orphan_up_to(&self, member: Member, start: usize, place: usize) -> Option<Shape>
         ensures { result ≡ orphan_within self.now member start place }
@@ -209,9 +233,15 @@ impl Window {
         }
     }
 
-    /// A message in flight that is sent at the place, if that is drawn.
-    pub(crate) fn in_flight(&self, from: Member, sent: usize, to: Member) -> Option<Shape>
-        ensures { result ≡ in_flight_within self.now from sent to }
+    /// A message in flight that is sent at the place, by a send that is undone or not, if that is drawn.
+    pub(crate) fn in_flight(
+        &self,
+        undone: bool,
+        from: Member,
+        sent: usize,
+        to: Member,
+    ) -> Option<Shape>
+        ensures { result ≡ in_flight_within self.now undone from sent to }
     {
         let sent = self.column(sent)?;
         Some(Shape::InFlight {
@@ -219,7 +249,7 @@ impl Window {
             sent,
             to,
             again: false,
-            undone: false,
+            undone,
         })
     }
 

@@ -46,5 +46,6 @@ pub(crate) fn receipt_class(kind: ReceiptKind) -> &'static str {
         ReceiptKind::Recorded => "receipt recorded",
         ReceiptKind::Lost => "receipt lost",
         ReceiptKind::ToCome => "receipt to-come",
+        ReceiptKind::Undone => "receipt undone",
     }
 }

@@ -23,6 +23,7 @@ pub(crate) fn glyph_sign(kind: GlyphKind) -> Sign {
             ReceiptKind::Recorded => Sign::Recorded,
             ReceiptKind::Lost => Sign::Lost,
             ReceiptKind::ToCome => Sign::ToCome,
+            ReceiptKind::Undone => Sign::Undone,
         },
         GlyphKind::Hold(_) => Sign::Hold,
         GlyphKind::Store(_) => Sign::Store,
@@ -31,6 +32,7 @@ pub(crate) fn glyph_sign(kind: GlyphKind) -> Sign {
         GlyphKind::Strike => Sign::Strike,
         GlyphKind::Recovery { .. } => Sign::Recovery,
         GlyphKind::Checkpoint => Sign::Checkpoint,
+        GlyphKind::Restart { .. } => Sign::Restart,
     }
 }
 
@@ -61,6 +63,11 @@ fn push_kind(
         GlyphKind::Strike => push_strike(text, at, member),
         GlyphKind::Recovery { receipts } => push_recovery(text, at, member, receipts),
         GlyphKind::Checkpoint => push_checkpoint(text, at, member),
+        GlyphKind::Restart {
+            life,
+            receipts,
+            sends,
+        } => push_restart(text, at, member, life, receipts, sends),
     }
 }
 
@@ -149,13 +156,13 @@ fn push_receipt(
 /// The outline of a receipt of a dump or a log, from the point at which it stands.
 fn receipt_outline(kind: ReceiptKind) -> &'static str {
     match kind {
-        ReceiptKind::Stable | ReceiptKind::ToCome => "m-7 -7h14v14h-14z",
+        ReceiptKind::Stable | ReceiptKind::ToCome | ReceiptKind::Undone => "m-7 -7h14v14h-14z",
         ReceiptKind::Recorded => "m-8 0l8 -8l8 8l-8 8z",
         ReceiptKind::Lost => "m-7 -7l14 14m0 -14l-14 14",
     }
 }
 
-/// Writes what the title of a receipt of a dump or a log says of who holds it: nothing of one that is not judged.
+/// Writes what the title of a receipt of a dump or a log says of who holds it, or else why it is not judged.
 fn push_holders(
     text: &mut String,
     alloc: Global,
@@ -164,6 +171,7 @@ fn push_holders(
 ) -> Result<(), AllocError> {
     match kind {
         ReceiptKind::ToCome => Ok(text.push_str("to come")?),
+        ReceiptKind::Undone => Ok(text.push_str("undone")?),
         _ => push_set(text, alloc, "held by ", holders),
     }
 }
@@ -184,8 +192,10 @@ fn push_held(
     text.push_str(", ")?;
     push_holders(text, alloc, kind, holders)?;
     text.push_str("</title></path>\n")?;
+    let undone = matches!(kind, ReceiptKind::Undone);
+    push_cross(text, at, undone)?;
     let below = at.right(12).down(20);
-    push_count(text, below, false, u64::from(determinant.rsn))
+    push_count(text, below, undone, u64::from(determinant.rsn))
 }
 
 /// Writes the numbers under a hold or a store: that of the receipt, and that of its receiver.
@@ -291,6 +301,26 @@ fn push_recovery(
         text,
         "<path class='recovery' d='M{x} {y}l9 16h-18z'>\
          <title>member {member} is recovered, {receipts} {word} replayed</title></path>\n"
+    )?;
+    push_count(text, at.left(9).down(20), false, u64::from(receipts))
+}
+
+fn push_restart(
+    text: &mut String,
+    at: Point,
+    member: Member,
+    life: u32,
+    receipts: u32,
+    sends: u32,
+) -> Result<(), AllocError> {
+    let Point { x, y } = at.up(9);
+    let member = member.number();
+    let received = receipts_word(u128::from(receipts));
+    let sent = if sends == 1 { "send" } else { "sends" };
+    write!(
+        text,
+        "<path class='recovery' d='M{x} {y}l9 16h-18z'>\
+         <title>member {member} restarts in life {life}, {receipts} {received} and {sends} {sent} kept</title></path>\n"
     )?;
     push_count(text, at.left(9).down(20), false, u64::from(receipts))
 }

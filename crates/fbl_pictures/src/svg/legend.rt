@@ -26,6 +26,7 @@ pub(crate) enum Sign {
     Strike,
     Recovery,
     Checkpoint,
+    Restart,
     Orphan,
     Path,
     Moment,
@@ -104,6 +105,10 @@ const SIGNS: &[(Sign, &str)] = &[
     (
         Sign::Recovery,
         "<path class='recovery' d='M10 -13l9 16h-18z'/><text class='note' x='36' y='0'>recovery: the receipts it replays</text>",
+    ),
+    (
+        Sign::Restart,
+        "<path class='recovery' d='M10 -13l9 16h-18z'/><text class='note' x='36' y='0'>restart: the receipts it keeps</text>",
     ),
     (
         Sign::Checkpoint,

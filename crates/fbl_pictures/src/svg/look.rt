@@ -37,6 +37,7 @@ pub(crate) const LOOK: &str = "<style>
 .fbl .moment{fill:none;stroke:#222;stroke-width:1.5;stroke-dasharray:9 3 2 3}
 .fbl .to-come text{fill:#767676}
 .fbl .to-come .send,.fbl .receipt.to-come,.fbl .to-come .hold{fill:#fff;stroke:#949494;stroke-width:1.5}
+.fbl .to-come .recovery{fill:#fff;stroke:#949494;stroke-width:1.5}
 .fbl .to-come .store{fill:#949494}
 .fbl .to-come .message,.fbl .to-come .tell,.fbl .to-come .told{stroke:#949494}
 @media(prefers-color-scheme:dark){
@@ -61,6 +62,7 @@ pub(crate) const LOOK: &str = "<style>
 .fbl .moment{stroke:#eee}
 .fbl .to-come text{fill:#8a8a8a}
 .fbl .to-come .send,.fbl .receipt.to-come,.fbl .to-come .hold{fill:#161616;stroke:#6e6e6e}
+.fbl .to-come .recovery{fill:#161616;stroke:#6e6e6e}
 .fbl .to-come .store{fill:#6e6e6e}
 .fbl .to-come .message,.fbl .to-come .tell,.fbl .to-come .told{stroke:#6e6e6e}
 }

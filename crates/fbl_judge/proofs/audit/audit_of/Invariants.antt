@@ -1,13 +1,13 @@
-use Rattle.fbl_judge.proofs.Common.{List, ◌++◌, drop, Determinant}
-use Rattle.fbl_runs.specs.Entries.{receipts_in}
-use Rattle.fbl_judge.specs.Audits.{AreLost, end_of}
-use Rattle.fbl_runs.specs.Logs.{run_of}
+-- the receipts so far that are lost, and those of the rest, are all; and the members depend on those so far
+use Rattle.fbl_judge.proofs.Common.{List, ◌++◌, drop}
+use Rattle.fbl_judge.specs.Audits.{AreLost, AreNamed}
+use Rattle.fbl_judge.specs.declared.audit.LostReceipt.{LostReceipt}
 use Rattle.fbl_judge.proofs.Audits.{AreDependents}
 use Rattle.fbl_judge.proofs.audit.audit_of.Given as goal
 
 abbrev pub invariant-loop-place : goal.invariant-loop-place
 invariant-loop-place l = record {
-  lost : (rest : List Determinant) → AreLost (run_of l.pasts) (end_of l.pasts) (receipts_in (drop l.place l.pasts.entries)) rest
-      → AreLost (run_of l.pasts) (end_of l.pasts) (receipts_in l.pasts.entries) (l.lost.items ++ rest);
+  lost : (rest : List LostReceipt) → AreLost l.pasts l.place (drop l.place l.pasts.entries) rest → AreLost l.pasts 0 l.pasts.entries (l.lost.items ++ rest);
+  named : AreNamed l.pasts l.lost.items;
   dependents : AreDependents l.pasts l.place l.dependents;
 }

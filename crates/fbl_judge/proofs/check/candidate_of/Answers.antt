@@ -1,46 +1,56 @@
-use Rattle.fbl_judge.proofs.Common.{◌≡◌, ◌∙◌, false, refl, sym, slice_get_within, log_of, at, IsFirstDependent, IsLeastMoment}
-use Rattle.std.specs.FinSet as set
-use Rattle.fbl_runs.specs.Clocks.{cut_of}
-use Rattle.fbl_runs.proofs.ClockLaws.{last_there}
-use Rattle.fbl_judge.proofs.SafeAlways.{first_is_receipt}
-use Rattle.fbl_judge.proofs.UnsafeLaws.{first_dependent, left_there, none_after, none_there, not_left}
+use Rattle.fbl_judge.proofs.Common.{Entry, List, arith, at, entry_member, false, false≢true, length, log_of, nat_tests, refl, slice_get_within, sym, true, ◌≡◌, ◌∙◌}
+use Rattle.fbl_runs.specs.Clocks.{cut_of, seen}
+use Rattle.fbl_runs.proofs.LeadsLaws.{here_stands}
+use Rattle.fbl_judge.proofs.DependLaws.{least_within, receipt_at}
+use Rattle.fbl_judge.proofs.UnsafeLaws.{none_if_many, none_if_none, none_if_struck, none_if_undone, one_if_left}
 use Rattle.fbl_judge.proofs.check.candidate_of.Goals as goal
-use Rattle.fbl_judge.proofs.check.candidate_of.Goals.{After-moment-moment}
 
-pub returns-in_err-first : goal.returns-in_err-first
-returns-in_err-first c =
-    rw c.from_residual.ensures (none_after c.args.pasts.now c.requires.run.lawful c.requires.run.strike c.args.determinant.now
-    (at c.args.determinant.now.to c.args.number) c.args.member c.requires.receipt c.in_err-first.ensures)
-
-pub moment-moment-requires : goal.moment-moment-requires
-moment-moment-requires c = (let there = last_there c.in_ok-first.ensures.precedes in slice_get_within (log_of c.args.pasts.now.entries c.args.member) c.in_ok-first.first there.0 there.1)
-
-dependent : (c : After-moment-moment) → IsFirstDependent (log_of c.args.pasts.now.entries) c.args.determinant.now (at c.args.member c.in_ok-first.first)
-dependent c =
-    first_dependent c.args.pasts.now c.requires.run.lawful c.requires.run.strike c.args.determinant.now
-    (at c.args.determinant.now.to c.args.number) (at c.args.member c.in_ok-first.first) c.requires.receipt c.in_ok-first.ensures
-
-least : (c : After-moment-moment) → IsLeastMoment (log_of c.args.pasts.now.entries) (at c.args.member c.in_ok-first.first) (cut_of c.moment-moment.result)
-least c = (let r = first_is_receipt (log_of c.args.pasts.now.entries) c.args.determinant.now (at c.args.member c.in_ok-first.first) (dependent c) in c.moment-moment.ensures.least r.0 r.1)
-
-pub returns-in_err-strike : goal.returns-in_err-strike
-returns-in_err-strike c =
-    let c2 = (goal.at.returns-in_err-strike c).After-moment-moment in
-    rw c.from_residual-in_err-strike.ensures (none_there c.args.pasts.now c.requires.run.lawful c.requires.run.strike c.args.determinant.now c.args.member c.in_ok-first.first (cut_of c.moment-moment.result)
-    (dependent c2) (least c2) (c.in_err-strike.ensures c.args.determinant.now c.requires.records))
-
-pub returns-then-has : goal.returns-then-has
-returns-then-has c =
-    let c2 = (goal.at.returns-then-has c).After-moment-moment in
-    not_left c.args.pasts.now c.requires.run.lawful c.requires.run.strike c.args.determinant.now c.args.member c.in_ok-first.first (cut_of c.moment-moment.result)
-    (dependent c2) (least c2) c.in_ok-strike.strike (c.in_ok-strike.ensures c.args.determinant.now c.requires.records) (sym c.has.ensures ∙ c.if-has.true)
-
-pub returns : goal.returns
-returns c =
-    let c2 = (goal.at.returns c).After-moment-moment in
+pub returns-in_err-moment : goal.returns-in_err-moment
+returns-in_err-moment c i stands =
     let run = c.args.pasts.now in
     let d = c.args.determinant.now in
-    let out : set.contains c.in_ok-strike.strike c.args.member ≡ false = sym c.has.ensures ∙ c.if-has.false in
-    let there = left_there run c.requires.run.lawful c.requires.run.strike d c.args.member c.in_ok-first.first (cut_of c.moment-moment.result) (dependent c2) (least c2) c.in_ok-strike.strike
-    (c.in_ok-strike.ensures d c.requires.records) out in
-    record { orphan = refl; is = there.0 }
+    let receipt = receipt_at run.entries c.args.place d i c.requires.receipt stands in
+    rw c.from_residual.ensures (none_if_none run c.requires.run.lawful c.requires.run.strike i d receipt c.args.member (cut_of c.args.view.now.base) (c.in_err-moment.ensures i stands))
+
+pub stands-requires : goal.stands-requires
+stands-requires c = slice_get_within c.args.pasts.now.entries c.args.place c.requires.receipt.0 c.requires.receipt.1
+
+pub returns-then-not-stands : goal.returns-then-not-stands
+returns-then-not-stands c i stands =
+    let run = c.args.pasts.now in
+    let d = c.args.determinant.now in
+    let receipt = receipt_at run.entries c.args.place d i c.requires.receipt stands in
+    let undone : c.stands.result ≡ false = grind (arith, nat_tests, c.if-not-stands.true) in
+    none_if_undone run c.requires.run.lawful c.requires.run.strike i d receipt c.args.member (cut_of c.args.view.now.base) (cut_of c.in_ok-moment.moment) (c.in_ok-moment.ensures i stands)
+    (λ s. false≢true (sym undone ∙ (c.stands.ensures i stands).1 s))
+
+pub least_strike-requires : goal.least_strike-requires
+least_strike-requires c q =
+    let es = c.args.pasts.now.entries in
+    let e = c.requires.receipt.0 in
+    let i = at (entry_member e) (seen es c.args.place (entry_member e)) in
+    least_within (log_of es) i c.args.member (cut_of c.in_ok-moment.moment) (c.in_ok-moment.ensures i (here_stands es c.args.place e c.requires.receipt.1)).1 q
+
+pub returns-in_err-strike : goal.returns-in_err-strike
+returns-in_err-strike c i stands =
+    let run = c.args.pasts.now in
+    let d = c.args.determinant.now in
+    let receipt = receipt_at run.entries c.args.place d i c.requires.receipt stands in
+    rw c.from_residual-in_err-strike.ensures (none_if_many run c.requires.run.lawful c.requires.run.strike i d receipt c.args.member (cut_of c.args.view.now.base) (cut_of c.in_ok-moment.moment) (c.in_ok-moment.ensures i stands) c.in_err-strike.ensures)
+
+pub returns-then-has : goal.returns-then-has
+returns-then-has c i stands =
+    let run = c.args.pasts.now in
+    let d = c.args.determinant.now in
+    let receipt = receipt_at run.entries c.args.place d i c.requires.receipt stands in
+    none_if_struck run c.requires.run.lawful c.requires.run.strike i d receipt c.args.member (cut_of c.args.view.now.base) (cut_of c.in_ok-moment.moment) (c.in_ok-moment.ensures i stands)
+    c.in_ok-strike.strike c.in_ok-strike.ensures (sym c.has.ensures ∙ c.if-has.true)
+
+pub returns : goal.returns
+returns c i stands =
+    let run = c.args.pasts.now in
+    let d = c.args.determinant.now in
+    let receipt = receipt_at run.entries c.args.place d i c.requires.receipt stands in
+    let there : c.stands.result ≡ true = grind (arith, nat_tests, c.if-not-stands.false) in
+    one_if_left run c.requires.run.lawful c.requires.run.strike i d receipt c.args.member (cut_of c.args.view.now.base) (cut_of c.in_ok-moment.moment) (c.in_ok-moment.ensures i stands)
+    (record { orphan = c.args.member; moment = c.in_ok-moment.moment; strike = c.in_ok-strike.strike; view = c.args.view.now }) refl refl refl c.requires.view ((c.stands.ensures i stands).0 there) c.in_ok-strike.ensures (sym c.has.ensures ∙ c.if-has.false)

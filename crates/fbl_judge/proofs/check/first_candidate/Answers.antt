@@ -1,19 +1,42 @@
-use Rattle.fbl_judge.proofs.Common.{arith, ◌≡◌, ℕ, subst}
-use Rattle.std.proofs.Common.{MatchOption}
-use Rattle.fbl_runs.specs.Logs.{run_of}
-use Rattle.fbl_judge.specs.Candidates.{HasNoCandidate, IsCandidateOf, IsFirstBelow}
-use Rattle.fbl_judge.proofs.UnsafeLaws.{first_next}
+use Rattle.fbl_judge.proofs.Common.{At-push, List, SameRestarts, Some, arith, inl, inr, length, log_of, refl, slice_get, slice_get_read, subst, suc, sym, take, ℕ, ◌++◌, ◌+◌, ◌<◌, ◌≡◌, ◌≤◌, ◌⊎◌, [], ◌∷◌, Cut}
+use Rattle.std.proofs.lemmas.List.{take_all}
+use Rattle.fbl_trace.proofs.Gets.{take-more}
+use Rattle.fbl_runs.specs.Clocks.{cut_of}
+use Rattle.fbl_judge.specs.declared.view.View.{View}
+use Rattle.fbl_judge.specs.Candidates.{IsAny, IsOfLesser, IsOfViews}
+use Rattle.fbl_judge.proofs.DependLaws.{receipt_at}
+use Rattle.fbl_judge.proofs.UnsafeLaws.{first_of_two, first_wider, one_view_more, orphan_below}
 use Rattle.fbl_judge.proofs.check.first_candidate.Goals as goal
 
-pub loop-member_number-preserved : goal.loop-member_number-preserved
-loop-member_number-preserved c =
+pub first_in_view-next-requires-clause-view : goal.first_in_view-next-requires-clause-view
+first_in_view-next-requires-clause-view c =
+    c.views-view-items.ensures.each c.loop-view.view-index c.view-item.result
+    (slice_get_read c.views-view-items.result.now (length c.views-view-items.result.now) c.loop-view.view-index c.view-item.result refl c.loop-view-test.true c.view-item.is)
+
+pub loop-view-preserved : goal.loop-view-preserved
+loop-view-preserved c i stands =
     let run = c.args.pasts.now in
     let d = c.args.determinant.now in
-    let n = c.loop-member_number.member_number in
-    let next = subst (λ (q : ℕ). MatchOption c.candidate_of-next.result (HasNoCandidate (run_of run) d q) (IsCandidateOf run d q)) c.at-member.ensures c.candidate_of-next.ensures in
-    first_next run c.requires.run.lawful c.requires.run.strike d n c.loop-member_number.first c.candidate_of-next.result c.earlier_candidate-first.result c.loop-member_number.invariant next c.earlier_candidate-first.ensures
+    let logs = log_of run.entries in
+    let views = c.views-view-items.result.now in
+    let k = c.loop-view.view-index in
+    let here = slice_get_read views (length views) k c.view-item.result refl c.loop-view-test.true c.view-item.is in
+    first_of_two run c.requires.run.lawful c.requires.run.strike i d (receipt_at run.entries c.args.place d i c.requires.receipt stands)
+    (IsOfViews logs (take k views)) (IsOfLesser logs (cut_of c.view-item.result.base) 16) (IsOfViews logs (take (k + 1) views))
+    (λ q cut is. one_view_more logs views k c.view-item.result here q cut is)
+    c.loop-view.first c.first_in_view-next.result c.earlier_candidate-first.result (c.loop-view.invariant i stands) (c.first_in_view-next.ensures i stands) c.earlier_candidate-first.ensures
 
 pub returns : goal.returns
-returns c =
-    let all : c.loop-member_number.member_number ≡ 16 = (let t = c.loop-member_number-test.false in let e = c.loop-member_number.auto.member_number-end in omega (arith, t, e)) in
-    subst (λ (n : ℕ). IsFirstBelow c.args.pasts.now c.args.determinant.now n c.loop-member_number.first) all c.loop-member_number.invariant
+returns c i stands =
+    let run = c.args.pasts.now in
+    let d = c.args.determinant.now in
+    let logs = log_of run.entries in
+    let views = c.views-view-items.result.now in
+    let k = c.loop-view.view-index in
+    let receipt = receipt_at run.entries c.args.place d i c.requires.receipt stands in
+    let all : take k views ≡ views = take_all k views (let t = c.loop-view-test.false in omega (arith, t)) in
+    first_wider run c.requires.run.lawful c.requires.run.strike i d receipt
+    (IsOfViews logs (take k views)) IsAny (λ q cut members is candidate. (
+      orphan_below run c.requires.run.lawful c.requires.run.strike i d receipt q cut members candidate,
+      subst (λ (vs : List View). (k : ℕ) × (view : View) × (slice_get vs k ≡ Some view) × SameRestarts logs (cut_of view.base) cut) (sym all) (c.views-view-items.ensures.all cut candidate.moment.moment),
+    )) c.loop-view.first (c.loop-view.invariant i stands)

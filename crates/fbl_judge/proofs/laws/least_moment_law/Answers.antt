@@ -1,5 +1,5 @@
-use Rattle.fbl_judge.proofs.LeastMoments.{has_least}
+use Rattle.fbl_judge.proofs.LeastMoments.{least_moment_law}
 use Rattle.fbl_judge.proofs.laws.least_moment_law.Goals as goal
 
 pub returns : goal.returns
-returns c n entries are = has_least n entries are.events are.told
+returns c = least_moment_law

@@ -1,5 +1,5 @@
 -- the next hold or store of the determinant that may not have come: no earlier one has not
-use Rattle.fbl_runs.specs.Clocks.{cut_of}
+use Rattle.fbl_judge.proofs.Common.{cut_of}
 use Rattle.fbl_judge.proofs.ReasonLaws.{IsNextToCome, left}
 use Rattle.fbl_judge.proofs.reason.next_place.Given as goal
 

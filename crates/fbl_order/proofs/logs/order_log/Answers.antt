@@ -3,8 +3,8 @@ use Rattle.fbl_order.proofs.Independence.{answers_alike}
 use Rattle.fbl_order.proofs.MergeLaws.{entries-kept, entries-order}
 use Rattle.fbl_order.proofs.logs.order_log.Goals as goal
 
-pub entries_at-requires : goal.entries_at-requires
-entries_at-requires c k p there =
+pub items_at-requires : goal.items_at-requires
+items_at-requires c k p there =
     let e = c.in_ok-places.ensures.merges.places.each k p (rw c.as_slice.ensures.value at there) in slice_get_within c.as_slice-given.result.now p e.0 e.2
 
 -- the entries in the order
@@ -21,10 +21,10 @@ returns-in-Ok-clause-order c =
     rw c.in-Ok.ensures.log order
 
 pub returns-in-Ok-clause-kept : goal.returns-in-Ok-clause-kept
-returns-in-Ok-clause-kept c well heard =
+returns-in-Ok-clause-kept c stand =
     c.in-Ok.ensures.log ∙ ap (λ (es : List Entry). with_entries es (parts_of_log c.args.raw)) (entries-kept c.args.raw.members c.args.raw.entries.items
     c.as_slice-given.result.now c.in_ok-entries.entries.items c.as_slice-given.ensures.value c.in_ok-places.field-0 c.in_ok-places.ensures.merges
-    c.in_ok-places.ensures.all (are c) well heard)
+    c.in_ok-places.ensures.all (are c) stand)
 
 pub returns-in-Ok-clause-answers : goal.returns-in-Ok-clause-answers
 returns-in-Ok-clause-answers c entries other =

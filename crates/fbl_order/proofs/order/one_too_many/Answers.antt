@@ -1,6 +1,5 @@
-use Rattle.fbl_order.proofs.Common.{ℕ, Some, Event, ◌≡◌, ◌∙◌, ap, arith, length, length-append, marks, refl, slice_get_read, sym, take, take_all}
-use Rattle.fbl_runs.proofs.RunLaws.{marks-none, marks-some}
-use Rattle.fbl_order.proofs.Marks.{event_is}
+use Rattle.fbl_order.proofs.Common.{ℕ, Some, ◌≡◌, ◌∙◌, ap, arith, length, length-append, marks, refl, slice_get_read, sym, take, take_all}
+use Rattle.fbl_order.proofs.Marks.{marks-none, marks-some}
 use Rattle.fbl_order.proofs.order.one_too_many.Goals.{in-Some+else-count-eq-MOST_EVENTS, in_default}
 use Rattle.fbl_order.proofs.order.one_too_many.Goals as goal
 
@@ -24,9 +23,8 @@ loop-place-preserved c =
 pub returns-then-count-eq-MOST_EVENTS : goal.returns-then-count-eq-MOST_EVENTS
 returns-then-count-eq-MOST_EVENTS c =
     let e = c.index-entries-place.result in
-    let is : e ≡ Event c.in-Some.event = event_is e c.in-Some.event (sym c.event.ensures ∙ c.in-Some.is) in
-    let at = slice_get_read c.args.entries.now _ c.loop-place.place e refl c.loop-place-test.true c.index-entries-place.is ∙ ap Some is in
-    ((c.in-Some.event, at, sym c.loop-place.invariant.count ∙ c.if-count-eq-MOST_EVENTS.true), at, refl)
+    let at = slice_get_read c.args.entries.now _ c.loop-place.place e refl c.loop-place-test.true c.index-entries-place.is in
+    ((e, at, sym c.event.ensures ∙ c.in-Some.is), sym c.loop-place.invariant.count ∙ c.if-count-eq-MOST_EVENTS.true, refl)
 
 pub returns : goal.returns
 returns c = omega (

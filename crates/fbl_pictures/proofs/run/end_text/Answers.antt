@@ -1,4 +1,4 @@
-use Rattle.fbl_pictures.proofs.Common.{ap, inl, inr, not, false≢true, sym, ◌≡◌, ◌∙◌, true, IfOk-weaker}
+use Rattle.fbl_pictures.proofs.Common.{ap, inl, inr, not, false≢true, sym, ◌∙◌, IfOk-weaker}
 use Rattle.fbl_pictures.proofs.Moments.{orphan_at_end}
 use Rattle.fbl_pictures.specs.RunPictures.{HasOrphan}
 use Rattle.fbl_pictures.proofs.run.end_text.Goals as goal

@@ -9,6 +9,6 @@ returns-in_err-orphans g c = puts_none (λ _. IsAuditText c.args.dump.now) _ c.f
 
 pub returns : goal.returns
 returns g c =
-    let lost = c.in_ok-lost.ensures in
+    let lost = c.as_slice.ensures.value ∙ c.in_ok-lost.ensures in
     let orphans = c.in_ok-orphans.orphans in
-    puts_right _ (λ _. IsAuditText c.args.dump.now) (λ x text is. (orphans, c.in_ok-orphans.ensures, is ∙ ap (λ ds. audit_lines ds orphans) lost)) _ _ c.write_audit.result c.write_audit.ensures
+    puts_right _ (λ _. IsAuditText c.args.dump.now) (λ x text is. (orphans, c.in_ok-orphans.ensures, is ∙ ap (λ ds. audit_lines ds orphans) lost)) _ _ c.write_lines.result c.write_lines.ensures

@@ -21,3 +21,11 @@ loop-place-preserved c =
 
 pub returns : goal.returns
 returns c = told_all c.args.n c.args.entries.now c.loop-place.place c.loop-place-test.false c.loop-place.invariant.good
+
+pub returns-in-Some : goal.returns-in-Some
+returns-in-Some c =
+    let es = c.args.entries.now in
+    let p = c.loop-place.place in
+    let e = c.index-entries-place.result in
+    let here : slice_get es p ≡ Some e = slice_get_read es (length es) p e refl c.loop-place-test.true c.index-entries-place.is in
+    (c.loop-place.invariant.good, here, c.in-Some.ensures (take p es) c.loop-place.invariant.told)

@@ -1,11 +1,9 @@
-use Rattle.fbl_runs.proofs.Common.{ℕ, ◌≡◌, ◌<◌, HappenedBefore, length, take}
-use Rattle.fbl_runs.specs.Clocks.{HasSeen}
+use Rattle.fbl_runs.proofs.Common.{ℕ, ◌≡◌, ◌<◌, length, take}
 use Rattle.fbl_runs.specs.Lawful.{ObeysAt, records}
 use Rattle.fbl_runs.proofs.lawful.first_bad.Given as goal
 
 abbrev pub invariant-loop-place : goal.invariant-loop-place
 invariant-loop-place l = record {
-  seen : HasSeen HappenedBefore l.entries l.place l.clocks;
   good : (i : ℕ) → i < l.place → ObeysAt l.members l.entries i;
   count : l.count ≡ length (records (take l.place l.entries));
 }

@@ -1,8 +1,36 @@
-use Rattle.fbl_runs.proofs.Common.{sym}
-use Rattle.fbl_runs.proofs.RunLaws.{known_iff}
+use Rattle.fbl_runs.proofs.Common.{◌≡◌, ◌∙◌, List, Entry, Option, ℕ, Some, at, ap, refl, sym, subst, arith, entry_member, false≢true, length, slice_get, slice_get_read}
+use Rattle.fbl_runs.specs.Clocks.{seen}
+use Rattle.fbl_runs.specs.Indexes.{IsFirstReceipt}
+use Rattle.fbl_runs.proofs.IndexLaws.{position_at}
+use Rattle.fbl_runs.proofs.RunLaws.{is_known, known_first, known_none}
 use Rattle.fbl_runs.proofs.lawful.is_known.Goals as goal
+use Rattle.fbl_runs.proofs.lawful.is_known.Goals.{After-recorded}
 
-pub returns-in-Some : goal.returns-in-Some
-returns-in-Some c p is here =
-    let iff = known_iff c.args.index.now p c.args.entry.now c.in-Some.determinant c.args.advance.now is here (sym c.in-Some.ensures) in
-    (λ h. iff.0 (c.has_received.ensures.0 h), λ h. c.has_received.ensures.1 (iff.1 h))
+here : (c : After-recorded) → slice_get c.args.index.now c.args.place ≡ Some c.index-entries-place.result
+here c =
+    let es = c.entries.result.now in
+    let same_length = ap (λ (es : List Entry). length es) c.entries.ensures in
+    subst (λ (es : List Entry). slice_get es c.args.place ≡ Some c.index-entries-place.result) c.entries.ensures
+    (slice_get_read es (length es) c.args.place c.index-entries-place.result refl (let within = c.requires in omega (arith, within, same_length)) c.index-entries-place.is)
+
+pub returns-in-Some-receipt_place : goal.returns-in-Some-receipt_place
+returns-in-Some-receipt_place c clocks =
+    let at_place = here (goal.at.returns-in-Some-receipt_place c).After-recorded in
+    let es = c.args.index.now in
+    let e = c.index-entries-place.result in
+    let d = c.in-Some.determinant in
+    let j = at (entry_member e) (seen es c.args.place (entry_member e)) in
+    let stands = position_at es c.args.place e at_place in
+    let first = subst (λ (o : Option ℕ). IsFirstReceipt es d o) c.in-Some-receipt_place.is c.receipt_place.ensures in
+    is_known es c.args.place e d (c.precedes.result ≡ _) at_place (sym c.recorded.ensures ∙ c.in-Some.is) (known_first es c.args.place c.in-Some-receipt_place.first d j stands first c.precedes.result (λ i stands_i. c.precedes.ensures _ i j clocks stands_i stands))
+
+pub returns-in-None : goal.returns-in-None
+returns-in-None c clocks =
+    let at_place = here (goal.at.returns-in-None c).After-recorded in
+    let es = c.args.index.now in
+    let e = c.index-entries-place.result in
+    let d = c.in-Some.determinant in
+    let first = subst (λ (o : Option ℕ). IsFirstReceipt es d o) c.in-None.is c.receipt_place.ensures in (
+      λ no'. absurd (false≢true no'),
+      λ known. absurd (known_none es d (at (entry_member e) (seen es c.args.place (entry_member e))) first (known e d at_place (sym c.recorded.ensures ∙ c.in-Some.is))),
+    )

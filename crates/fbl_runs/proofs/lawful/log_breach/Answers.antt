@@ -1,4 +1,4 @@
-use Rattle.fbl_runs.proofs.Common.{ℕ, ◌≡◌, ◌≤◌, Option, Some, None, arith, inl, length, refl, marks, slice_get_within}
+use Rattle.fbl_runs.proofs.Common.{ℕ, false, ◌≡◌, ◌≤◌, Option, Some, None, arith, inl, length, refl, marks, slice_get_within}
 use Rattle.std.proofs.Common.{MatchOption}
 use Rattle.std.specs.Option.{unwrap_or}
 use Rattle.fbl_dumps.specs.Dumps.{RefusesDump, IsDumpBreach}
@@ -8,13 +8,13 @@ use Rattle.fbl_trace.specs.declared.fault.EventFault.{EventFault}
 use Rattle.fbl_dumps.specs.declared.refusal.DumpRefusal.{DumpRefusal}
 use Rattle.fbl_dumps.specs.declared.refusal.DumpRefusal.TheVariants.{BadEvent, BadHeld}
 use Rattle.fbl_runs.specs.Lawful.{IsEventPlace}
-use Rattle.fbl_runs.specs.Logs.{IsLogBreach, RunParts, RefusesLog, parts_of_log, trace_of}
+use Rattle.fbl_runs.specs.Logs.{IsBreachBy, RunParts, RefusesPlain, parts_of_log, trace_of}
 use Rattle.fbl_runs.specs.declared.fault.LogBreach.TheVariants.{Trace}
 use Rattle.fbl_runs.proofs.lawful.log_breach.Goals as goal
 
 -- what is refused for another thing than an event
 other : (log : RunParts) (r : DumpRefusal) (b : Breach) → RefusesDump (trace_of log) r → IsDumpBreach (trace_of log) r b → ((f : EventFault) → ¬ (b ≡ breach.Event f))
-    → RefusesLog log r × IsLogBreach log r (Trace b)
+    → RefusesPlain log r × IsBreachBy false log r (Trace b)
 other log (BadHeld place) b refuses breaks no_event = absurd (refuses.3.1 (λ h at. cc))
 other log (BadEvent place) (breach.Event fault) refuses breaks no_event = absurd (no_event fault refl)
 other log (BadEvent place) _ refuses breaks no_event = absurd breaks
@@ -24,7 +24,7 @@ other log _ b refuses breaks no_event = (refuses, breaks)
 event : (log : RunParts) (r : DumpRefusal) (fault : EventFault) → RefusesDump (trace_of log) r → IsDumpBreach (trace_of log) r (breach.Event fault)
     → (found : Option ℕ) → MatchOption found (length (marks log.entries) ≤ fault.place) (IsEventPlace log.entries fault.place)
     → (place : ℕ) → place ≡ unwrap_or found fault.place
-    → RefusesLog log (BadEvent place) × IsLogBreach log (BadEvent place) (Trace (breach.Event (record fault { place = place })))
+    → RefusesPlain log (BadEvent place) × IsBreachBy false log (BadEvent place) (Trace (breach.Event (record fault { place = place })))
 event log (BadEvent p) fault refuses breaks (Some q) found place is = rw is (
   inl (fault.place, found, (rw breaks.0 refuses)),
   (refl, (fault.place, found, breaks.1)),

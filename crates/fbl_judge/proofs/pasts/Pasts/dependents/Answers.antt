@@ -1,30 +1,37 @@
-use Rattle.fbl_judge.proofs.Common.{◌≡◌, ◌∙◌, ap, sym, subst, ℕ, List, Entry, Event, Some, log_of, at, IsAt, IsReceiptAt, slice_get, receipt_of, false≢true}
-use Rattle.std.proofs.Common.{nat_cmp}
-use Rattle.std.specs.FinSet as set
+use Rattle.fbl_judge.proofs.Common.{DependsAt, Position, arith, cases_lt, false, inl, inr, length, log_of, refl, sym, true, ℕ, ◌<◌, ◌≡◌, ◌∙◌}
 use Rattle.fbl_runs.specs.Clocks.{cut_of}
-use Rattle.fbl_runs.specs.Logs.{IsRun, RunParts}
-use Rattle.fbl_runs.proofs.TableLaws.{received_own}
-use Rattle.fbl_judge.proofs.UnsafeLaws.{dependents_at}
+use Rattle.fbl_judge.proofs.MemberLaws.{found_more, found_none}
+use Rattle.fbl_judge.proofs.ViewLaws.{nobody_beyond}
 use Rattle.fbl_judge.proofs.pasts.Pasts.dependents.Goals as goal
+use Rattle.fbl_judge.proofs.pasts.Pasts.dependents.Goals.{then-depends_at, else-depends_at}
 
-pub returns-in-Some : goal.returns-in-Some
-returns-in-Some c =
-    let d = c.args.determinant.now in
-    let run = c.args.self.now in
-    let indexed : c.self.inside.index ≡ run.entries = c.self.invariant.index ∙ ap (λ (run : RunParts). run.entries) c.self.view_is in
-    let rules = subst IsRun c.self.view_is c.self.invariant.rules in
-    let receipt = subst (λ (es : List Entry). IsReceiptAt (log_of es) d (at d.to c.in-Some.number)) indexed c.in-Some.ensures.0 in
-    dependents_at run rules.lawful rules.strike d (at d.to c.in-Some.number) receipt (cut_of c.args.moment.now) c.reached.result c.reached.ensures
+pub loop-number-init : goal.loop-number-init
+loop-number-init c i stands = found_none (λ q. DependsAt (log_of c.args.self.now.entries) (cut_of c.args.moment.now) i q) c.empty-dependents.result c.empty-dependents.ensures
 
-pub returns-in-None : goal.returns-in-None
-returns-in-None c q =
-    let d = c.args.determinant.now in
-    let es = c.args.self.now.entries in
-    let indexed : c.self.inside.index ≡ es = c.self.invariant.index ∙ ap (λ (run : RunParts). run.entries) c.self.view_is in
-    let none = subst (λ (es : List Entry). (k : ℕ) → ¬ (slice_get (log_of es d.to) k ≡ Some (Event (receipt_of d)))) indexed c.in-None.ensures in (
-      λ h. absurd (false≢true (sym (ap (λ s. set.contains s q) c.empty.ensures ∙ set.contains-empty nat_cmp q) ∙ h)),
-      λ depends. absurd (
-          let i = depends.1.0 in
-          let here = depends.1.1 in
-          none i.number (subst (λ (m : ℕ). IsAt (log_of es) (at m i.number) (Event (receipt_of d))) (received_own es d i here) here)),
-    )
+pub loop-number-preserved : goal.loop-number-preserved
+loop-number-preserved c i stands =
+    let P : ℕ → Type 0 = λ q. DependsAt (log_of c.args.self.now.entries) (cut_of c.args.moment.now) i q in
+    let test = c.depends_at.ensures i stands in
+    elim c.if-depends_at.branch [
+      | then-depends_at w ↦ found_more P c.loop-number.dependents c.if-depends_at.dependents c.loop-number.number c.at-member.result true
+          c.at-member.ensures (λ _. test.0 w.if-depends_at.true, λ _. refl) (w.dependents-is ∙ w.with-dependents.ensures) (c.loop-number.invariant i stands)
+      | else-depends_at w ↦ found_more P c.loop-number.dependents c.if-depends_at.dependents c.loop-number.number c.at-member.result false
+          c.at-member.ensures (λ h. cc, λ h. sym w.if-depends_at.false ∙ test.1 h) w.dependents-is (c.loop-number.invariant i stands)
+    ]
+
+pub returns : goal.returns
+returns c i stands q = (
+  λ h. ((c.loop-number.invariant i stands q).0 h).1,
+  λ h. (c.loop-number.invariant i stands q).1 (
+    elim (cases_lt q 16) [
+      | inl below ↦ (let t = c.loop-number-test.false in omega (arith, below, t))
+      | inr past ↦ absurd (
+          let run = c.args.self.now in
+          let none = nobody_beyond run.members run.entries c.run-run.ensures.rules.lawful q past in
+          let within = c.requires.within q in
+          let less = h.2.0 in
+          omega (arith, none, within, less))
+    ],
+    h,
+  ),
+)

@@ -1,26 +1,29 @@
-use Rattle.fbl_judge.proofs.Common.{Dependence, arith, ℕ, ◌≡◌, ◌+◌, ◌-◌, ◌∙◌, ap, at, length, List, Entry, log_of, nat_tests, slice_get_within, subst}
-use Rattle.fbl_runs.specs.Clocks.{IsClock, StandsAt}
+use Rattle.fbl_judge.proofs.Common.{Causality, Dependence, HappenedBefore, Entry, List, Option, ap, false, list_any, log_of, subst, sym, true, Precedes, ◌≡◌, ◌∙◌, ◌↔◌}
+use Rattle.fbl_runs.specs.declared.clocks.Clocks.{Clocks}
+use Rattle.fbl_runs.specs.Clocks.{StandsAt}
 use Rattle.fbl_runs.specs.Logs.{RunParts}
-use Rattle.fbl_judge.proofs.PastLaws.{precedes_iff}
+use Rattle.fbl_runs.specs.Precedence.{AreClocks}
+use Rattle.fbl_judge.specs.Pasts.{AreDependences, is_told_or_back}
+use Rattle.fbl_judge.proofs.Untold.{same_paths}
 use Rattle.fbl_judge.proofs.pasts.Pasts.precedes.Goals as goal
-use Rattle.fbl_judge.proofs.pasts.Pasts.precedes.Goals.{After-place-place}
 
-stands : (c : After-place-place) → StandsAt c.args.self.now.entries c.place-place.result (at c.args.member (c.args.count - 1))
-stands c =
-    let indexed : c.self.inside.index ≡ c.args.self.now.entries = c.self.invariant.index ∙ ap (λ (log : RunParts). log.entries) c.self.view_is in
-    subst (λ (es : List Entry). StandsAt es c.place-place.result (at c.args.member (c.args.count - 1))) indexed c.place-place.ensures
+pub returns-in-Some : goal.returns-in-Some
+returns-in-Some c i j at_i at_j =
+    let same : c.self.inside.index ≡ c.args.self.now.entries = c.self.invariant.index ∙ ap (λ (run : RunParts). run.entries) c.self.view_is in
+    let kept = subst (λ (o : Option Clocks). AreDependences c.self.inside.run.now.entries o) c.in-Some.is c.self.invariant.depends in
+    let clocks = subst (λ (es : List Entry). AreClocks Dependence es c.in-Some.depends) (sym c.self.invariant.index) kept in
+    let iff = c.precedes-in-Some.ensures Dependence i j clocks (subst (λ (es : List Entry). StandsAt es c.args.first i) (sym same) at_i) (subst (λ (es : List Entry). StandsAt es c.args.second j) (sym same) at_j) in
+    subst (λ (k : Causality). (c.precedes-in-Some.result ≡ true) ↔ Precedes k (log_of c.args.self.now.entries) i j) (sym c.in-Dependence.is)
+    (subst (λ (es : List Entry). (c.precedes-in-Some.result ≡ true) ↔ Precedes Dependence (log_of es) i j) same iff)
 
-pub count_at-requires : goal.count_at-requires
-count_at-requires c =
-    let is = stands (goal.at.count_at-requires c).After-place-place in
-    let within = slice_get_within c.args.self.now.entries c.place-place.result is.0 is.1 in
-    let count = c.clocks-depends.ensures.count in
-    omega (arith, within, count)
-
-pub returns : goal.returns
-returns c =
-    let es = c.args.self.now.entries in
-    let w = c.count_at.ensures Dependence es (length es) (c.args.count - 1) c.clocks-depends.ensures (stands (goal.at.returns c).After-place-place) in
-    let count : c.args.count - 1 + 1 ≡ c.args.count = grind (arith, nat_tests, c.if-count-eq0.false) in
-    precedes_iff (log_of es) c.args.source c.args.number c.args.member c.args.count c.count_at.result w.0
-    (subst (λ (k : ℕ). IsClock Dependence (log_of es) c.args.member k w.0) count w.1) w.2
+pub returns-in-None : goal.returns-in-None
+returns-in-None c i j at_i at_j =
+    let same : c.self.inside.index ≡ c.args.self.now.entries = c.self.invariant.index ∙ ap (λ (run : RunParts). run.entries) c.self.view_is in
+    let kept = subst (λ (o : Option Clocks). AreDependences c.self.inside.run.now.entries o) c.in-None.is c.self.invariant.depends in
+    let none = subst (λ (run : RunParts). list_any is_told_or_back run.entries ≡ false) c.self.view_is kept in
+    let clocks = subst (λ (es : List Entry). AreClocks HappenedBefore es c.self.inside.before) (sym c.self.invariant.index) c.self.invariant.before in
+    let iff = c.precedes-in-None.ensures HappenedBefore i j clocks (subst (λ (es : List Entry). StandsAt es c.args.first i) (sym same) at_i) (subst (λ (es : List Entry). StandsAt es c.args.second j) (sym same) at_j) in
+    let iff' = subst (λ (es : List Entry). (c.precedes-in-None.result ≡ true) ↔ Precedes HappenedBefore (log_of es) i j) same iff in
+    let paths = same_paths c.args.self.now.entries none i j in
+    subst (λ (k : Causality). (c.precedes-in-None.result ≡ true) ↔ Precedes k (log_of c.args.self.now.entries) i j) (sym c.in-Dependence.is)
+    (λ h. paths.0 (iff'.0 h), λ p. iff'.1 (paths.1 p))

@@ -1,6 +1,0 @@
-use Rattle.fbl_judge.proofs.Common.{ℕ, Option, ◌∙◌, subst, sym}
-use Rattle.fbl_judge.specs.Records.{IsNextRecord}
-use Rattle.fbl_judge.proofs.records.RecordPlaces.first.Goals as goal
-
-pub returns : goal.returns
-returns c entries are = subst (λ (o : Option ℕ). IsNextRecord entries c.args.determinant.now 0 o) (sym (c.copied.ensures ∙ c.get.ensures.value)) (are.first c.args.determinant.now)

@@ -1,0 +1,100 @@
+-- What keeps an entry from coming.
+use Rattle.fbl_order.proofs.Common.{ℕ, List, Mark, Send, Receipt, Determinant, Entry, Event, Hold, LaterReceipt, Restart, Store, Tell, Told, Some, ◌≡◌, ◌≤◌, ◌∙◌, inl, inr, refl, sym, ap, entry_member, mark_in, marks, send_of, receipt_of}
+use Rattle.fbl_order.proofs.Common.{Bool, true, false, BreaksControl, BreaksEvent, Breaks, LacksInLife, Merge, Merges, Passes, cursor_of, placed_of, own, length, take_all}
+use Rattle.fbl_trace.specs.declared.fault.EventRule.{EventRule}
+use Rattle.fbl_trace.specs.declared.fault.EventRule.TheVariants.{NothingInFlight}
+use Rattle.fbl_runs.specs.Entries.{receipt_in}
+use Rattle.fbl_runs.specs.declared.control.ControlMessage.{ControlMessage}
+use Rattle.fbl_runs.specs.declared.fault.ControlRule.{ControlRule}
+use Rattle.fbl_runs.specs.declared.fault.ControlRule.TheVariants.{NotTold}
+use Rattle.fbl_runs.specs.declared.fault.LifeRule.{LifeRule}
+use Rattle.fbl_order.specs.Faults.{HasAllOf, LacksInTrace}
+use Rattle.fbl_order.specs.declared.known.BrokenRule.{BrokenRule}
+use Rattle.fbl_order.specs.declared.known.BrokenRule.TheVariants as broken
+use Rattle.fbl_order.proofs.Common.{MatchOption, MayCome, None, Option, is_some, subst}
+
+-- ---- where no member restarts
+
+-- only a receipt finds no message in flight
+pub lacks_in_trace : (n : ℕ) (before : List Entry) (e : Entry) (m : Mark) (from to : ℕ) → mark_in e ≡ Some m → BreaksEvent n (marks before) m (NothingInFlight from to)
+    → LacksInTrace n before e
+lacks_in_trace n before (Event x) m from to is broken = (m, is, (broken.0, (broken.1.0, broken.1.1, refl, refl, broken.1.4, broken.1.5)))
+lacks_in_trace n before (LaterReceipt d life) m from to is broken = (m, is, (broken.0, (broken.1.0, broken.1.1, refl, refl, broken.1.4, broken.1.5)))
+lacks_in_trace n before (Hold q d) m from to is broken = cc
+lacks_in_trace n before (Store q d) m from to is broken = cc
+lacks_in_trace n before (Tell t) m from to is broken = cc
+lacks_in_trace n before (Told t) m from to is broken = cc
+lacks_in_trace n before (Restart r) m from to is broken = cc
+
+pub receipt_passes : (n : ℕ) (run : List Mark) (e : Entry) (m : Mark) (from to : ℕ) → mark_in e ≡ Some m → BreaksEvent n run m (NothingInFlight from to)
+    → (sent : Entry) × Passes sent e
+receipt_passes n run e (Send from ssn to) _ _ is broken = absurd (broken.1.5 tt)
+receipt_passes n run e (Receipt to rsn from ssn) _ _ is broken = (Event (Send from ssn to), inl (Send from ssn to, Receipt to rsn from ssn, refl, is, refl))
+
+-- only a told can miss its tell
+pub told_passes : (n : ℕ) (before : List Entry) (e : Entry) → BreaksControl n before e NotTold → LacksInTrace n before e × ((sent : Entry) × Passes sent e)
+told_passes n before (Told m) broken = (broken, (Tell m, inr (m, refl, refl)))
+told_passes n before (Tell m) broken = absurd broken
+told_passes n before (Event m) broken = absurd broken
+told_passes n before (LaterReceipt d life) broken = absurd broken
+told_passes n before (Restart r) broken = absurd broken
+told_passes n before (Hold q d) broken = absurd broken
+told_passes n before (Store q d) broken = absurd broken
+
+-- ---- where members restart
+
+received : (e : Entry) (d : Determinant) → receipt_in e ≡ Some d → (sent : Entry) × Passes sent e
+received (Event (Receipt to rsn from ssn)) d is = (Event (Send from ssn to), inl (Send from ssn to, Receipt to rsn from ssn, refl, refl, refl))
+received (Event (Send from ssn to)) d is = cc
+received (LaterReceipt r life) d is = (Event (Send r.from r.ssn r.to), inl (Send r.from r.ssn r.to, receipt_of r, refl, refl, refl))
+received (Hold q r) d is = cc
+received (Store q r) d is = cc
+received (Tell m) d is = cc
+received (Told m) d is = cc
+received (Restart r) d is = cc
+
+-- what lacks its message takes one
+pub lacking_passes : (n : ℕ) (before : List Entry) (e : Entry) → LacksInLife n before e → (sent : Entry) × Passes sent e
+lacking_passes n before e (inl lacks) = received e lacks.1.0 lacks.1.1
+lacking_passes n before e (inr broken) = (told_passes n before e broken).1
+
+-- and that alone
+pub passes_one : (a b e : Entry) → Passes a e → Passes b e → a ≡ b
+passes_one a b e (inl x) (inl y) =
+    let r : x.1 ≡ y.1 = (let some : Some x.1 ≡ Some y.1 = sym x.3 ∙ y.3 in cc) in
+    let s : x.0 ≡ y.0 = (let some : Some x.0 ≡ Some y.0 = sym x.4 ∙ ap send_of r ∙ y.4 in cc) in
+    x.2 ∙ ap Event s ∙ sym y.2
+passes_one a b e (inl x) (inr y) = (let none : Some x.1 ≡ mark_in (Told y.0) = sym x.3 ∙ ap mark_in y.2 in absurd cc)
+passes_one a b e (inr x) (inl y) = (let none : Some y.1 ≡ mark_in (Told x.0) = sym y.3 ∙ ap mark_in x.2 in absurd cc)
+passes_one a b e (inr x) (inr y) = (let same : Told x.0 ≡ Told y.0 = sym x.2 ∙ y.2 in let one : x.0 ≡ y.0 = cc in x.1 ∙ ap Tell one ∙ sym y.1)
+
+-- a member whose cursor is past the last entry has all of its entries placed
+pub has_all : (n : ℕ) (entries : List Entry) (merge : Merge) → Merges n entries merge → (q : ℕ) → length entries ≤ cursor_of entries merge q
+    → HasAllOf entries (placed_of entries merge) q
+has_all n entries merge merges q past = merges.cursors.logs q ∙ ap (own entry_member q) (take_all (cursor_of entries merge q) entries past)
+
+-- ---- the case of a rule
+
+pub event_case : (lived : Bool) (n : ℕ) (before : List Entry) (e : Entry) (rule : EventRule) → Breaks lived n before e (broken.Event rule) → lived ≡ false
+event_case false n before e rule is = refl
+event_case true n before e rule is = absurd is
+
+pub control_case : (lived : Bool) (n : ℕ) (before : List Entry) (e : Entry) (rule : ControlRule) → Breaks lived n before e (broken.Control rule) → lived ≡ false
+control_case false n before e rule is = refl
+control_case true n before e rule is = absurd is
+
+pub life_case : (lived : Bool) (n : ℕ) (before : List Entry) (e : Entry) (rule : LifeRule) → Breaks lived n before e (broken.Life rule) → lived ≡ true
+life_case true n before e rule is = refl
+life_case false n before e rule is = absurd is
+
+-- what is found is a rule that is broken
+pub breaks_found : (lived : Bool) (n : ℕ) (before : List Entry) (e : Entry) (o : Option BrokenRule) (rule : BrokenRule) → o ≡ Some rule
+    → MatchOption o (MayCome lived n before e) (λ b. Breaks lived n before e b × ¬ (MayCome lived n before e)) → Breaks lived n before e rule
+breaks_found lived n before e None rule is found = cc
+breaks_found lived n before e (Some b) rule is found = (let same : b ≡ rule = cc in subst (λ (b : BrokenRule). Breaks lived n before e b) same found.0)
+
+-- so one is found where the entry may not come
+pub some_found : (lived : Bool) (n : ℕ) (before : List Entry) (e : Entry) (o : Option BrokenRule)
+    → MatchOption o (MayCome lived n before e) (λ b. Breaks lived n before e b × ¬ (MayCome lived n before e)) → ¬ (MayCome lived n before e) → is_some o ≡ true
+some_found lived n before e None found may = absurd (may found)
+some_found lived n before e (Some b) found may = refl

@@ -1,0 +1,164 @@
+"""Logs with restarts: what a check and an audit of each say, and of its members' files in any order, and for what a log that breaks a rule is
+refused, compared with all moments and all sets of members."""
+import json
+import random
+from math import prod
+from typing import NamedTuple
+
+from hostile_parts.crashed_runs import each_choice_of_holds, random_run, small_runs, some_records
+from hostile_parts.crashes import RECORDS, CrashJudge, fault_of, obeys
+from hostile_parts.logs import files_of, logs_of, note_each, texts_of
+from hostile_parts.moments import CutLog, Log
+from program import EXAMPLES, run
+
+RANDOM_LOGS = 2000
+# the most cuts of a log of which all are tried
+MOST_CUTS = 1000
+# of each kind of entry, the parts that are numbers
+NUMBERS = {"send": (1, 2, 3), "receipt": (1, 2, 3, 4, 5), "tell": (1, 2, 3), "told": (1, 2, 3), "restart": (1, 2, 3, 4), "hold": (1, 2, 3, 4, 5),
+           "store": (1, 2, 3, 4, 5)}
+
+
+class Case(NamedTuple):
+    """A log, and the order in which the files of its members are named."""
+    log: Log
+    order: list
+
+
+# ---- logs
+
+
+def has_restart(entries):
+    return any(entry[0] == "restart" for entry in entries)
+
+
+def small_logs():
+    """All small logs in which a member restarts."""
+    return [Log(2, 1, (), entries) for run in filter(has_restart, small_runs(2)) for entries in each_choice_of_holds(2, run)]
+
+
+def random_log(source):
+    members, entries = source.randint(2, 4), ()
+    while not has_restart(entries):
+        entries = random_run(source, members, source.randint(8, 26 - 3 * members), source.randint(1, 3))
+    strike = tuple(member for member in range(members) if source.random() < 0.05)
+    return Log(members, source.randint(1, members - 1), strike, some_records(source, members, entries))
+
+
+def spoiled(source, log):
+    """The log with one number changed, an entry left out or twice there, two entries exchanged, or somebody struck who is not there."""
+    entries, change = list(log.entries), source.random()
+    first, second = (source.randrange(len(entries)) for _ in range(2))
+    if change < 0.05:
+        return log._replace(strike=(*log.strike, log.members))
+    if change < 0.15:
+        del entries[first]
+    elif change < 0.25:
+        entries.insert(first, entries[second])
+    elif change < 0.35:
+        entries[first], entries[second] = entries[second], entries[first]
+    else:
+        entries[first] = renumbered(source, entries[first])
+    return log._replace(entries=tuple(entries))
+
+
+def renumbered(source, entry):
+    """The entry with one number that is one more, or one less."""
+    part = source.choice([part for part in NUMBERS[entry[0]] if part < len(entry)])
+    number = entry[part] + (1 if entry[part] == 0 else source.choice([1, -1]))
+    # a receipt of life 0 names none
+    return entry[:part] if entry[0] == "receipt" and (part, number) == (5, 0) else (*entry[:part], number, *entry[part + 1:])
+
+
+# ---- what is tried
+
+
+def status_of(text):
+    return 0 if text == "safe\n" else 1
+
+
+def judge_log(log):
+    """Whether the check of the log says what its moments say."""
+    text, wanted = log.text(), CrashJudge(log).text()
+    ran = run(["check"], text.encode())
+    yield ran == (status_of(wanted), wanted, ""), f"{text}: {ran}, and not {wanted}"
+
+
+def judge_case(case):
+    """Whether the check and the audit of the log are right, and the check of its members' files; or its fault, and that of the files."""
+    log, order = case
+    cut, fault = CutLog(log, list(range(log.members)), order), fault_of(log)
+    if fault:
+        ran = run(["check"], log.text().encode())
+        yield ran == (2, "", f"fault: {fault}\n"), f"{log.text()}: {ran}, and not {fault}"
+        if all(entry[1] < log.members for entry in log.entries):
+            yield from judge_wrong_files(cut)
+        return
+    yield from judge_log(log)
+    judge = CrashJudge(log)
+    if prod(count + 1 for count in judge.last) <= MOST_CUTS:
+        different = list(judge.differences())
+        yield not different, f"{log.text()}: {different}"
+    ran = run(["audit"], log.text().encode())
+    yield ran == (0, judge.audit(), ""), f"the audit of {log.text()}: {ran}, and not {judge.audit()}"
+    yield from judge_files(cut, judge.text())
+
+
+def ordered(log):
+    """The log with its entries in an order in which as many come as may."""
+    waiting, before, has_moved = logs_of(log.members, log.entries), [], True
+    while has_moved:
+        has_moved = False
+        for own in waiting:
+            while own and (own[0][0] in RECORDS or obeys(log.members, before, own[0])):
+                before.append(own.pop(0))
+                has_moved = True
+    return log._replace(entries=tuple(before))
+
+
+def judge_wrong_files(cut):
+    """Whether the files have the fault of their order, where they have one, or else that of the merged log, if it has one."""
+    merged = ordered(cut.log)
+    fault = "BadEvent" if len(merged.entries) < len(cut.log.entries) else fault_of(merged)
+    if not fault:
+        yield from judge_files(cut._replace(log=merged), CrashJudge(merged).text())
+        return
+    with files_of(texts_of(cut.parts())) as paths:
+        ran = run(["check", *(paths[file] for file in cut.order)])
+    is_well = ran[:2] == (2, "") and ran.fault.startswith(f"fault: {fault.split()[0]} ") and ran.fault.count("\n") == 1
+    yield is_well, f"{cut} in files: {ran}, and not {fault}"
+
+
+def judge_files(cut, text):
+    """Whether the files have the lines of the check of the whole, but for places, and in the order of the receipts in the files."""
+    with files_of(texts_of(cut.parts())) as paths:
+        ran = run(["check", *(paths[file] for file in cut.order)])
+        lines = cut.lines_in(text, cut.log.entries, paths)
+    same = (ran.status, sorted(ran.text.splitlines(True)), ran.fault) == (status_of(text), sorted(lines), "")
+    yield same, f"{cut} in files: {ran}, and not {lines}"
+
+
+def example(path):
+    """The log of an example."""
+    given = json.loads(path.read_text())
+    return Log(given["members"], given["f"], tuple(given["strike"]), tuple(map(tuple, given["events"])))
+
+
+def try_small_restarts(tally):
+    """All small logs, and the examples, whose texts stand beside them."""
+    note_each(tally, judge_log, small_logs())
+    for path in sorted((EXAMPLES / "restarts").glob("*.json")):
+        said = CrashJudge(example(path)).text()
+        tally.note(said == path.with_suffix(".txt").read_text(), f"{path.name}: {said}")
+
+
+def try_random_restarts(tally):
+    """Logs at random, each as it is and with something wrong."""
+    source, cases = random.Random(13), []
+    for _ in range(RANDOM_LOGS):
+        log = random_log(source)
+        cases += [Case(one, source.sample(range(log.members), log.members)) for one in (log, spoiled(source, log))]
+    cases += [Case(log, source.sample(range(log.members), log.members)) for log in map(example, sorted((EXAMPLES / "restarts").glob("*.json")))]
+    note_each(tally, judge_case, cases)
+    refused = sum(fault_of(log) is not None for log, _ in cases)
+    tally.note(refused > RANDOM_LOGS // 2, f"of the logs with something wrong {refused} alone are refused")
