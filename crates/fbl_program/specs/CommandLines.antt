@@ -13,7 +13,7 @@ use Rattle.fbl_program.specs.declared.command_line.Misuse.TheVariants.{Words, No
 use Rattle.fbl_program.specs.declared.job.Job.{Job}
 use Rattle.fbl_program.specs.declared.job.Question.TheVariants.{Audit, Check, Draw}
 use Rattle.fbl_program.specs.declared.job.RunTask.TheVariants.{Judge, Merge}
-use Rattle.fbl_program.specs.declared.job.ScriptTask.TheVariants.{Play, Show}
+use Rattle.fbl_program.specs.declared.job.ScriptTask.TheVariants.{Play, Record, Show}
 use Rattle.fbl_program.specs.declared.job.Task.{Task}
 use Rattle.fbl_program.specs.declared.job.Task.TheVariants.{Script, Run}
 
@@ -57,6 +57,9 @@ play_app = with_shared input_rule (with_rule (with_rule (new_app (codes "play"))
 abbrev pub show_app : App
 show_app = with_shared input_rule (with_rule (new_app (codes "show")) workers_rule)
 
+abbrev pub record_app : App
+record_app = with_shared input_rule (with_rule (new_app (codes "record")) workers_rule)
+
 abbrev pub draw_app : App
 draw_app = with_shared inputs_rule (with_rule (new_app (codes "draw")) around_rule)
 
@@ -72,11 +75,11 @@ top_app = on_top (λ s. record s { subcommand_required = true; has_version = tru
 abbrev pub with_reader : Text → App → App
 with_reader name app = with_subcommand app (shared_app name).top
 
--- the program with the subcommands `play` and `show`
+-- the program with the subcommands `play`, `show` and `record`
 abbrev pub with_players : App
-with_players = with_subcommand (with_subcommand top_app play_app.top) show_app.top
+with_players = with_subcommand (with_subcommand (with_subcommand top_app play_app.top) show_app.top) record_app.top
 
--- the program with the subcommands `play`, `show`, `merge`, `audit`, `check` and `draw`
+-- the program with the subcommands `play`, `show`, `record`, `merge`, `audit`, `check` and `draw`
 abbrev pub program : App
 program = with_subcommand (with_reader (codes "check") (with_reader (codes "audit") (with_reader (codes "merge") with_players))) draw_app.top
 
@@ -100,8 +103,8 @@ with_explain false line = line
 abbrev pub IsLine : List Text → List Text → Type 0
 IsLine words line = (explain : Bool) × (drop 1 words ≡ with_explain explain line)
 
--- the words, behind the program's name, are `merge`, `audit`, `check`, `draw`, or `play` or `show`, with `--workers N` behind them or not, N
--- from 1 to 8; `--strict` may stand behind those of a play, and `--explain` behind all
+-- the words, behind the program's name, are `merge`, `audit`, `check`, `draw`, or `play`, `show` or `record`, with `--workers N` behind them
+-- or not, N from 1 to 8; `--strict` may stand behind those of a play, and `--explain` behind all
 pub data IsCommandLine (words : List Text) : Type 0 where
   is_merge : IsLine words (codes "merge" ∷ []) → IsCommandLine words
   is_audit : IsLine words (codes "audit" ∷ []) → IsCommandLine words
@@ -111,6 +114,8 @@ pub data IsCommandLine (words : List Text) : Type 0 where
   is_workers : (strict : Bool) (n : ℕ) → WorkersAllowed n → IsLine words (with_strict strict (with_workers n (codes "play" ∷ []))) → IsCommandLine words
   is_show : IsLine words (codes "show" ∷ []) → IsCommandLine words
   is_show_workers : (n : ℕ) → WorkersAllowed n → IsLine words (with_workers n (codes "show" ∷ [])) → IsCommandLine words
+  is_record : IsLine words (codes "record" ∷ []) → IsCommandLine words
+  is_record_workers : (n : ℕ) → WorkersAllowed n → IsLine words (with_workers n (codes "record" ∷ [])) → IsCommandLine words
 
 -- what they ask for: where no number of workers is said there are 2
 abbrev pub task_for : {words : List Text} → IsCommandLine words → Task
@@ -122,6 +127,8 @@ task_for (is_play strict line) = Script (Play 2 strict)
 task_for (is_workers strict n allowed line) = Script (Play n strict)
 task_for (is_show line) = Script (Show 2)
 task_for (is_show_workers n allowed line) = Script (Show n)
+task_for (is_record line) = Script (Record 2)
+task_for (is_record_workers n allowed line) = Script (Record n)
 
 -- whether they ask for explanations
 abbrev pub explain_for : {words : List Text} → IsCommandLine words → Bool
@@ -133,6 +140,8 @@ explain_for (is_play strict line) = line.0
 explain_for (is_workers strict n allowed line) = line.0
 explain_for (is_show line) = line.0
 explain_for (is_show_workers n allowed line) = line.0
+explain_for (is_record line) = line.0
+explain_for (is_record_workers n allowed line) = line.0
 
 -- the job is what the line asks for, and names no file
 pub record IsJobFor {words : List Text} (line : IsCommandLine words) (job : Job) : Type 0 where
@@ -168,6 +177,7 @@ Names name text = option_map (λ s. s.now) name ≡ text
 pub record IsTaskAt (name : Text) (rows : List Row) (task : Option Task) : Type 0 where
   pub play : name ≡ codes "play" → (workers : ℕ) × AreWorkers rows workers × (strict : Bool) × IsFlag (codes "strict") rows strict × (task ≡ Some (Script (Play workers strict)))
   pub show : name ≡ codes "show" → (workers : ℕ) × AreWorkers rows workers × (task ≡ Some (Script (Show workers)))
+  pub recorded : name ≡ codes "record" → (workers : ℕ) × AreWorkers rows workers × (task ≡ Some (Script (Record workers)))
   pub merge : name ≡ codes "merge" → task ≡ Some (Run Merge)
   pub audit : name ≡ codes "audit" → task ≡ Some (Run (Judge Audit))
   pub check : name ≡ codes "check" → task ≡ Some (Run (Judge Check))

@@ -3,7 +3,7 @@
 ghost use Rattle.std.specs.Prelude.{◌≡◌, map, false, IfOk, IfErr, option_map, string_bytes};
 ghost use Rattle.clap.specs.Words.{app_of, first_of, found_of, new_app, rows_of, rule_of, with_rule};
 ghost use Rattle.clap.specs.declared.builder.command.Command.TheViews.{out-Command as fields_of};
-ghost use Rattle.fbl_program.specs.CommandLines.{AreNames, AreWorkers, IsCommandLine, IsFlag, IsJobAt, IsJobOf, IsMisuseOf, IsRefusedFor, IsTaskAt, around_rule, draw_app, explain_rule, input_rule, inputs_rule, output_rule, play_app, program, show_app, strict_rule, texts_in, top_app, with_players, with_reader, with_shared, workers_rule};
+ghost use Rattle.fbl_program.specs.CommandLines.{AreNames, AreWorkers, IsCommandLine, IsFlag, IsJobAt, IsJobOf, IsMisuseOf, IsRefusedFor, IsTaskAt, around_rule, draw_app, explain_rule, input_rule, inputs_rule, output_rule, play_app, program, record_app, show_app, strict_rule, texts_in, top_app, with_players, with_reader, with_shared, workers_rule};
 
 use crate::job::{Job, Question, RunTask, ScriptTask, Task};
 use clap::{Arg, ArgAction, ArgMatches, Command};
@@ -11,7 +11,7 @@ use std::alloc::{AllocError, Global};
 
 /// What the program is for.
 const PROGRAM: &str =
-    "Causal message logging with proved recovery: plays and shows scripts of a group, and merges, audits, checks and draws recorded traces.";
+    "Causal message logging with proved recovery: plays, shows and records scripts of a group, and merges, audits, checks and draws recorded traces.";
 
 /// The exit statuses, and where a fault is told.
 const STATUSES: &str = "\
@@ -39,6 +39,18 @@ A first one: member 1 gets a message, is struck and recovers.
 
   echo '{"version":2,"members":3,"f":1,"behaviour":"relay","start":[[0,1,5,1]],
    "commands":[["deliver",1,0],["deliver",2,1],["strike",[1]],["recover"]]}' | fblrun show -o run.svg"#;
+
+/// What `record` does.
+const RECORD: &str =
+    "Plays a script, which is JSON, and writes its run as a log, a dump of version 2, as its members would have written it";
+
+/// A first record.
+const RECORD_EXAMPLE: &str =
+    r#"The log says from when on who holds what, what checkpoints store, and whom recoveries brought back. A check of it says "safe".
+A first one: member 1 gets a message, is struck and recovers.
+
+  echo '{"version":2,"members":3,"f":1,"behaviour":"relay","start":[[0,1,5,1]],
+   "commands":[["deliver",1,0],["deliver",2,1],["strike",[1]],["recover"]]}' | fblrun record | fblrun check"#;
 
 /// What `merge` does.
 const MERGE: &str =
@@ -284,6 +296,15 @@ fn show<'a>(alloc: Global) -> Result<Command<'a>, AllocError>
     with_shared_args(alloc, show, input(alloc, SCRIPT), EXPLAIN_PLAY)
 }
 
+/// The subcommand `record`.
+fn record<'a>(alloc: Global) -> Result<Command<'a>, AllocError>
+    ensures app { IfOk result (λ c. app_of c ≡ record_app) }
+    ensures no_globals { IfOk result (λ c. (fields_of c).has_globals ≡ false) }
+{
+    let record = player(alloc, "record", RECORD, RECORD_EXAMPLE)?;
+    with_shared_args(alloc, record, input(alloc, SCRIPT), EXPLAIN_PLAY)
+}
+
 /// The program with a subcommand of this name that reads dumps.
 fn with_reader<'a>(
     alloc: Global,
@@ -329,11 +350,13 @@ fn with_players<'a>(alloc: Global) -> Result<Command<'a>, AllocError>
 {
     let (play, show) = (play(alloc)?, show(alloc)?);
     let command = top(alloc).subcommand(play)?;
-    command.subcommand(show)
+    let command = command.subcommand(show)?;
+    let record = record(alloc)?;
+    command.subcommand(record)
 }
 
-/// What the program takes: `play`, with a number of workers, strict or not, `show`, with a number of workers, both with or without
-/// a file to read, `merge`, `audit`, `check` or `draw`, with any number of them, the last one around an entry or not, each with or
+/// What the program takes: `play`, with a number of workers, strict or not, `show` and `record`, with a number of workers, each with or
+/// without a file to read, `merge`, `audit`, `check` or `draw`, with any number of them, the last one around an entry or not, each with or
 /// without a file to write and `--explain`.
 fn command_line<'a>(alloc: Global) -> Result<Command<'a>, AllocError>
     ensures { IfOk result (λ c. app_of c ≡ program) }
@@ -390,6 +413,9 @@ fn task_at<'a>(name: &str, found: &ArgMatches<'a>) -> Option<Task<'a>>
             strict: flag_in(found, "strict"),
         }),
         "show" => Task::Script(ScriptTask::Show {
+            workers: workers_in(found),
+        }),
+        "record" => Task::Script(ScriptTask::Record {
             workers: workers_in(found),
         }),
         "merge" => Task::Run(RunTask::Merge),

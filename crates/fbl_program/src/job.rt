@@ -15,6 +15,11 @@ pub(crate) enum ScriptTask {
         /// How many workers make a run.
         workers: u8,
     },
+    /// Write its record.
+    Record {
+        /// How many workers make a run.
+        workers: u8,
+    },
 }
 
 /// What is asked of a recorded run.

@@ -37,7 +37,11 @@ fn line_of(alloc: Global, found: &Recording) -> Result<String, AllocError>
 }
 
 /// Writes the line. One that is longer than an input may be is told of on standard error.
-fn write_line<T: Eprint, W: Write>(rt: &T, line: &str, writer: &mut W) -> Result<(), OutputFault>
+pub(crate) fn write_line<T: Eprint, W: Write>(
+    rt: &T,
+    line: &str,
+    writer: &mut W,
+) -> Result<(), OutputFault>
     ensures { PutsOut (λ _ told. told ≡ line.now) (W.contents writer.old) (W.contents writer.new) result }
 {
     let length = line.len();

@@ -1,4 +1,4 @@
-//! Scripts: each is played, or its history is drawn.
+//! Scripts: each is played, or its history is drawn, or its run is recorded.
 
 ghost use Rattle.std.specs.Prelude.{◌≤◌};
 ghost use Rattle.fbl_input.specs.Faults.{PutsOut};
@@ -6,15 +6,61 @@ ghost use Rattle.fbl_scripts.specs.Scripts.{outline};
 ghost use Rattle.fbl_program.specs.Outcomes.{DoesScript, IsShown};
 
 use crate::job::ScriptTask;
+use crate::runs::write_line;
 use crate::teller::Teller;
 use fbl_input::OutputFault;
 use fbl_pictures::write_history_picture;
-use fbl_play::{history_of_script, play_script};
+use fbl_play::{RecordFault, history_of_script, play_script, record_of_script};
+use fbl_records::log_text;
 use fbl_scripts::Script;
-use std::alloc::Global;
+use std::alloc::{AllocError, Global};
+use std::convert::From;
 use std::io::Write;
 use std::sync::Wait;
 use std::thread::Threads;
+
+/// Why a script has no whole answer.
+#[derive(Clone, Copy)]
+pub(crate) enum ScriptFault {
+    /// Memory ran out, or a write failed.
+    Output(OutputFault),
+    /// A record is asked for, and no log has the run.
+    NoLog,
+}
+
+impl From<OutputFault> for ScriptFault {
+    fn from(fault: OutputFault) -> ScriptFault {
+        ScriptFault::Output(fault)
+    }
+}
+
+impl From<AllocError> for ScriptFault {
+    fn from(_: AllocError) -> ScriptFault {
+        ScriptFault::Output(OutputFault::Memory)
+    }
+}
+
+/// Plays the script, and writes its record as a line. That there is none is told.
+fn record<T: Eprint + Threads + Wait + Sync, W: Write>(
+    rt: &T,
+    alloc: Global,
+    script: Script,
+    workers: u8,
+    teller: &mut Teller<'_, T>,
+    writer: &mut W,
+) -> Result<(), ScriptFault> {
+    match record_of_script(rt, alloc, script, workers, teller) {
+        Ok(run) => {
+            let line = log_text(alloc, &run)?;
+            Ok(write_line(rt, line.as_str(), writer)?)
+        }
+        Err(RecordFault::Memory) => Err(ScriptFault::Output(OutputFault::Memory)),
+        Err(fault) => {
+            let _ = eprintln!(rt; "fault: {fault}");
+            Err(ScriptFault::NoLog)
+        }
+    }
+}
 
 /// Plays the script, and writes the picture of its history.
 fn show<T: Eprint + Threads + Wait + Sync, W: Write>(
@@ -35,7 +81,7 @@ fn show<T: Eprint + Threads + Wait + Sync, W: Write>(
     write_history_picture(alloc, members, f, name, history.columns(), writer)
 }
 
-/// Plays the script, or draws its history once it was played, and answers whether all is well. Each command is told of where that
+/// Plays the script, or draws its history or writes its record once it was played, and answers whether all is well. Each command is told of where that
 /// is asked for.
 pub(crate) fn do_script<T: Eprint + Threads + Wait + Sync, W: Write>(
     rt: &T,
@@ -44,7 +90,7 @@ pub(crate) fn do_script<T: Eprint + Threads + Wait + Sync, W: Write>(
     explain: bool,
     script: Script,
     writer: &mut W,
-) -> Result<bool, OutputFault>
+) -> Result<bool, ScriptFault>
     requires { script.config.members ≤ 16 }
     ensures { DoesScript task (outline script) (W.contents writer.old) (W.contents writer.new) result }
 {
@@ -57,6 +103,10 @@ pub(crate) fn do_script<T: Eprint + Threads + Wait + Sync, W: Write>(
         }
         ScriptTask::Show { workers } => {
             show(rt, alloc, script, workers, &mut teller, writer)?;
+            Ok(true)
+        }
+        ScriptTask::Record { workers } => {
+            record(rt, alloc, script, workers, &mut teller, writer)?;
             Ok(true)
         }
     }
