@@ -3,3 +3,4 @@ pub mod Steps
 pub mod Texts
 pub mod Transcripts
 pub mod Plays
+pub mod Records
