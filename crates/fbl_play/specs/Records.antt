@@ -262,7 +262,7 @@ abbrev pub HasNoRecord : Next ℕ Note → Settings Note → List Column → Rec
 HasNoRecord next config columns (faults.Refused breach) =
     (raw : RawLog) × IsRecordOf next config columns raw × IsLogFault (parts_of_log raw) (faults.Refused breach)
 HasNoRecord next config columns faults.Uneven = IsOfAnother next config columns
-HasNoRecord next config columns faults.Memory = Unit {0}
+HasNoRecord next config columns faults.Memory = ⊥
 HasNoRecord next config columns fault = HasNoRoom columns fault
 
 -- ---- scripts

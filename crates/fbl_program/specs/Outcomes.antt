@@ -14,7 +14,9 @@ use Rattle.fbl_order.specs.declared.order.Ordered.{Ordered}
 use Rattle.fbl_pictures.specs.HistoryPictures.{IsHistoryPicture}
 use Rattle.fbl_pictures.specs.RunPictures.{IsRunPicture}
 use Rattle.fbl_pictures.specs.RunShapes.{shown_entries}
-use Rattle.fbl_play.specs.Plays.{PlaysUnobserved}
+use Rattle.fbl_play.specs.Plays.{PlaysUnobserved, next_of}
+use Rattle.fbl_play.specs.Records.{HasNoRecord, IsRecordOf}
+use Rattle.fbl_play.specs.declared.record.RecordFault.{RecordFault}
 use Rattle.fbl_play.specs.Steps.{is_refusal}
 use Rattle.fbl_play.specs.Transcripts.{history, text}
 use Rattle.fbl_records.specs.DumpLines.{dump_line}
@@ -26,7 +28,8 @@ use Rattle.fbl_records.specs.declared.check_text.Checked.{Checked}
 use Rattle.fbl_records.specs.declared.reader.Recording.{Recording}
 use Rattle.fbl_records.specs.declared.reader.Recording.TheVariants as checked
 use Rattle.fbl_records.specs.declared.reader.RawRecording.{RawRecording}
-use Rattle.fbl_runs.specs.Logs.{RunParts, run_of_dump}
+use Rattle.fbl_runs.specs.Logs.{IsLog, RunParts, parts_of_log, run_of_dump}
+use Rattle.fbl_runs.specs.declared.run.RawLog.{RawLog}
 use Rattle.fbl_scripts.specs.Scripts.{Outline, IsScriptFault, IsScriptOf, behaviour_word}
 use Rattle.fbl_program.specs.declared.around.AnswerFault.{AnswerFault}
 use Rattle.fbl_program.specs.declared.around.AnswerFault.TheVariants.{NoEntry, Output}
@@ -35,7 +38,9 @@ use Rattle.fbl_program.specs.declared.job.Question.TheVariants.{Audit, Check, Dr
 use Rattle.fbl_program.specs.declared.job.RunTask.{RunTask}
 use Rattle.fbl_program.specs.declared.job.RunTask.TheVariants.{Judge, Merge}
 use Rattle.fbl_program.specs.declared.job.ScriptTask.{ScriptTask}
-use Rattle.fbl_program.specs.declared.job.ScriptTask.TheVariants.{Play, Show}
+use Rattle.fbl_program.specs.declared.job.ScriptTask.TheVariants.{Play, Record, Show}
+use Rattle.fbl_program.specs.declared.scripts.ScriptFault.{ScriptFault}
+use Rattle.fbl_program.specs.declared.scripts.ScriptFault.TheVariants as scripts
 use Rattle.fbl_program.specs.declared.job.Task.{Task}
 use Rattle.fbl_program.specs.declared.job.Task.TheVariants.{Script, Run}
 use Rattle.fbl_program.specs.declared.merge.MergeFault.{MergeFault}
@@ -55,10 +60,34 @@ IsShown workers s shown =
     (columns : List Column) × PlaysUnobserved workers s (history None) (history (Some columns)) (Ok tt)
     × IsHistoryPicture s.config.members s.config.f (behaviour_word s.behaviour) columns shown
 
+-- the text is the record of a history of the script, as a line, where so many workers make its runs: it is a log
+abbrev pub IsRecorded : ℕ → Outline → List ℕ → Type 0
+IsRecorded workers s told =
+    (columns : List Column) × (raw : RawLog) × PlaysUnobserved workers s (history None) (history (Some columns)) (Ok tt)
+    × IsRecordOf (next_of s.behaviour) s.config columns raw × IsLog (parts_of_log raw) × (told ≡ log_line (parts_of_log raw))
+
+-- a history of the script has no record in a log
+abbrev pub HasNoLog : ℕ → Outline → Type 0
+HasNoLog workers s =
+    (columns : List Column) × (fault : RecordFault) × PlaysUnobserved workers s (history None) (history (Some columns)) (Ok tt)
+    × HasNoRecord (next_of s.behaviour) s.config columns fault
+
 -- what is done with the script, and whether all is well
 abbrev pub DoesScript : ScriptTask → Outline → Option (List ℕ) → Option (List ℕ) → Result Bool OutputFault → Type 0
 DoesScript (Play workers strict) s before after = PlaysWell workers strict s before after
 DoesScript (Show workers) s before after = PutsOut (λ is_well drawn. IsShown workers s drawn × (is_well ≡ true)) before after
+DoesScript (Record workers) s before after = PutsOut (λ is_well told. IsRecorded workers s told × (is_well ≡ true)) before after
+
+-- a record is asked for, and no log has it
+abbrev pub IsUnrecordable : ScriptTask → Outline → Type 0
+IsUnrecordable (Record workers) s = HasNoLog workers s
+IsUnrecordable task s = ⊥
+
+-- the same, or nothing is written, as no log has the record
+abbrev pub TriesScript : ScriptTask → Outline → Option (List ℕ) → Option (List ℕ) → Result Bool ScriptFault → Type 0
+TriesScript task s before after (Ok is_well) = DoesScript task s before after (Ok is_well)
+TriesScript task s before after (Err (scripts.Output fault)) = DoesScript task s before after (Err fault)
+TriesScript task s before after (Err scripts.NoLog) = IsUnrecordable task s × Keeps before after
 
 -- what is told of the run, whose entries stand in these files, and whether all is well
 abbrev pub IsAnswerTo : Question → RunParts → Sources → Bool → List ℕ → Type 0
@@ -139,7 +168,8 @@ IsToldOf fault before after status = Keeps before after × (status ≡ fault_sta
 -- events into an order
 abbrev pub EndsTask : Task → List ℕ → Option (List ℕ) → Option (List ℕ) → ℕ → Type 0
 EndsTask (Script task) input before after status =
-    (done : Result Bool RunFault) × OverInput (IsScriptOf input) (IsScriptFault input) (λ s. DoesScript task s before after) before after done × (status ≡ status_after done)
+    ((done : Result Bool RunFault) × OverInput (IsScriptOf input) (IsScriptFault input) (λ s. DoesScript task s before after) before after done × (status ≡ status_after done))
+    ⊎ ((s : Outline) × IsScriptOf input s × IsUnrecordable task s × Keeps before after × (status ≡ 2))
 EndsTask (Run (Judge question)) input before after status =
     ((found : Recording) × IsCheckedOf input found × EndsAlone (Judge question) found before after status)
     ⊎ ((fault : InputFault) × IsNotChecked input fault × IsToldOf fault before after status)

@@ -3,7 +3,8 @@
 ghost use Rattle.std.specs.Prelude.{◌≤◌};
 ghost use Rattle.fbl_input.specs.Faults.{PutsOut};
 ghost use Rattle.fbl_scripts.specs.Scripts.{outline};
-ghost use Rattle.fbl_program.specs.Outcomes.{DoesScript, IsShown};
+ghost use Rattle.fbl_program.specs.Outcomes.{IsShown, TriesScript};
+ghost use Rattle.fbl_program.specs.declared.job.ScriptTask.TheVariants.{Record};
 
 use crate::job::ScriptTask;
 use crate::runs::write_line;
@@ -29,12 +30,23 @@ pub(crate) enum ScriptFault {
 }
 
 impl From<OutputFault> for ScriptFault {
+    ghost use Rattle.std.specs.Prelude.{◌≡◌};
+    ghost use Rattle.fbl_program.specs.declared.scripts.ScriptFault.TheVariants.{Output};
+
+    ghost from_gives = { λ fault e. e ≡ Output fault };
+
     fn from(fault: OutputFault) -> ScriptFault {
         ScriptFault::Output(fault)
     }
 }
 
 impl From<AllocError> for ScriptFault {
+    ghost use Rattle.std.specs.Prelude.{◌≡◌};
+    ghost use Rattle.fbl_input.specs.declared.output.OutputFault.TheVariants.{Memory};
+    ghost use Rattle.fbl_program.specs.declared.scripts.ScriptFault.TheVariants.{Output};
+
+    ghost from_gives = { λ _ e. e ≡ Output Memory };
+
     fn from(_: AllocError) -> ScriptFault {
         ScriptFault::Output(OutputFault::Memory)
     }
@@ -48,11 +60,14 @@ fn record<T: Eprint + Threads + Wait + Sync, W: Write>(
     workers: u8,
     teller: &mut Teller<'_, T>,
     writer: &mut W,
-) -> Result<(), ScriptFault> {
+) -> Result<bool, ScriptFault>
+    ensures { TriesScript (Record workers) (outline script) (W.contents writer.old) (W.contents writer.new) result }
+{
     match record_of_script(rt, alloc, script, workers, teller) {
         Ok(run) => {
             let line = log_text(alloc, &run)?;
-            Ok(write_line(rt, line.as_str(), writer)?)
+            write_line(rt, line.as_str(), writer)?;
+            Ok(true)
         }
         Err(RecordFault::Memory) => Err(ScriptFault::Output(OutputFault::Memory)),
         Err(fault) => {
@@ -92,7 +107,7 @@ pub(crate) fn do_script<T: Eprint + Threads + Wait + Sync, W: Write>(
     writer: &mut W,
 ) -> Result<bool, ScriptFault>
     requires { script.config.members ≤ 16 }
-    ensures { DoesScript task (outline script) (W.contents writer.old) (W.contents writer.new) result }
+    ensures { TriesScript task (outline script) (W.contents writer.old) (W.contents writer.new) result }
 {
     let mut teller = Teller::new(rt, explain);
     match task {
@@ -106,8 +121,7 @@ pub(crate) fn do_script<T: Eprint + Threads + Wait + Sync, W: Write>(
             Ok(true)
         }
         ScriptTask::Record { workers } => {
-            record(rt, alloc, script, workers, &mut teller, writer)?;
-            Ok(true)
+            record(rt, alloc, script, workers, &mut teller, writer)
         }
     }
 }
