@@ -1,5 +1,5 @@
-"""Logs with restarts: what a check and an audit of each say, and of its members' files in any order, and for what a log that breaks a rule is
-refused, compared with all moments and all sets of members."""
+"""Logs with restarts: what a check and an audit of each say, what the picture of each shows, what a check says of its members' files in any
+order, and for what a log that breaks a rule is refused, compared with all moments and all sets of members."""
 import json
 import random
 from math import prod
@@ -9,6 +9,7 @@ from hostile_parts.crashed_runs import each_choice_of_holds, random_run, small_r
 from hostile_parts.crashes import RECORDS, CrashJudge, fault_of, obeys
 from hostile_parts.logs import files_of, logs_of, note_each, texts_of
 from hostile_parts.moments import CutLog, Log
+from hostile_parts.pictures import Picture
 from program import EXAMPLES, run
 
 RANDOM_LOGS = 2000
@@ -84,8 +85,24 @@ def judge_log(log):
     yield ran == (status_of(wanted), wanted, ""), f"{text}: {ran}, and not {wanted}"
 
 
+def judge_picture(log, judge):
+    """Whether the picture of the log says what the first line of the check says, or else what an audit finds, and has the orphans of that."""
+    line, audit = judge.text().splitlines()[0], judge.audit().splitlines()
+    if line == "safe":
+        line = f"struck {','.join(map(str, log.strike)) or 'none'} {audit[0]} {audit[-1]}"
+    for word in ("strike", "lost", "orphans"):
+        line = line.replace(f" {word} ", f", {word} ")
+    ran = run(["draw"], log.text().encode())
+    picture = Picture(ran.text)
+    labels = [text.firstChild.data.split() for text in picture.texts if text.firstChild.data.startswith("member ")]
+    orphans = ",".join(label[1] for label in labels if label[2:] == ["orphan"]) or "none"
+    well = (ran.status, ran.fault) == (0, "") and picture.heading.endswith(f" entries: {line}") and line.split()[-1] == orphans
+    yield well, f"the picture of {log.text()}: {ran}, and not {line}"
+
+
 def judge_case(case):
-    """Whether the check and the audit of the log are right, and the check of its members' files; or its fault, and that of the files."""
+    """Whether the check, the audit and the picture of the log are right, and the check of its members' files; or its fault, and that of the
+    files."""
     log, order = case
     cut, fault = CutLog(log, list(range(log.members)), order), fault_of(log)
     if fault:
@@ -101,6 +118,7 @@ def judge_case(case):
         yield not different, f"{log.text()}: {different}"
     ran = run(["audit"], log.text().encode())
     yield ran == (0, judge.audit(), ""), f"the audit of {log.text()}: {ran}, and not {judge.audit()}"
+    yield from judge_picture(log, judge)
     yield from judge_files(cut, judge.text())
 
 
