@@ -1,6 +1,6 @@
 -- The least moment with a view's restarts at which a member depends on a receipt.
-use Rattle.fbl_judge.proofs.Common.{ℕ, ◌≡◌, ◌<◌, ◌≤◌, ◌↔◌, inl, inr, List, max, Some, slice_get, length, refl, sym, ap, subst, ◌∙◌, arith, cases_lt, slice_get_within}
-use Rattle.fbl_judge.proofs.Common.{AreEntries, Determinant, Dependence, Entry, IsArrival, Logs, log_of, receipt_in, IsAt, Position, Precedes, at, Cut, DependsAt, HasCome, HasRestarted, IsLeastDependent, IsMoment, IsReceiptAt, SameRestarts, last_cut}
+use Rattle.fbl_judge.proofs.Common.{ℕ, ◌≡◌, ◌<◌, ◌≤◌, List, max, length, sym, subst, arith, slice_get_within}
+use Rattle.fbl_judge.proofs.Common.{AreEntries, Determinant, Dependence, Entry, IsArrival, Logs, log_of, IsAt, Position, Precedes, at, Cut, DependsAt, IsLeastDependent, IsReceiptAt, SameRestarts, last_cut}
 use Rattle.std.proofs.Common.{min, slice_index}
 use Rattle.fbl_runs.specs.Clocks.{StandsAt, cut_of}
 use Rattle.fbl_runs.proofs.Listing.{stands_at}
@@ -9,7 +9,7 @@ use Rattle.fbl_judge.specs.Candidates.{IsLeastIn, IsReceiptHere, IsWithin, NoneD
 use Rattle.fbl_judge.specs.Pasts.{IsFirstInLife}
 use Rattle.fbl_judge.specs.Views.{IsBase, IsLifeAt, IsOneLife, IsPastAndStep, IsPastAndStepAt, IsView}
 use Rattle.fbl_judge.proofs.LifeLaws.{first_arrives, first_least, first_none, none_depends, one_life, same_within, within_same}
-use Rattle.fbl_judge.proofs.MomentLaws.{last_there, max_or, meet, stands_less, within_moment}
+use Rattle.fbl_judge.proofs.MomentLaws.{last_there, meet, stands_less, within_moment}
 use Rattle.fbl_judge.proofs.PastLaws.{past_length}
 use Rattle.fbl_judge.proofs.ViewLaws.{nobody_beyond}
 

@@ -1,6 +1,6 @@
 -- The least moment at which an entry has come.
-use Rattle.fbl_judge.proofs.Common.{ℕ, zero, suc, Bool, true, false, ◌≡◌, ◌<◌, ◌≤◌, ◌⊎◌, ◌↔◌, inl, inr, List, [], ◌∷◌, None, Some, slice_get, length, refl, sym, ap, subst, ◌∙◌, arith, cases_lt, false≢true, slice_get_within}
-use Rattle.fbl_judge.proofs.Common.{AreEntries, HappenedBefore, Entry, Event, Hold, LaterReceipt, Receipt, Restart, Send, Store, Tell, Told, IsArrival, IsRecord, Logs, log_of, recorded_in, IsAt, Leads, Position, Precedes, at, itself, step, Cut, HasCome, IsInStepOf, IsLeastMoment, IsMoment}
+use Rattle.fbl_judge.proofs.Common.{ℕ, zero, suc, Bool, true, false, ◌≡◌, ◌<◌, ◌≤◌, ◌⊎◌, ◌↔◌, inl, inr, List, [], ◌∷◌, None, Some, slice_get, length, refl, sym, subst, ◌∙◌, arith, cases_lt, false≢true, slice_get_within}
+use Rattle.fbl_judge.proofs.Common.{AreEntries, HappenedBefore, Entry, Event, Hold, LaterReceipt, Receipt, Restart, Send, Store, Tell, Told, IsArrival, IsRecord, Logs, log_of, recorded_in, IsAt, Leads, Position, Precedes, at, itself, step, Cut, HasCome, IsInStepOf, IsLeastMoment}
 use Rattle.fbl_runs.specs.Precedence.{IsPast}
 use Rattle.fbl_runs.proofs.ClockLaws.{has_past}
 use Rattle.fbl_judge.specs.Laws.{LeastMomentLaw}

@@ -1,7 +1,7 @@
 -- Moments: what precedes an entry has come with it, their meet and their join, and what holds at moments with the same restarts.
-use Rattle.fbl_judge.proofs.Common.{ℕ, zero, suc, cond, ◌≡◌, ◌≢◌, ◌<◌, ◌≤◌, ◌+◌, ◌-◌, ◌⊎◌, ◌↔◌, inl, inr, List, [], ◌∷◌, max, Some, None, slice_get, length, take, refl, sym, ap, subst, ◌∙◌, arith, cases_eq, cases_lt, slice_get_within}
+use Rattle.fbl_judge.proofs.Common.{ℕ, zero, suc, ◌≡◌, ◌<◌, ◌≤◌, ◌+◌, ◌⊎◌, ◌↔◌, inl, inr, List, [], ◌∷◌, max, Some, None, slice_get, length, refl, sym, ap, subst, ◌∙◌, arith, cases_eq, slice_get_within}
 use Rattle.fbl_judge.proofs.Common.{Determinant, Mark, Receipt, Send, send_of, Causality, Dependence, HappenedBefore, Entry, Event, Hold, LaterReceipt, Restart, Store, Tell, Told, IsArrival, IsRecord, Logs, mark_in, recorded_in}
-use Rattle.fbl_judge.proofs.Common.{Begins, Carries, IsAt, IsEarlier, Leads, Position, Precedes, StoodBefore, Tells, at, itself, step, StandsBehind, standing, Cut, DependsAt, HasCome, HasRestarted, HoldsAt, IsInStepOf, IsMoment, IsReceiptAt, IsStoredAt, SameRestarts, Stands, last_cut}
+use Rattle.fbl_judge.proofs.Common.{IsAt, IsEarlier, Leads, Position, Precedes, at, itself, step, StandsBehind, Cut, DependsAt, HasCome, HasRestarted, HoldsAt, IsInStepOf, IsMoment, IsStoredAt, Stands, last_cut}
 use Rattle.fbl_runs.specs.declared.entry.Restart as restart
 use Rattle.std.proofs.Common.{min}
 

@@ -1,13 +1,11 @@
 -- How the entries of different members are listed makes no difference, but for places.
-use Rattle.fbl_judge.proofs.Common.{ℕ, ◌≡◌, ◌≢◌, ◌<◌, ◌≤◌, ◌⊎◌, ◌↔◌, inl, inr, sym, ap, subst, refl, ◌∙◌, arith, cases_lt, List, Option, Some, None, slice_get_within, Determinant, Entry, Restart, Dependence, HappenedBefore, Logs, log_of, Position, Precedes, at, IsAt, itself, step, Cut, HasCome, HasRestarted, IsLeastDependent, SameRestarts, Stands, AreStruckOrHold, IsReceiptAt, IsSafe, Members, Run, last_cut, receipt_in}
+use Rattle.fbl_judge.proofs.Common.{ℕ, ◌≡◌, ◌<◌, ◌≤◌, ◌⊎◌, ◌↔◌, inl, inr, sym, ap, subst, refl, ◌∙◌, arith, cases_lt, List, Option, Some, None, Determinant, Entry, Restart, Dependence, HappenedBefore, Logs, log_of, Position, Precedes, at, itself, step, Cut, HasRestarted, IsLeastDependent, SameRestarts, Stands, AreStruckOrHold, IsReceiptAt, IsSafe, Members, Run, last_cut, receipt_in}
 use Rattle.std.proofs.lemmas.Bool.{cases_order}
-use Rattle.std.proofs.Common.{true, take}
+use Rattle.std.proofs.Common.{true}
 use Rattle.std.specs.FinSet as set
-use Rattle.fbl_runs.specs.declared.entry.Restart as restart
 use Rattle.fbl_runs.specs.declared.judged.Judged.{Judged}
 use Rattle.fbl_runs.specs.declared.judged.Judged.TheVariants.{AtEachMoment, AtItsEnd}
 use Rattle.fbl_runs.specs.Clocks.{StandsAt, cut_of}
-use Rattle.fbl_runs.specs.Rules.{restarts}
 use Rattle.fbl_runs.specs.Logs.{RunParts, run_of}
 use Rattle.fbl_judge.specs.Laws.{IsSameEntry, OrderLaw, SaySame}
 use Rattle.fbl_judge.specs.Unsafe.{ComesFirst, HasFewerRestarts, IsFewer, IsFirstCandidate, IsFirstDependent, IsLastRestart, IsLeftOrphanAt, IsNamed, IsSaidAt, IsSaidOf, IsUnsafe, RestartsFirst, restarts_at}

@@ -1,11 +1,10 @@
 -- The past of an entry and its step: what they have, and their join with a moment that has their restarts.
-use Rattle.fbl_judge.proofs.Common.{ℕ, zero, suc, cond, ◌≡◌, ◌≢◌, ◌==◌, ◌<◌, ◌≤◌, ◌+◌, ◌⊎◌, ◌↔◌, inl, inr, List, max, Some, None, slice_get, length, take, refl, sym, ap, subst, ◌∙◌, arith, nat_tests, cases_eq, cases_lt, slice_get_within}
-use Rattle.fbl_judge.proofs.Common.{HappenedBefore, Entry, Restart, IsArrival, IsRecord, Logs, log_of, IsAt, Leads, Position, Precedes, at, itself, step, Cut, HasCome, HasRestarted, IsInStepOf, IsMoment}
+use Rattle.fbl_judge.proofs.Common.{ℕ, cond, ◌≡◌, ◌≢◌, ◌==◌, ◌<◌, ◌≤◌, ◌⊎◌, ◌↔◌, inl, inr, List, max, Some, slice_get, length, sym, ap, subst, ◌∙◌, arith, nat_tests, cases_eq, cases_lt, slice_get_within}
+use Rattle.fbl_judge.proofs.Common.{HappenedBefore, Entry, Restart, IsArrival, IsRecord, Logs, IsAt, Leads, Position, Precedes, at, itself, step, Cut, HasCome, HasRestarted, IsInStepOf, IsMoment}
 use Rattle.fbl_runs.specs.declared.entry.Restart as restart
 use Rattle.fbl_runs.specs.Indexes.{EndsStep}
-use Rattle.fbl_runs.specs.Precedence.{IsPast}
 use Rattle.fbl_judge.specs.Views.{IsPastAndStep}
-use Rattle.fbl_judge.proofs.MomentLaws.{arrival_no_record, first_there, joined, last_there, leads_first, leads_last, leaves, leaves_no_record, max_or, moment_closed, own_before, same_at, same_position, some_at, step_there, to_record}
+use Rattle.fbl_judge.proofs.MomentLaws.{arrival_no_record, first_there, joined, leads_first, leaves, leaves_no_record, max_or, moment_closed, own_before, same_at, same_position, some_at, step_there, to_record}
 
 -- a restart is no hold or store
 pub restart_no_record : (logs : Logs) (i : Position) (r : restart.Restart) → IsAt logs i (Restart r) → ¬ ((e : Entry) × IsAt logs i e × IsRecord e)

@@ -1,5 +1,5 @@
 -- Entries by their places in the list.
-use Rattle.fbl_judge.proofs.Common.{ℕ, suc, cond, ◌≡◌, ◌==◌, ◌<◌, ◌≤◌, ◌+◌, ◌↔◌, List, Option, Some, max, slice_get, length, refl, sym, ap, subst, ◌∙◌, arith, slice_get_read, slice_get_within, true, Entry, IsArrival, entry_member, log_of, IsAt, Position, at, Cut, HasCome, HappenedBefore, Precedes}
+use Rattle.fbl_judge.proofs.Common.{ℕ, cond, ◌≡◌, ◌==◌, ◌<◌, List, Some, max, slice_get, length, refl, ap, subst, ◌∙◌, arith, slice_get_read, slice_get_within, Entry, entry_member, log_of, IsAt, Position, at, Cut}
 use Rattle.std.proofs.Common.{get_or}
 use Rattle.fbl_runs.specs.Clocks.{StandsAt, seen}
 use Rattle.fbl_runs.specs.Indexes.{EndsStep}
@@ -7,7 +7,7 @@ use Rattle.fbl_runs.specs.Precedence.{IsPast}
 use Rattle.fbl_runs.proofs.ClockLaws.{one_position}
 use Rattle.fbl_runs.proofs.LeadsLaws.{here_stands}
 use Rattle.fbl_runs.proofs.Listing.{placed, stands_at}
-use Rattle.fbl_judge.specs.Views.{IsPastAndStep, IsPastAndStepAt}
+use Rattle.fbl_judge.specs.Views.{IsPastAndStepAt}
 use Rattle.fbl_judge.proofs.PastLaws.{past_and_step_of}
 
 -- what is read at a place stands there

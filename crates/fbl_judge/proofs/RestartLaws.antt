@@ -1,5 +1,5 @@
 -- Whether an entry is a restart.
-use Rattle.fbl_judge.proofs.Common.{Bool, None, Option, Some, false, true, ap, refl, sym, ◌≡◌, ◌∙◌, false≢true, Entry, Event, Hold, LaterReceipt, Restart, Store, Tell, Told, restart_in}
+use Rattle.fbl_judge.proofs.Common.{Bool, None, Option, Some, false, true, ap, sym, ◌≡◌, ◌∙◌, false≢true, Entry, Event, Hold, LaterReceipt, Restart, Store, Tell, Told, restart_in}
 use Rattle.std.proofs.Common.{is_some}
 use Rattle.fbl_runs.specs.declared.entry.Restart as restart
 

@@ -1,13 +1,13 @@
 -- A run is always safe exactly where it is at the least moments, for each set of restarts, at which the members depend on its receipts.
-use Rattle.fbl_judge.proofs.Common.{ℕ, zero, suc, Bool, true, false, ◌≡◌, ◌<◌, ◌≤◌, ◌+◌, ◌⊎◌, ◌↔◌, inl, inr, List, Some, slice_get, length, refl, sym, ap, subst, ◌∙◌, arith}
+use Rattle.fbl_judge.proofs.Common.{ℕ, zero, suc, Bool, true, false, ◌≡◌, ◌<◌, ◌≤◌, ◌+◌, ◌⊎◌, ◌↔◌, inl, inr, List, length, refl, sym, ap, subst, ◌∙◌, arith}
 use Rattle.fbl_judge.proofs.Common.{cases_eq, cases_lt, false≢true, slice_get_within, Determinant, len-within, contains-union}
-use Rattle.fbl_judge.proofs.Common.{Dependence, Entry, Hold, Logs, entry_member, log_of, IsAt, Position, Precedes, at, StandsBehind, Cut, HasCome, HasRestarted, AllBelow, Members, AreEntries, Run, AlwaysSafe, IsSafeFromTheFirst, last_cut}
-use Rattle.fbl_judge.proofs.Common.{DependsAt, HoldsAt, IsCovered, IsStoredAt, IsLeastDependent, IsMoment, IsReceiptAt, SameRestarts, Stands, AreStruckOrHold, LosesAt, MayBeLost, bound}
+use Rattle.fbl_judge.proofs.Common.{Dependence, Entry, Hold, Logs, log_of, IsAt, Position, Precedes, at, StandsBehind, Cut, HasCome, AllBelow, Members, AreEntries, Run, AlwaysSafe, IsSafeFromTheFirst, last_cut}
+use Rattle.fbl_judge.proofs.Common.{DependsAt, HoldsAt, IsStoredAt, IsLeastDependent, IsMoment, SameRestarts, AreStruckOrHold, LosesAt, MayBeLost, bound}
 use Rattle.fbl_trace.specs.MemberSets.{contains-insert_same, contains-insert_other}
 use Rattle.std.proofs.Common.{min, nat_cmp}
 use Rattle.std.specs.FinSet as set
 use Rattle.fbl_runs.proofs.Listing.{locate_all, some_entry}
-use Rattle.fbl_judge.proofs.MomentLaws.{happened, holds_later, last_is_moment, last_there, meet, meet_moment, moment_closed, stands_earlier, stands_less, stored_later, within_moment}
+use Rattle.fbl_judge.proofs.MomentLaws.{happened, holds_later, last_there, meet, meet_moment, moment_closed, stands_earlier, stands_less, stored_later, within_moment}
 
 -- ---- sets of members
 

@@ -1,5 +1,5 @@
 -- What stands, by the restart that undoes it.
-use Rattle.fbl_judge.proofs.Common.{ℕ, zero, suc, ◌≡◌, ◌<◌, ◌≤◌, ◌+◌, ◌⊎◌, ◌↔◌, inl, inr, List, [], ◌∷◌, Option, None, Some, slice_get, take, length, refl, sym, ap, subst, ◌∙◌, arith, cases_eq, cases_lt, slice_get_within, Entry, Logs, log_of, Position, at, Cut, Stands, StandsBehind, standing}
+use Rattle.fbl_judge.proofs.Common.{ℕ, zero, suc, ◌≡◌, ◌<◌, ◌≤◌, ◌+◌, ◌⊎◌, ◌↔◌, inl, inr, List, [], ◌∷◌, None, Some, slice_get, take, refl, ap, subst, arith, cases_eq, cases_lt, Entry, log_of, Position, at, Cut, Stands, StandsBehind, standing}
 use Rattle.fbl_runs.specs.Clocks.{StandsAt}
 use Rattle.fbl_runs.specs.Links.{IsPlaceOf}
 use Rattle.fbl_runs.specs.Lives.{IsUndoneBy}

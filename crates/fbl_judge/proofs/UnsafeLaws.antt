@@ -1,30 +1,28 @@
 -- What is said of a receipt is so, and nothing is said where it is safe.
-use Rattle.fbl_judge.proofs.Common.{Dependence, ℕ, zero, suc, Bool, true, false, ◌≡◌, ◌≢◌, ◌<◌, ◌≤◌, ◌+◌, ◌⊎◌, ◌↔◌, inl, inr, List, [], ◌∷◌, ◌++◌, Option, Some, None, MatchOption, drop, length, slice_get, take, take-append-drop, append-nil, refl, sym, ap, subst, ◌∙◌, arith}
+use Rattle.fbl_judge.proofs.Common.{ℕ, zero, suc, Bool, true, false, ◌≡◌, ◌<◌, ◌≤◌, ◌+◌, ◌⊎◌, ◌↔◌, inl, inr, List, [], ◌∷◌, ◌++◌, Option, Some, None, MatchOption, length, slice_get, take, refl, sym, ap, subst, ◌∙◌, arith}
 use Rattle.fbl_judge.proofs.Common.{cases_lt, false≢true, slice_get_within, Determinant, AllBelow, Members, contains-union}
-use Rattle.fbl_judge.proofs.Common.{Entry, Restart, Logs, entry_member, log_of, receipt_in, IsAt, Position, Precedes, at, Cut, DependsAt, HasCome, HasRestarted, HoldsAt, IsLeastDependent, IsMoment, IsReceiptAt, SameRestarts, Stands}
+use Rattle.fbl_judge.proofs.Common.{Entry, Logs, log_of, receipt_in, Position, at, Cut, DependsAt, HoldsAt, IsLeastDependent, IsMoment, IsReceiptAt, SameRestarts, Stands}
 use Rattle.fbl_judge.proofs.Common.{AreEntries, AreStruckOrHold, IsJudgedAt, IsSafe, LosesAt, Run, bound, last_cut, len-within}
 use Rattle.fbl_trace.specs.MemberSets.{same_from_contains}
 use Rattle.std.specs.FinSet as set
 use Rattle.std.proofs.Common.{slice_index}
 use Rattle.std.proofs.lemmas.Bool.{cases_order}
-use Rattle.std.specs.Cmp.{nat_cmp_total}
 use Rattle.fbl_judge.specs.declared.check.Candidate.{Candidate}
 use Rattle.fbl_judge.specs.declared.check.UnsafeReceipt.{UnsafeReceipt}
 use Rattle.fbl_judge.specs.declared.view.View.{View}
-use Rattle.fbl_runs.specs.Clocks.{StandsAt, cut_of, seen}
+use Rattle.fbl_runs.specs.Clocks.{StandsAt, cut_of}
 use Rattle.fbl_runs.specs.Rules.{restarts}
 use Rattle.fbl_runs.specs.Logs.{RunParts, run_of}
 use Rattle.fbl_judge.specs.Unsafe.{ComesFirst, HasFewerRestarts, IsCandidate, IsFewer, IsFirstCandidate, IsLeastLoss, IsLeastStrike, IsLeftOrphanAt, IsNamed, IsReceiptPlace, IsSaidAt, IsSaidOf, IsUnsafe, IsUnsafeAt, ListsFirst, RestartsFirst, SaysUnsafe, restarts_at, restarts_below}
-use Rattle.fbl_judge.specs.Candidates.{HasFewer, HasMoreAtFirst, IsAlike, IsAny, IsBefore, IsCandidateOf, IsFirstAmong, IsFirstOf, IsLeastIn, IsLeastOut, IsLeastUnlike, IsOfLesser, IsOfMember, IsOfViews, IsReceiptHere, IsSaidAtEnd, IsSaidFirst, IsSaidWith, IsUnsafeAtEnd, NoneDepends}
+use Rattle.fbl_judge.specs.Candidates.{HasFewer, IsAny, IsBefore, IsCandidateOf, IsFirstAmong, IsFirstOf, IsLeastIn, IsLeastOut, IsOfLesser, IsOfMember, IsOfViews, IsSaidAtEnd, IsSaidFirst, IsSaidWith, IsUnsafeAtEnd, NoneDepends}
 use Rattle.fbl_judge.specs.Views.{IsView}
 use Rattle.fbl_runs.specs.declared.judged.Judged.{Judged}
 use Rattle.fbl_runs.specs.declared.judged.Judged.TheVariants.{AtEachMoment, AtItsEnd}
-use Rattle.fbl_trace.proofs.Gets.{At-push, drop_next, take-more}
+use Rattle.fbl_trace.proofs.Gets.{At-push, take-more}
 use Rattle.fbl_trace.proofs.Sets.{len-remove_one}
-use Rattle.fbl_runs.proofs.ClockLaws.{one_position}
-use Rattle.fbl_runs.proofs.LeadsLaws.{here_stands, stands_somewhere}
+use Rattle.fbl_runs.proofs.LeadsLaws.{stands_somewhere}
 use Rattle.fbl_runs.proofs.Listing.{stands_at}
-use Rattle.fbl_judge.proofs.MomentLaws.{first_there, happened, holds_later, last_there, moment_closed, stands_earlier, stored_later}
+use Rattle.fbl_judge.proofs.MomentLaws.{holds_later, last_there, stands_earlier, stored_later}
 use Rattle.fbl_judge.proofs.SafeAlways.{come_there, loses, lost_contains, may_be_lost, none_beyond, of_group, some_least_dependent, some_struck_or_hold}
 use Rattle.fbl_judge.proofs.ViewLaws.{count_same, sum_same}
 

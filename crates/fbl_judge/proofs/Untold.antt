@@ -1,5 +1,5 @@
 -- Where no member is told a control message and none restarts, what happened before an entry is just that on which it depends.
-use Rattle.fbl_judge.proofs.Common.{ℕ, zero, suc, false, ◌≡◌, ◌<◌, ◌+◌, ◌↔◌, inl, inr, List, [], ◌∷◌, Some, slice_get, ap, ◌∙◌, arith, Dependence, HappenedBefore, Entry, log_of, Position, Precedes, at, Leads, itself, step, ControlMessage, Restart, Told}
+use Rattle.fbl_judge.proofs.Common.{ℕ, zero, suc, false, ◌≡◌, ◌+◌, ◌↔◌, inl, inr, List, [], ◌∷◌, Some, slice_get, ap, arith, Dependence, HappenedBefore, Entry, log_of, Position, Precedes, Leads, itself, step, ControlMessage, Restart, Told}
 use Rattle.fbl_runs.specs.declared.entry.Restart as restart
 use Rattle.std.specs.List.{list_any}
 use Rattle.fbl_runs.proofs.Listing.{locate_all}

@@ -1,6 +1,6 @@
 -- The views that a pass finds: each is one, and each moment has just the restarts of one.
-use Rattle.fbl_judge.proofs.Common.{ℕ, zero, suc, Bool, true, false, cond, ◌≡◌, ◌≢◌, ◌<◌, ◌≤◌, ◌+◌, ◌⊎◌, ◌↔◌, inl, inr, List, [], ◌∷◌, ◌++◌, max, At-front, At-push, Some, None, slice_get, length, take, refl, sym, ap, subst, ◌∙◌, arith, cases_eq, cases_lt, cases_order, slice_get_within}
-use Rattle.fbl_judge.proofs.Common.{AreEntries, HappenedBefore, Entry, Event, Hold, LaterReceipt, Restart, Store, Tell, Told, Logs, entry_member, log_of, restart_in, IsAt, Position, Precedes, at, Cut, HasCome, HasRestarted, IsMoment, SameRestarts}
+use Rattle.fbl_judge.proofs.Common.{ℕ, zero, suc, cond, ◌≡◌, ◌≢◌, ◌<◌, ◌≤◌, ◌+◌, ◌⊎◌, ◌↔◌, inl, inr, List, [], ◌∷◌, ◌++◌, max, At-front, At-push, Some, None, slice_get, length, take, refl, sym, ap, subst, ◌∙◌, arith, cases_eq, cases_lt, cases_order, slice_get_within}
+use Rattle.fbl_judge.proofs.Common.{AreEntries, HappenedBefore, Entry, Event, Hold, LaterReceipt, Restart, Store, Tell, Told, Logs, entry_member, log_of, restart_in, IsAt, Position, Precedes, at, Cut, HasCome, HasRestarted, IsMoment}
 use Rattle.std.proofs.Common.{replicate, slice_index, slice_set}
 use Rattle.fbl_trace.proofs.Gets.{At-seam, take-more}
 use Rattle.std.proofs.lemmas.List.Sums.{sum_by-cons}
@@ -8,7 +8,7 @@ use Rattle.fbl_runs.specs.declared.entry.Restart as restart
 use Rattle.fbl_runs.specs.Clocks.{StandsAt, cut_of, seen}
 use Rattle.fbl_runs.specs.Rules.{is_restart, restarts}
 use Rattle.fbl_runs.proofs.Listing.{locate_all, seen-all, seen-later, seen-other, seen-own, seen_mono, some_entry, stands_at}
-use Rattle.fbl_runs.proofs.ClockLaws.{one_place_of, one_position}
+use Rattle.fbl_runs.proofs.ClockLaws.{one_place_of}
 use Rattle.fbl_runs.proofs.LeadsLaws.{here_stands, places_order, precedes_before}
 use Rattle.fbl_judge.specs.declared.view.View.{View}
 use Rattle.fbl_judge.specs.declared.views.Back.{Back}

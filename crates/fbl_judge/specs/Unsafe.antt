@@ -1,5 +1,5 @@
 -- Unsafe receipts of a run, and what is said of each.
-use Rattle.std.specs.Prelude.{ℕ, ◌≡◌, ◌<◌, ◌≤◌, ◌⊎◌, ◌↔◌, ◌+◌, true, false, List, [], ◌∷◌, ◌++◌, Option, Some, None, slice_get, take}
+use Rattle.std.specs.Prelude.{ℕ, ◌≡◌, ◌<◌, ◌≤◌, ◌⊎◌, ◌↔◌, ◌+◌, true, false, List, [], ◌∷◌, Option, Some, None, take}
 use Rattle.std.specs.FinSet as set
 use Rattle.fbl_trace.specs.declared.trace.Determinant.{Determinant}
 use Rattle.fbl_trace.specs.MemberSets.{Members}

@@ -1,5 +1,5 @@
 -- What is the same for each order of what is recorded of a run.
-use Rattle.std.specs.Prelude.{ℕ, ◌↔◌, List}
+use Rattle.std.specs.Prelude.{ℕ, ◌≡◌, ◌↔◌, List}
 use Rattle.std.specs.List.{Contains}
 use Rattle.std.specs.List.Sorted.{IsPermutation}
 use Rattle.fbl_trace.specs.declared.trace.Determinant.{Determinant}
@@ -16,7 +16,8 @@ use Rattle.fbl_runs.specs.Runs.{IsOrphanAt, IsSafe, LosesReceiptAt}
 use Rattle.fbl_judge.specs.declared.check.UnsafeReceipt.{UnsafeReceipt}
 use Rattle.fbl_judge.specs.Laws.{SaySame}
 use Rattle.fbl_judge.specs.Unsafe.{IsSaidOf, IsUnsafe}
-use Rattle.fbl_order.specs.Orders.{IsOrder, IsOrderOfEntries, SameLogs, with_entries, with_events}
+use Rattle.fbl_runs.specs.Rules.{have_lives}
+use Rattle.fbl_order.specs.Orders.{ArePlaces, IsOrder, IsOrderOfEntries, SameLogs, StandInOrder, items_at, with_entries, with_events}
 
 -- ---- lists of events in which each member has the same log
 
@@ -73,3 +74,17 @@ abbrev pub LogAnswersLaw : Type 0
 LogAnswersLaw =
     (log : RunParts) (entries : List Entry) → IsLog log → IsOrderOfEntries log.members log.entries entries
     → IsLog (with_entries entries log) × SameAnswers log (with_entries entries log)
+
+-- the log is the whole, but for its entries, which stand in an order, each given at a place; where these stood in an order, they stand as
+-- they did; and in whichever order they stand, a check finds the same receipts unsafe
+pub record IsOrderedLog (whole log : RunParts) (places : List ℕ) : Type 0 where
+  pub rules : IsLog log
+  pub parts : log ≡ with_entries log.entries whole
+  pub order : IsOrderOfEntries whole.members whole.entries log.entries
+  pub given : ArePlaces whole.entries log.entries places
+  pub kept : StandInOrder (have_lives whole.entries) whole.members whole.entries → log ≡ whole
+  pub answers : AnswersAlike whole log
+
+-- the same where the whole's entries were given at places before, from which the log's come
+abbrev pub IsOrderGiven : RunParts → List ℕ → RunParts → List ℕ → Type 0
+IsOrderGiven whole given log places = (own : List ℕ) × IsOrderedLog whole log own × (places ≡ items_at given own)

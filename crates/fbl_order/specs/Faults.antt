@@ -187,6 +187,8 @@ record_given places refusal (Record fault) =
     let place = place_given places fault.place in Refused (BadEvent place) (Record (record fault { place = place }))
 record_given places refusal (Life fault) =
     let place = place_given places fault.place in Refused (BadEvent place) (Life (record fault { place = place }))
+record_given places refusal (Trace (breach.Event fault)) =
+    let place = place_given places fault.place in Refused (BadEvent place) (Trace (breach.Event (record fault { place = place })))
 record_given places refusal broken = Refused refusal broken
 
 -- the log with its entries in an order is refused
@@ -206,3 +208,25 @@ abbrev pub RefusesUnorderedLog : RunParts → OrderFault → Type 0
 RefusesUnorderedLog log fault =
     RefusesGroup log.members log.f fault
     ⊎ ((MembersAllowed log.members × FAllowed log.members log.f) × (RefusesOrder log.members log.entries fault ⊎ RefusesLogInOrder log fault))
+
+-- ---- logs whose entries were put in another order before
+
+-- the places at which what is stuck, and that for which it waits, were given
+abbrev pub obstacle_given : List ℕ → Obstacle → Obstacle
+obstacle_given places (Waits place) = Waits (place_given places place)
+obstacle_given places obstacle = obstacle
+
+abbrev pub stuck_given : List ℕ → Stuck → Stuck
+stuck_given places stuck =
+    record { place = place_given places stuck.place; entry = stuck.entry; obstacle = obstacle_given places stuck.obstacle }
+
+-- the second fault is the first, with the places at which its entries were given
+abbrev pub IsFaultGiven : List ℕ → OrderFault → OrderFault → Type 0
+IsFaultGiven places (NoOrder found) (NoOrder named) = named.items ≡ map (stuck_given places) found.items
+IsFaultGiven places (Refused refusal broken) fault = fault ≡ record_given places refusal broken
+IsFaultGiven places found fault = ⊥
+
+-- the log, whose entries were given at these places, is refused; or memory ran out
+abbrev pub RefusesGiven : RunParts → List ℕ → OrderFault → Type 0
+RefusesGiven log places fault =
+    (fault ≡ Refused Memory (Trace breach.Memory)) ⊎ ((found : OrderFault) × RefusesUnorderedLog log found × IsFaultGiven places found fault)

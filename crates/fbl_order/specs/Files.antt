@@ -11,6 +11,8 @@ use Rattle.fbl_trace.specs.Breaches.{IsLeastOutside}
 use Rattle.fbl_trace.specs.Configs.{IsFirstBreach}
 use Rattle.fbl_trace.specs.MemberSets.{AllBelow}
 use Rattle.fbl_trace.specs.declared.fault.Outsider.{Outsider}
+use Rattle.fbl_order.specs.Orders.{items_at}
+use Rattle.fbl_order.specs.Pieces.{AreByLife, entries_of, lives_of}
 use Rattle.fbl_order.specs.declared.files.RunGroup.{RunGroup}
 use Rattle.fbl_order.specs.declared.files.FilesDiffer.{FilesDiffer}
 use Rattle.fbl_order.specs.declared.files.FilesDiffer.TheVariants.{Members, F, Memory}
@@ -74,7 +76,8 @@ pub record IsUnionOfDumps {A : Type 0} (files : List (RawDump A)) (whole : Parts
   pub events : whole.events ≡ flat_map (λ file. file.events.items) files
   pub held : whole.held ≡ flat_map (λ file. file.held.items) files
 
--- the whole has the group of the files, and their entries in their order
-pub record IsUnionOfLogs (files : List RawLog) (whole : RunParts) : Type 0 where
+-- the whole has the group of the files, and their entries from these places among all, by which each member's pieces follow by their lives
+pub record IsUnionOfLogs (files : List RawLog) (whole : RunParts) (places : List ℕ) : Type 0 where
   pub group : IsUnion log_group files (record { members = whole.members; f = whole.f; strike = whole.strike })
-  pub entries : whole.entries ≡ flat_map (λ file. file.entries.items) files
+  pub by_life : AreByLife (entries_of files) (lives_of files) places
+  pub entries : whole.entries ≡ items_at (entries_of files) places

@@ -4,9 +4,12 @@ ghost use Rattle.std.specs.Prelude.{◌≡◌, ◌<◌, ℕ, IfErr, IfOk, MatchO
 ghost use Rattle.fbl_dumps.specs.Dumps.{parts_of};
 ghost use Rattle.fbl_runs.specs.Logs.{parts_of_log};
 ghost use Rattle.fbl_order.specs.Files.{Agrees, AgreesAt, Differs, IsFirstOther, IsFirstOutside, IsUnion, IsUnionOfDumps, IsUnionOfLogs, IsWithinAt, RefusesFiles, dump_group, log_group};
+ghost use Rattle.fbl_order.specs.Pieces.{entries_of};
 
+use crate::order::{Ordered, items_at};
+use crate::pieces::{lives_of, places_by_life};
 use fbl_dumps::RawDump;
-use fbl_runs::RawLog;
+use fbl_runs::{Entry, RawLog};
 use fbl_trace::{MemberSet, Outsider};
 use std::alloc::{AllocError, Global};
 use std::convert::From;
@@ -147,24 +150,37 @@ pub fn union_of_dumps(alloc: Global, files: &[RawDump]) -> Result<RawDump, Files
     })
 }
 
-/// The logs as one: their entries one file's behind another's, and who is struck in any of them.
-/// They have the same members, and the same number of them might be lost at once.
-pub fn union_of_logs(alloc: Global, files: &[RawLog]) -> Result<RawLog, FilesDiffer>
-    requires { 0 < length files.now }
-    ensures union { IfOk result (λ whole. IsUnionOfLogs files.now (parts_of_log whole)) }
-    ensures refused { IfErr result (RefusesFiles log_group files.now) }
+/// The entries of the logs, one file's behind another's.
+fn entries_of(alloc: Global, files: &[RawLog]) -> Result<Vec<Entry>, AllocError>
+    ensures { IfOk result (λ v. v.items ≡ entries_of files.now) }
 {
-    let RunGroup { members, f, strike } = common_group(files)?;
     let mut entries = Vec::new(alloc);
     for file in files {
         entries.extend_from_slice(file.entries.as_slice())?;
     }
-    Ok(RawLog {
+    Ok(entries)
+}
+
+/// The logs as one: their entries one file's behind another's, but for a member's pieces, which follow by their lives; and who is struck in
+/// any of them. They have the same members, and the same number of them might be lost at once.
+pub fn union_of_logs(alloc: Global, files: &[RawLog]) -> Result<Ordered<RawLog>, FilesDiffer>
+    requires { 0 < length files.now }
+    ensures union { IfOk result (λ o. IsUnionOfLogs files.now (parts_of_log o.run) o.places.items) }
+    ensures count { IfOk result (λ o. length o.places.items ≡ length o.run.entries.items) }
+    ensures refused { IfErr result (RefusesFiles log_group files.now) }
+{
+    let RunGroup { members, f, strike } = common_group(files)?;
+    let given = entries_of(alloc, files)?;
+    let lives = lives_of(alloc, files)?;
+    let places = places_by_life(alloc, given.as_slice(), lives.as_slice())?;
+    let entries = items_at(alloc, given.as_slice(), places.as_slice())?;
+    let run = RawLog {
         members,
         f,
         entries,
         strike,
-    })
+    };
+    Ok(Ordered { run, places })
 }
 
 /// Of the files' strike sets, the number of the first file with a member outside a group of so many, and the least such member in it.

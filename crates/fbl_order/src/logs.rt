@@ -1,17 +1,18 @@
 //! Logs whose entries stand in any order that keeps the members' logs.
 
-ghost use Rattle.std.specs.Prelude.{◌≡◌, IfErr, IfOk};
+ghost use Rattle.std.specs.Prelude.{◌≡◌, IfErr, IfOk, length};
 ghost use Rattle.fbl_runs.specs.Logs.{IsLog, parts_of_log};
 ghost use Rattle.fbl_runs.specs.Rules.{have_lives};
-ghost use Rattle.fbl_order.specs.Answers.{AnswersAlike};
-ghost use Rattle.fbl_order.specs.Faults.{RefusesUnorderedLog, place_given, record_given};
+ghost use Rattle.fbl_order.specs.Answers.{AnswersAlike, IsOrderGiven};
+ghost use Rattle.fbl_order.specs.Faults.{IsFaultGiven, RefusesGiven, RefusesUnorderedLog, place_given, record_given, stuck_given};
 ghost use Rattle.fbl_order.specs.Orders.{ArePlaces, IsOrderOfEntries, StandInOrder, with_entries};
 
-use crate::fault::OrderFault;
+use crate::fault::{Obstacle, OrderFault, Stuck};
 use crate::merge::Merge;
 use crate::order::{Ordered, group_refusal, items_at, merge_in_order};
 use fbl_dumps::DumpRefusal;
 use fbl_runs::{LifeFault, LogBreach, RawLog, RecordFault, Run, checked_log};
+use fbl_trace::{Breach, EventFault};
 use std::alloc::Global;
 
 /// The place at which what has the number was given.
@@ -38,6 +39,13 @@ fn refusal_as_given(refusal: DumpRefusal, breach: LogBreach, places: &[usize]) -
             OrderFault::Refused(
                 DumpRefusal::BadEvent(place),
                 LogBreach::Life(LifeFault { place, ..fault }),
+            )
+        }
+        LogBreach::Trace(Breach::Event(fault)) => {
+            let place = place_given(places, fault.place);
+            OrderFault::Refused(
+                DumpRefusal::BadEvent(place),
+                LogBreach::Trace(Breach::Event(EventFault { place, ..fault })),
             )
         }
         _ => OrderFault::Refused(refusal, breach),
@@ -69,5 +77,52 @@ pub fn order_log(alloc: Global, raw: RawLog) -> Result<Ordered<Run>, OrderFault>
     match checked_log(alloc, RawLog { entries, ..raw }) {
         Ok(run) => Ok(Ordered { run, places }),
         Err((refusal, breach)) => Err(refusal_as_given(refusal, breach, places.as_slice())),
+    }
+}
+
+/// What is stuck, with the places at which it was given, and that for which it waits.
+fn stuck_given(places: &[usize], stuck: Stuck) -> Stuck
+    ensures { result ≡ stuck_given places.now stuck }
+{
+    let obstacle = match stuck.obstacle {
+        Obstacle::Waits(place) => Obstacle::Waits(place_given(places, place)),
+        other => other,
+    };
+    Stuck {
+        place: place_given(places, stuck.place),
+        obstacle,
+        ..stuck
+    }
+}
+
+/// The fault of a log whose entries were given at these places.
+fn fault_given(fault: OrderFault, places: &[usize]) -> OrderFault
+    ensures { IsFaultGiven places.now fault result }
+{
+    match fault {
+        OrderFault::NoOrder(found) => {
+            let mut named = found;
+            for number in 0..named.len() {
+                named[number] = stuck_given(places, named[number]);
+            }
+            OrderFault::NoOrder(named)
+        }
+        OrderFault::Refused(refusal, breach) => refusal_as_given(refusal, breach, places),
+    }
+}
+
+/// What `order_log` makes of the log, whose entries were put in another order before: places are those at which they were given then.
+pub fn order_union(alloc: Global, whole: Ordered<RawLog>) -> Result<Ordered<Run>, OrderFault>
+    requires { length whole.places.items ≡ length whole.run.entries.items }
+    ensures ordered { IfOk result (λ o. IsOrderGiven (parts_of_log whole.run) whole.places.items o.run o.places.items) }
+    ensures refused { IfErr result (RefusesGiven (parts_of_log whole.run) whole.places.items) }
+{
+    let Ordered { run, places: given } = whole;
+    match order_log(alloc, run) {
+        Ok(Ordered { run, places }) => {
+            let places = items_at(alloc, given.as_slice(), places.as_slice())?;
+            Ok(Ordered { run, places })
+        }
+        Err(fault) => Err(fault_given(fault, given.as_slice())),
     }
 }

@@ -4,3 +4,4 @@ pub mod Steps
 pub mod Crossing
 pub mod Moments
 pub mod Findings
+pub mod Undones

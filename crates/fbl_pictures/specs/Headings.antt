@@ -26,6 +26,12 @@ unsafe_words d at strike orphans =
     joined (codes "unsafe " ∷ decimal d.from ∷ codes " " ∷ decimal d.ssn ∷ codes " " ∷ decimal d.to ∷ codes " " ∷ decimal d.rsn ∷ at ∷ [])
     ++ joined (codes ", strike " ∷ set_words strike ∷ codes ", orphans " ∷ set_words orphans ∷ [])
 
+-- what a check says of a receipt that a restart undid: what names it, in some words where the restart stands, and the orphans
+abbrev pub undone_words : Determinant → List ℕ → Members → List ℕ
+undone_words d at orphans =
+    joined (codes "undone " ∷ decimal d.from ∷ codes " " ∷ decimal d.ssn ∷ codes " " ∷ decimal d.to ∷ codes " " ∷ decimal d.rsn ∷ at ∷ [])
+    ++ joined (codes ", orphans " ∷ set_words orphans ∷ [])
+
 -- a character as it may stand in XML
 abbrev pub escape : ℕ → List ℕ
 escape c = if c == 38 then codes "&amp;" else (if c == 60 then codes "&lt;" else (if c == 62 then codes "&gt;" else encode_utf8 c))

@@ -1,7 +1,7 @@
 //! The headings of pictures of runs.
 
 ghost use Rattle.std.specs.Prelude.{◌≡◌, ◌++◌, IfOk, OnOk, string_bytes};
-ghost use Rattle.fbl_pictures.specs.Headings.{audit_words as audit_words_of, escape, escaped, heading as heading_of, part_words as part_words_of, receipts_word as receipts_word_of, unsafe_words as unsafe_words_of};
+ghost use Rattle.fbl_pictures.specs.Headings.{audit_words as audit_words_of, escape, escaped, heading as heading_of, part_words as part_words_of, receipts_word as receipts_word_of, undone_words as undone_words_of, unsafe_words as unsafe_words_of};
 
 use fbl_input::set_text;
 use fbl_trace::{Determinant, MemberSet};
@@ -46,6 +46,25 @@ pub(crate) fn unsafe_words(
     let orphans = set_text(alloc, orphans)?;
     let mut text = format!(in alloc; "unsafe {from} {ssn} {to} {rsn}{at}")?;
     write!(text, ", strike {strike}, orphans {orphans}")?;
+    Ok(text)
+}
+
+/// What a check says of a receipt that a restart undid: what names it, where the restart stands, in these words, and the orphans.
+pub(crate) fn undone_words(
+    alloc: Global,
+    determinant: &Determinant,
+    at: &str,
+    orphans: MemberSet,
+) -> Result<String, AllocError>
+    ensures { IfOk result (λ text. string_bytes text ≡ undone_words_of determinant.now at.now orphans) }
+{
+    let from = determinant.from.number();
+    let ssn = determinant.ssn;
+    let to = determinant.to.number();
+    let rsn = determinant.rsn;
+    let orphans = set_text(alloc, orphans)?;
+    let mut text = format!(in alloc; "undone {from} {ssn} {to} {rsn}{at}")?;
+    write!(text, ", orphans {orphans}")?;
     Ok(text)
 }
 

@@ -6,12 +6,11 @@ use Rattle.fbl_trace.specs.Rules.{WellFormed}
 use Rattle.fbl_order.specs.declared.fault.OrderFault.TheVariants as orders
 use Rattle.fbl_order.specs.declared.files.FilesDiffer.TheVariants as files
 use Rattle.fbl_order.specs.declared.order.Ordered.{Ordered}
-use Rattle.fbl_order.specs.Faults.{RefusesUnordered, RefusesUnorderedLog}
+use Rattle.fbl_order.specs.Faults.{RefusesGiven, RefusesUnordered}
 use Rattle.fbl_order.specs.Files.{IsUnionOfDumps, IsUnionOfLogs, RefusesFiles, dump_group, log_group}
-use Rattle.fbl_order.specs.Answers.{AnswersAlike, DumpsAnswerAlike}
-use Rattle.fbl_order.specs.Orders.{ArePlaces, IsOrder, IsOrderOfEntries, StandInOrder, as_entries, with_entries, with_events}
-use Rattle.fbl_runs.specs.Logs.{IsLog, RunParts}
-use Rattle.fbl_runs.specs.Rules.{have_lives}
+use Rattle.fbl_order.specs.Answers.{DumpsAnswerAlike, IsOrderGiven}
+use Rattle.fbl_order.specs.Orders.{ArePlaces, IsOrder, as_entries, with_events}
+use Rattle.fbl_runs.specs.Logs.{RunParts}
 use Rattle.fbl_records.specs.declared.reader.Recording.{Recording}
 use Rattle.fbl_records.specs.declared.reader.Recording.TheVariants as checked
 use Rattle.fbl_records.specs.declared.reader.RawRecording.{RawRecording}
@@ -69,19 +68,11 @@ pub record IsMergedDump (whole dump : Parts) (places : List ℕ) : Type 0 where
   pub kept : WellFormed whole.members whole.events → dump ≡ whole
   pub answers : DumpsAnswerAlike whole dump
 
--- the same of a log and its entries: where these stood in an order, they stand as they did, and a check finds the same receipts unsafe
-pub record IsMergedLog (whole log : RunParts) (places : List ℕ) : Type 0 where
-  pub rules : IsLog log
-  pub parts : log ≡ with_entries log.entries whole
-  pub order : IsOrderOfEntries whole.members whole.entries log.entries
-  pub given : ArePlaces whole.entries log.entries places
-  pub kept : StandInOrder (have_lives whole.entries) whole.members whole.entries → log ≡ whole
-  pub answers : AnswersAlike whole log
-
--- the same of what the files have together
+-- the same of what the files have together; of logs each member's pieces follow by their lives before
 abbrev pub IsMerged : Together → Recording → List ℕ → Type 0
 IsMerged (Dumps dumps) (checked.Dump dump) places = (whole : Parts) × IsUnionOfDumps dumps.items whole × IsMergedDump whole dump places
-IsMerged (Logs logs) (checked.Log log) places = (whole : RunParts) × IsUnionOfLogs logs.items whole × IsMergedLog whole log places
+IsMerged (Logs logs) (checked.Log log) places =
+    (whole : RunParts) × (given : List ℕ) × IsUnionOfLogs logs.items whole given × IsOrderGiven whole given log places
 IsMerged together run places = ⊥
 
 abbrev pub IsMergeOf : Together → Ordered Recording → Type 0
@@ -92,7 +83,8 @@ abbrev pub RefusesMerge : Together → MergeFault → Type 0
 RefusesMerge (Dumps dumps) (faults.Files fault) = RefusesFiles dump_group dumps.items fault
 RefusesMerge (Logs logs) (faults.Files fault) = RefusesFiles log_group logs.items fault
 RefusesMerge (Dumps dumps) (faults.Order fault) = (whole : Parts) × IsUnionOfDumps dumps.items whole × RefusesUnordered whole fault
-RefusesMerge (Logs logs) (faults.Order fault) = (whole : RunParts) × IsUnionOfLogs logs.items whole × RefusesUnorderedLog whole fault
+RefusesMerge (Logs logs) (faults.Order fault) =
+    (whole : RunParts) × (given : List ℕ) × IsUnionOfLogs logs.items whole given × RefusesGiven whole given fault
 RefusesMerge together fault = ⊥
 
 -- 4 where memory ran out, and else 2

@@ -15,9 +15,9 @@ const PROGRAM: &str =
 
 /// The exit statuses, and where a fault is told.
 const STATUSES: &str = "\
-Exit statuses: 0 done; 1 a checked dump is unsafe, or a command of a strict play was refused; 2 a fault of the command
-line, the script or the dump; 3 a read or a write failed; 4 out of memory. A fault is told on standard error, and more of
-it with --explain behind the command.";
+Exit statuses: 0 done; 1 a checked dump is unsafe or a recovery in it left orphans, or a command of a strict play was
+refused; 2 a fault of the command line, the script or the dump; 3 a read or a write failed; 4 out of memory. A fault is
+told on standard error, and more of it with --explain behind the command.";
 
 /// What `play` does.
 const PLAY: &str = "Plays a script, which is JSON, and prints each command's lines";
@@ -65,7 +65,8 @@ merge several files themselves:
   fblrun check member-0.json member-1.json member-2.json
 
 A log, a dump of version 2, may also be lines, as a process can write them: the object without its events, and on each further
-line an event, or a list of events."#;
+line an event, or a list of events. A process that crashes and comes back writes a file for each of its lives: name them in
+the order of the lives."#;
 
 /// What `audit` does.
 const AUDIT: &str =
@@ -78,13 +79,16 @@ determinant, and the members that are struck."#;
 
 /// What `check` does.
 const CHECK: &str =
-    "Checks a dump, which is JSON, and prints which receipts could be lost with an orphan left";
+    "Checks a dump, which is JSON, and prints which receipts could be lost, or were undone, with an orphan left";
 
 /// What a check asks.
 const CHECK_EXAMPLE: &str =
     r#"It asks of all sets of members that have the struck ones and are at most f, or as many as are struck: where one of
 them is lost, does a member that is left depend on a receipt that nobody left holds? It prints "safe" where none does,
 and else each such receipt, with the least set that loses it and the orphans that are left. It reads what `audit` reads.
+
+Of a log it asks this at each moment, and K behind "at" is the place of the event that names the moment. A line "undone" is of
+a receipt that the restart at K undid, while its orphans still depend on it at the end: the recovery gathered too little.
 
   echo '{"members":3,"f":1,"strike":[],"held":[[1,0,1,1,1],[2,1,1,2,1]],
    "events":[["send",0,1,1],["receipt",1,1,0,1],["send",1,1,2],["receipt",2,1,1,1]]}' | fblrun check"#;
@@ -95,7 +99,10 @@ const DRAW: &str = "Draws a dump, which is JSON, as SVG";
 /// A first picture.
 const DRAW_EXAMPLE: &str =
     r#"A dump is what `audit` reads. The picture has a line for each member, a mark for each event and an arrow for
-each message; what a mark is stands in its tooltip. A first one, with a lost receipt and an orphan:
+each message; what a mark is stands in its tooltip. It shows what the first line of a check says: an unsafe receipt, of a log
+at its moment, or one that a restart undid, at the end. Where there is no such line, or where the strike set of a dump leaves
+an orphan, it shows what an audit finds. A log of more than 200 events with such a line is drawn around the line's K. A first
+one, with a lost receipt and an orphan:
 
   echo '{"members":3,"f":1,"strike":[1],"held":[[1,0,1,1,1],[2,1,1,2,1]],
    "events":[["send",0,1,1],["receipt",1,1,0,1],["send",1,1,2],["receipt",2,1,1,1]]}' | fblrun draw -o dump.svg"#;
@@ -125,7 +132,7 @@ const EXPLAIN_AUDIT: &str =
 
 /// What `--explain` does where a dump is checked.
 const EXPLAIN_CHECK: &str =
-    "Tells on standard error what stands and what is wanted where the dump has a fault, and of each unsafe receipt who holds it, and a path to each orphan";
+    "Tells on standard error what stands and what is wanted where the dump has a fault, and of each unsafe or undone receipt who holds it, and a path to each orphan";
 
 /// What `--explain` does where a dump is drawn, or several are merged.
 const EXPLAIN_DRAW: &str =

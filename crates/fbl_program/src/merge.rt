@@ -7,7 +7,7 @@ ghost use Rattle.fbl_program.specs.Merges.{AreTogether, IsMergeOf, RefusesMerge,
 use crate::status::{INPUT_FAULT, MEMORY_FAULT};
 use fbl_dumps::{DumpRefusal, RawDump};
 use fbl_order::{
-    FilesDiffer, OrderFault, Ordered, order_dump, order_log, union_of_dumps, union_of_logs,
+    FilesDiffer, OrderFault, Ordered, order_dump, order_union, union_of_dumps, union_of_logs,
 };
 use fbl_records::{RawRecording, Recording};
 use fbl_runs::RawLog;
@@ -154,7 +154,7 @@ pub(crate) fn in_one_version(
 }
 
 /// What the files have together, its events in an order in which each member's own stand as the files have them, one file's behind
-/// another's.
+/// another's, and of logs its pieces by their lives.
 pub(crate) fn merge_of(alloc: Global, files: &Together) -> Result<Ordered<Recording>, MergeFault>
     requires { 0 < count_of files.now }
     ensures merged { IfOk result (IsMergeOf files.now) }
@@ -169,7 +169,7 @@ pub(crate) fn merge_of(alloc: Global, files: &Together) -> Result<Ordered<Record
         }
         Together::Logs(logs) => {
             let whole = union_of_logs(alloc, logs.as_slice())?;
-            let Ordered { run, places } = order_log(alloc, whole)?;
+            let Ordered { run, places } = order_union(alloc, whole)?;
             let run = Recording::Log(run);
             Ok(Ordered { run, places })
         }

@@ -1,6 +1,6 @@
 -- What a pass over the entries of a log with restarts finds of the receipts that stand.
-use Rattle.fbl_runs.proofs.Common.{ℕ, zero, suc, Bool, true, false, cond, ◌≡◌, ◌≢◌, ◌<◌, ◌≤◌, ◌+◌, ◌↔◌, ◌⊎◌, inl, inr, List, [], ◌∷◌, ◌++◌, length, take, Option, Some, None, slice_get, refl, sym, ap, subst, ◌∙◌, arith, cases_lt, slice_get_within, receipt_of, send_of, false≢true}
-use Rattle.fbl_runs.proofs.Common.{Determinant, Mark, Send, Receipt, Entry, Event, Hold, LaterReceipt, Restart, Store, Tell, Told, Carries, IsAt, Logs, at, log_of, mark_in, named_life, receipt_in, standing, StandsInLife}
+use Rattle.fbl_runs.proofs.Common.{ℕ, zero, suc, Bool, cond, ◌≡◌, ◌<◌, ◌≤◌, ◌+◌, ◌↔◌, inl, inr, List, [], ◌∷◌, length, Option, Some, slice_get, refl, sym, ap, subst, ◌∙◌, arith, cases_lt, slice_get_within, receipt_of, send_of}
+use Rattle.fbl_runs.proofs.Common.{Determinant, Mark, Send, Receipt, Entry, Event, Hold, LaterReceipt, Restart, Store, Tell, Told, Carries, IsAt, Logs, at, log_of, mark_in, receipt_in, standing}
 use Rattle.std.proofs.Common.{count_by, map}
 use Rattle.std.specs.Option.{option_and_then}
 use Rattle.fbl_trace.specs.Events.{determinant_of}
@@ -10,7 +10,7 @@ use Rattle.fbl_runs.specs.declared.lives.Lives.{Lives}
 use Rattle.fbl_runs.specs.declared.lives.StandingEvent.{StandingEvent}
 use Rattle.fbl_runs.specs.KnownLives.{AreEvents, HasLived}
 use Rattle.fbl_runs.specs.LifeRules.{TakesSend}
-use Rattle.fbl_runs.specs.Rules.{IsDue, IsReached, IsSentInLife, IsTaken, entries_at, is_receipt, is_send}
+use Rattle.fbl_runs.specs.Rules.{IsDue, IsReached, IsSentInLife, IsTaken, entries_at}
 use Rattle.fbl_runs.proofs.LifeLaws.{contains_from_in, in_from_contains}
 use Rattle.fbl_runs.proofs.LeadsLaws.{sent_once}
 

@@ -1,6 +1,6 @@
 -- What an index finds.
-use Rattle.fbl_runs.proofs.Common.{ℕ, zero, suc, Bool, true, false, cond, ◌≡◌, ◌≢◌, ◌<◌, ◌≤◌, ◌+◌, ◌↔◌, ◌⊎◌, inl, inr, List, [], ◌∷◌, ◌++◌, length, take, Option, Some, None, slice_get, refl, sym, ap, subst, ◌∙◌, arith}
-use Rattle.fbl_runs.proofs.Common.{cases_eq, cases_lt, slice_get_within, At-push, slice_get-take, Determinant, Mark, recorded_in, restart_in, mark_in, Entry, Hold, Restart, Store, entry_member, log_of, Logs, IsAt, Position, at, Cut, HasCome, HoldsAt, IsStoredAt, Stands, StandsBehind, standing}
+use Rattle.fbl_runs.proofs.Common.{ℕ, zero, suc, Bool, true, false, cond, ◌≡◌, ◌<◌, ◌≤◌, ◌+◌, ◌↔◌, ◌⊎◌, inl, inr, List, [], ◌∷◌, length, take, Option, Some, None, slice_get, refl, sym, ap, subst, ◌∙◌, arith}
+use Rattle.fbl_runs.proofs.Common.{cases_eq, cases_lt, slice_get_within, Determinant, Mark, recorded_in, restart_in, mark_in, Entry, Hold, Store, entry_member, log_of, Logs, IsAt, Position, at, Cut, HasCome, HoldsAt, IsStoredAt, Stands, standing}
 use Rattle.std.proofs.Common.{◌-◌, drop}
 use Rattle.std.specs.List.{Contains}
 use Rattle.std.proofs.lemmas.List.Elements.{Contains-append_left, Contains-push_cases}

@@ -1,20 +1,19 @@
 -- What a pass knows of the members' lives finds sends.
-use Rattle.fbl_runs.proofs.Common.{ℕ, zero, suc, ◌≡◌, ◌≢◌, ◌<◌, ◌≤◌, ◌+◌, ◌⊎◌, inl, inr, List, [], ◌∷◌, length, take, Option, Some, None, slice_get, refl, sym, ap, subst, ◌∙◌, arith}
+use Rattle.fbl_runs.proofs.Common.{ℕ, zero, suc, ◌≡◌, ◌≢◌, ◌<◌, ◌≤◌, ◌+◌, inl, inr, List, [], ◌∷◌, length, take, Option, Some, None, slice_get, refl, sym, ap, subst, ◌∙◌, arith}
 use Rattle.fbl_runs.proofs.Common.{cases_lt, slice_get_within}
-use Rattle.fbl_runs.proofs.Common.{Mark, Send, Entry, Event, Restart, restart_in, log_of, at, IsAt, entry_member}
+use Rattle.fbl_runs.proofs.Common.{Send, Entry, Event, Restart, restart_in, log_of, at, IsAt}
 use Rattle.std.proofs.Common.{map, ◌-◌}
-use Rattle.std.proofs.lemmas.List.{length-map}
 use Rattle.fbl_trace.proofs.Gets.{map-At}
 use Rattle.fbl_runs.specs.declared.lives.Life.{Life}
 use Rattle.fbl_runs.specs.declared.lives.Lives.{Lives}
 use Rattle.fbl_runs.specs.declared.lives.StandingEvent.{StandingEvent}
 use Rattle.fbl_runs.specs.declared.entry.Restart as restart
-use Rattle.fbl_runs.specs.KnownLives.{AreEvents, HasLived, IsBeginning, IsLastRestartBehind, IsLifeAt, IsLifeBehind, is_send_at, sends_behind, sent_to}
-use Rattle.fbl_runs.specs.Lives.{StandsInLife, life_after, life_in, standing}
+use Rattle.fbl_runs.specs.KnownLives.{HasLived, IsBeginning, IsLastRestartBehind, IsLifeAt, IsLifeBehind, is_send_at, sends_behind, sent_to}
+use Rattle.fbl_runs.specs.Lives.{life_after, life_in, standing}
 use Rattle.fbl_runs.specs.Rules.{IsSentInLife}
 use Rattle.fbl_runs.proofs.LifeLaws.{LivesRise, are_standing, life-more, restart_is, stands_in_life, take-none}
 use Rattle.fbl_runs.proofs.LeadsLaws.{lives_rise, sends_numbered}
-use Rattle.fbl_runs.proofs.Listing.{locate_all, some_entry}
+use Rattle.fbl_runs.proofs.Listing.{locate_all}
 use Rattle.fbl_runs.proofs.SendLaws.{from_filter, send_stands_at, sends_are_numbered}
 
 module _ (before : List Entry) (known : Lives) (has : HasLived before known) where

@@ -1,17 +1,16 @@
 -- What leads to an entry stands before it in the list, and what its message comes from is one entry.
-use Rattle.fbl_runs.proofs.Common.{ℕ, zero, suc, ◌≡◌, ◌≢◌, ◌<◌, ◌≤◌, ◌+◌, ◌⊎◌, inl, inr, List, [], ◌∷◌, ◌++◌, length, take, drop, Option, Some, None, slice_get, refl, sym, ap, subst, ◌∙◌, arith, add-one}
+use Rattle.fbl_runs.proofs.Common.{ℕ, ◌≡◌, ◌<◌, ◌≤◌, ◌+◌, inl, inr, List, ◌++◌, length, take, drop, Some, None, slice_get, refl, sym, ap, subst, ◌∙◌, arith}
 use Rattle.fbl_runs.proofs.Common.{cases_lt, cases_order, length-append, length-take, slice_get_within, slice_get-take, take-append-drop, filter-append}
-use Rattle.fbl_runs.proofs.Common.{Mark, Send, Receipt, Determinant, ControlMessage, Entry, Event, Hold, LaterReceipt, Restart, Store, Tell, Told, mark_in, restart_in, named_life, send_of}
-use Rattle.fbl_runs.proofs.Common.{Causality, Dependence, HappenedBefore, Begins, Carries, IsAt, IsEarlier, Leads, Position, Precedes, StoodBefore, Tells, at, itself, step, entry_member, is_at, log_of, Logs}
-use Rattle.std.proofs.lemmas.List.{take-take, take-append-le, take_at}
-use Rattle.fbl_runs.specs.declared.entry.Restart as restart
+use Rattle.fbl_runs.proofs.Common.{Mark, Send, Receipt, Determinant, Entry, Event, Hold, LaterReceipt, Restart, Store, Tell, Told, mark_in, named_life, send_of}
+use Rattle.fbl_runs.proofs.Common.{Causality, Dependence, HappenedBefore, Begins, Carries, IsAt, IsEarlier, Leads, Position, Precedes, Tells, at, itself, step, entry_member, is_at, log_of}
+use Rattle.std.proofs.lemmas.List.{take-take, take_at}
 use Rattle.fbl_runs.specs.Clocks.{StandsAt, seen}
 use Rattle.fbl_runs.specs.ControlMessages.{AreTold, MayBeTold}
-use Rattle.fbl_runs.specs.Lives.{StandsBehind, StandsInLife, life_in, standing}
+use Rattle.fbl_runs.specs.Lives.{StandsBehind, StandsInLife, life_in}
 use Rattle.fbl_runs.specs.Rules.{AreLawful, IsLawful, IsSentInLife, sends_standing}
 use Rattle.fbl_runs.proofs.ControlLaws.{told_before, tell_once}
-use Rattle.fbl_runs.proofs.LifeLaws.{LivesRise, begun_once, get_from_take, life_begun, life_le}
-use Rattle.fbl_runs.proofs.Listing.{locate_all, placed, seen_mono, seen-later, seen-all, stands_at}
+use Rattle.fbl_runs.proofs.LifeLaws.{LivesRise, begun_once, get_from_take, life_le}
+use Rattle.fbl_runs.proofs.Listing.{locate_all, seen_mono, seen-later, stands_at}
 use Rattle.fbl_runs.proofs.SendLaws.{SendsNumbered, one_in_life}
 
 -- ---- positions

@@ -1,12 +1,11 @@
 -- Which entries stand behind which, in one member's log.
-use Rattle.fbl_runs.proofs.Common.{ℕ, zero, suc, ◌≡◌, ◌≢◌, ◌<◌, ◌≤◌, ◌+◌, ◌⊎◌, ◌↔◌, inl, inr, List, [], ◌∷◌, ◌++◌, length, take, drop, Option, Some, None, slice_get, refl, sym, ap, subst, ◌∙◌, arith, add-one, get_or}
+use Rattle.fbl_runs.proofs.Common.{ℕ, zero, suc, ◌≡◌, ◌≢◌, ◌<◌, ◌≤◌, ◌+◌, ◌⊎◌, ◌↔◌, inl, inr, List, [], ◌∷◌, ◌++◌, length, take, drop, Option, Some, None, slice_get, refl, sym, ap, subst, ◌∙◌, arith, add-one}
 use Rattle.std.proofs.Common.{◌-◌}
-use Rattle.fbl_runs.proofs.Common.{cases_eq, cases_lt, cases_order, length-append, length-take, slice_get_within, slice_get_read, At-front, At-push, At-seam, slice_get-take, take-more, take_all, take-append-drop}
-use Rattle.fbl_runs.proofs.Common.{Mark, Send, Receipt, Entry, Event, Hold, LaterReceipt, Restart, Store, Tell, Told, mark_in, restart_in}
+use Rattle.fbl_runs.proofs.Common.{cases_eq, cases_lt, cases_order, length-take, slice_get_within, slice_get_read, At-front, At-push, At-seam, slice_get-take, take-more, take-append-drop}
+use Rattle.fbl_runs.proofs.Common.{Mark, Entry, Event, Hold, LaterReceipt, Restart, Store, Tell, Told, mark_in, restart_in}
 use Rattle.fbl_trace.proofs.Common.{Contains, get_or_from_slice_get}
-use Rattle.std.proofs.lemmas.List.{take-take}
 use Rattle.fbl_runs.specs.declared.entry.Restart as restart
-use Rattle.fbl_runs.specs.Lives.{IsUndoneBy, StandsBehind, StandsInLife, life_after, life_from, life_in, standing, standing_from, stood_after}
+use Rattle.fbl_runs.specs.Lives.{IsUndoneBy, StandsBehind, life_after, life_from, life_in, standing, standing_from, stood_after}
 
 -- ---- what a list has
 

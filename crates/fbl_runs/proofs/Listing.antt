@@ -1,8 +1,8 @@
 -- Where the entries of a list stand in the members' logs.
 use Rattle.fbl_runs.proofs.Common.{ℕ, zero, suc, true, false, cond, ◌≡◌, ◌≢◌, ◌==◌, ◌<◌, ◌≤◌, ◌+◌, inl, inr, List, [], ◌∷◌, ◌++◌, length, take, drop, Some, slice_get}
-use Rattle.fbl_runs.proofs.Common.{refl, sym, ap, subst, ◌∙◌, arith, nat_tests, cases_eq, cases_order, append-nil, length-append, filter-append, filter_map-append}
-use Rattle.fbl_runs.proofs.Common.{At-filter_map, At-front, At-seam, filter_map-At, slice_get-take, slice_get_within, take-more, take-append-drop, take_all, length-take}
-use Rattle.fbl_runs.proofs.Common.{Entry, Event, Hold, Store, Tell, Told, entry_member, is_at, log_of, mark_in, marks, IsAt, Position, at}
+use Rattle.fbl_runs.proofs.Common.{refl, sym, ap, subst, ◌∙◌, arith, nat_tests, cases_eq, append-nil, length-append, filter-append}
+use Rattle.fbl_runs.proofs.Common.{At-front, At-seam, slice_get-take, slice_get_within, take-more, take-append-drop, take_all}
+use Rattle.fbl_runs.proofs.Common.{Entry, entry_member, is_at, log_of, IsAt, Position, at}
 use Rattle.std.proofs.lemmas.List.{take-take}
 use Rattle.fbl_runs.specs.Clocks.{StandsAt, seen}
 

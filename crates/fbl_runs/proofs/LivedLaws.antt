@@ -1,11 +1,11 @@
 -- What a pass knows of the members' lives, behind one entry more.
-use Rattle.fbl_runs.proofs.Common.{ℕ, zero, suc, Bool, true, false, cond, ◌≡◌, ◌≢◌, ◌<◌, ◌≤◌, ◌+◌, ◌⊎◌, inl, inr, List, [], ◌∷◌, ◌++◌, length, take, drop, Option, Some, None, slice_get, refl, sym, ap, subst, ◌∙◌, arith, append-nil, add-one}
-use Rattle.fbl_runs.proofs.Common.{cases_eq, cases_lt, cases_order, length-append, length-take, slice_get_within, slice_get_read, At-front, At-push, At-seam, slice_get-take, take_all, filter-append, false≢true}
+use Rattle.fbl_runs.proofs.Common.{ℕ, zero, suc, Bool, true, false, cond, ◌≡◌, ◌≢◌, ◌<◌, ◌≤◌, ◌+◌, ◌⊎◌, inl, inr, List, [], ◌∷◌, ◌++◌, length, take, Option, Some, None, slice_get, refl, sym, ap, subst, ◌∙◌, arith, append-nil}
+use Rattle.fbl_runs.proofs.Common.{cases_eq, cases_lt, length-append, slice_get_within, At-front, At-push, At-seam, take_all, filter-append, false≢true}
 use Rattle.fbl_trace.proofs.Common.{take-append-le}
 use Rattle.fbl_trace.proofs.Gets.{At-filter}
-use Rattle.fbl_runs.proofs.Common.{Mark, Send, Receipt, Determinant, ControlMessage, Entry, Event, Hold, LaterReceipt, Restart, Store, Tell, Told, mark_in, restart_in, entry_member, log_of, at, IsAt, Position}
+use Rattle.fbl_runs.proofs.Common.{Mark, Send, Receipt, ControlMessage, Entry, Event, Hold, LaterReceipt, Restart, Store, Tell, Told, mark_in, restart_in, entry_member, log_of, at, Position}
 use Rattle.std.proofs.Common.{map, set, length-set}
-use Rattle.std.proofs.lemmas.List.{map_push, take-map, length-map}
+use Rattle.std.proofs.lemmas.List.{map_push, take-map}
 use Rattle.std.proofs.lemmas.List.Sums.{length-filter}
 use Rattle.std.specs.List.{filter}
 use Rattle.std.specs.HashMap as hash_map
@@ -14,14 +14,14 @@ use Rattle.fbl_runs.specs.declared.lives.KnownLog.{KnownLog}
 use Rattle.fbl_runs.specs.declared.lives.Life.{Life}
 use Rattle.fbl_runs.specs.declared.lives.Lives.{Lives}
 use Rattle.fbl_runs.specs.declared.lives.StandingEvent.{StandingEvent}
-use Rattle.fbl_runs.specs.Clocks.{StandsAt, seen}
-use Rattle.fbl_runs.specs.ControlMessages.{AreEndsAllowed, Has, MayBeTold, same_control}
+use Rattle.fbl_runs.specs.Clocks.{StandsAt}
+use Rattle.fbl_runs.specs.ControlMessages.{AreEndsAllowed, same_control}
 use Rattle.fbl_runs.specs.Indexes.{ArePlaces}
 use Rattle.fbl_runs.specs.KnownLives.{AreEvents, HasLived, IsKnownLog, IsLastRestartBehind, IsLifeAt, IsLifeBehind, IsLifeOf, IsTellPlace, events_after, is_send_at, is_send_in, sends_behind, sent_now}
 use Rattle.fbl_runs.specs.Lives.{life_after, life_in, standing, stood_after}
 use Rattle.fbl_runs.specs.Rules.{AreLawful, IsLawful, is_restart, is_send, restarts}
-use Rattle.fbl_runs.proofs.LifeLaws.{LivesRise, get_from_take, life-push, life_le, restart_is, standing-push, standing_below}
-use Rattle.fbl_runs.proofs.Listing.{log_of-other, log_of-own, some_entry}
+use Rattle.fbl_runs.proofs.LifeLaws.{LivesRise, get_from_take, life-push, life_le, standing-push, standing_below}
+use Rattle.fbl_runs.proofs.Listing.{log_of-other, log_of-own}
 use Rattle.fbl_runs.proofs.RecordLaws.{set_get}
 use Rattle.fbl_runs.proofs.ControlLaws.{has_more, same_control-self, same_control-true}
 use Rattle.fbl_runs.proofs.LeadsLaws.{lives_rise}

@@ -1,13 +1,12 @@
 -- Logs in which no member restarts: what the rules of traces say of their entries.
-use Rattle.fbl_runs.proofs.Common.{ℕ, zero, suc, Bool, true, false, cond, ◌≡◌, ◌≢◌, ◌==◌, ◌<◌, ◌≤◌, ◌+◌, inl, inr, List, [], ◌∷◌, ◌++◌, length, take, drop, Option, Some, None, slice_get, refl, sym, ap, subst, ◌∙◌, arith, append-nil}
-use Rattle.fbl_runs.proofs.Common.{cases_eq, nat_tests, slice_get_within, length-append, length-take, take-more, take_all, take-append-drop, At-seam, filter_map, filter_map-append, At-filter_map, false≢true, in_flight-sent}
-use Rattle.fbl_runs.proofs.Common.{Determinant, Mark, Send, Receipt, Entry, Event, Hold, LaterReceipt, Restart, Store, Tell, Told, entry_member, log_of, mark_in, marks, restart_in, IsAt, Position, at, StandsBehind, StandsInLife, life_in, standing, WellFormed, MayFollow, WellFormed-front, MayFollow-last}
+use Rattle.fbl_runs.proofs.Common.{ℕ, zero, suc, Bool, true, false, cond, ◌≡◌, ◌≢◌, ◌==◌, ◌<◌, ◌+◌, inl, inr, List, [], ◌∷◌, ◌++◌, length, take, drop, Option, Some, None, slice_get, refl, sym, ap, ◌∙◌, arith, append-nil}
+use Rattle.fbl_runs.proofs.Common.{cases_eq, nat_tests, slice_get_within, take-more, take_all, take-append-drop, At-seam, filter_map-append, At-filter_map, false≢true, in_flight-sent}
+use Rattle.fbl_runs.proofs.Common.{Mark, Send, Receipt, Entry, Event, Hold, LaterReceipt, Restart, Store, Tell, Told, entry_member, log_of, mark_in, marks, restart_in, StandsInLife, life_in, standing, WellFormed, MayFollow, WellFormed-front, MayFollow-last}
 use Rattle.std.proofs.Common.{count_by, ◌||◌}
 use Rattle.std.specs.List.{cons_option, list_any}
 use Rattle.std.proofs.lemmas.List.Sums.{sum_by_push}
 use Rattle.fbl_trace.proofs.RulesLaws.{sends-step}
-use Rattle.fbl_trace.specs.Rules.{is_send_of, sends_of}
-use Rattle.fbl_runs.specs.declared.entry.Restart as restart
+use Rattle.fbl_trace.specs.Rules.{sends_of}
 use Rattle.fbl_runs.specs.Clocks.{seen}
 use Rattle.fbl_runs.specs.ControlMessages.{AreTold}
 use Rattle.fbl_runs.specs.Lives.{life_after, life_from}

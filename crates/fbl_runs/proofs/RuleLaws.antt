@@ -1,5 +1,5 @@
 -- The rules of a log with restarts: an entry that breaks one does not obey them.
-use Rattle.fbl_runs.proofs.Common.{ℕ, ◌≡◌, ◌+◌, ◌<◌, ◌≤◌, ◌⊎◌, ◌∙◌, inl, inr, List, Option, Some, None, length, sym, ap, subst, arith, take, Mark, Send, Receipt, Entry, log_of, mark_in, marks, named_life, restart_in}
+use Rattle.fbl_runs.proofs.Common.{ℕ, ◌∙◌, inl, inr, List, sym, arith, take, Mark, Entry, named_life}
 use Rattle.fbl_trace.specs.Configs.{IsFirstBreach}
 use Rattle.fbl_runs.specs.declared.entry.Restart as restart
 use Rattle.fbl_runs.specs.declared.fault.LifeFault.{LifeFault}

@@ -1,24 +1,24 @@
 -- Which entries are those of a run.
 use Rattle.std.specs.Option.{is_some}
-use Rattle.fbl_runs.proofs.Common.{Bool, Option, None, true, false, ℕ, zero, suc, ◌≡◌, ◌<◌, ◌≤◌, ◌+◌, ◌↔◌, ◌⊎◌, inl, inr, List, [], ◌∷◌, ◌++◌, length, Some, slice_get, refl, sym, ap, subst, ◌∙◌, arith, take, append-nil, take-more, filter_map, filter_map-append, length-append, false≢true}
-use Rattle.fbl_runs.proofs.Common.{cases_lt, slice_get_within, receipt_of, Determinant, Mark, Send, Receipt, Entry, Event, Hold, LaterReceipt, Restart, Store, Tell, Told, entry_member, log_of, mark_in, marks, named_life, recorded_in, restart_in, at, IsKnownTo, HappenedBefore, WellFormed}
+use Rattle.fbl_runs.proofs.Common.{Bool, Option, None, true, false, ℕ, zero, suc, ◌≡◌, ◌<◌, ◌≤◌, ◌+◌, ◌↔◌, ◌⊎◌, inl, inr, List, [], ◌∷◌, ◌++◌, length, Some, slice_get, refl, sym, ap, subst, ◌∙◌, arith, take, append-nil, take-more, filter_map, filter_map-append, length-append}
+use Rattle.fbl_runs.proofs.Common.{cases_lt, slice_get_within, receipt_of, Determinant, Mark, Send, Receipt, Entry, Event, Hold, LaterReceipt, Restart, Store, Tell, Told, entry_member, log_of, mark_in, marks, recorded_in, at, IsKnownTo, HappenedBefore}
 use Rattle.fbl_dumps.specs.Dumps.{IsDump, Parts}
 use Rattle.fbl_dumps.proofs.DumpLaws.{member_below}
-use Rattle.std.proofs.Common.{map, ◌||◌}
+use Rattle.std.proofs.Common.{map}
 use Rattle.std.specs.List.{list_any}
 use Rattle.fbl_trace.specs.Configs.{FAllowed, MembersAllowed}
 use Rattle.fbl_trace.specs.MemberSets.{AllBelow}
 use Rattle.fbl_runs.specs.declared.fault.RecordRule.{RecordRule}
 use Rattle.fbl_runs.specs.declared.fault.RecordRule.TheVariants.{NotBefore, Outside, TooMany}
 use Rattle.fbl_runs.specs.Clocks.{seen}
-use Rattle.fbl_runs.specs.ControlMessages.{AreTold, MayBeTold}
+use Rattle.fbl_runs.specs.ControlMessages.{MayBeTold}
 use Rattle.fbl_runs.specs.Lawful.{BreaksAt, IsKnownAt, ObeysAt, records}
 use Rattle.fbl_dumps.specs.declared.refusal.DumpRefusal.{DumpRefusal}
 use Rattle.fbl_trace.specs.Configs.{IsFirstBreach}
 use Rattle.fbl_runs.specs.declared.fault.LogBreach.{LogBreach}
 use Rattle.fbl_runs.specs.declared.fault.RecordFault.{RecordFault}
 use Rattle.fbl_runs.specs.Lawful.{IsFirstBad}
-use Rattle.fbl_runs.specs.Logs.{FollowRules, IsBreachBy, IsLog, IsLogBreach, IsRun, RefusesBy, RefusesLog, RunParts, hold_of, run_of_dump, trace_of}
+use Rattle.fbl_runs.specs.Logs.{FollowRules, IsBreachBy, IsLog, IsLogBreach, IsRun, RefusesBy, RefusesLog, RunParts, hold_of, run_of_dump}
 use Rattle.fbl_runs.specs.Rules.{AreLawful, FollowsAt, IsLawful, MayFollow, has_life, have_lives}
 use Rattle.fbl_runs.proofs.Common.{Causality, Logs, IsAt, IsReceiptAt, Position, Precedes, itself, step, receipt_in, cases_eq}
 use Rattle.fbl_runs.specs.Clocks.{StandsAt}

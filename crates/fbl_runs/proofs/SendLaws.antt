@@ -1,15 +1,15 @@
 -- The sends that stand, in one member's log: in order they have the numbers from 1 on, and one in a life has each number.
-use Rattle.fbl_runs.proofs.Common.{ℕ, zero, suc, Bool, true, false, cond, ◌≡◌, ◌≢◌, ◌<◌, ◌≤◌, ◌+◌, ◌⊎◌, inl, inr, List, [], ◌∷◌, ◌++◌, length, take, drop, Option, Some, None, slice_get, refl, sym, ap, subst, ◌∙◌, arith, append-nil}
-use Rattle.fbl_runs.proofs.Common.{cases_lt, slice_get_within, At-front, At-push, At-seam, take-append-drop, filter-append, false≢true, slice_get-take}
+use Rattle.fbl_runs.proofs.Common.{ℕ, zero, suc, Bool, true, false, cond, ◌≡◌, ◌<◌, ◌+◌, inl, inr, List, [], ◌∷◌, ◌++◌, length, take, drop, Option, Some, None, slice_get, refl, sym, ap, subst, ◌∙◌, arith, append-nil}
+use Rattle.fbl_runs.proofs.Common.{cases_lt, At-front, At-push, take-append-drop, filter-append, false≢true, slice_get-take}
 use Rattle.fbl_runs.proofs.Common.{Mark, Send, Receipt, Entry, Event, Hold, LaterReceipt, Restart, Store, Tell, Told, mark_in, restart_in}
 use Rattle.std.proofs.Common.{count_by}
 use Rattle.std.proofs.lemmas.List.Sums.{length-filter}
 use Rattle.std.specs.List.{cons_option, filter}
 use Rattle.fbl_runs.specs.declared.entry.Restart as restart
 use Rattle.fbl_runs.specs.KnownLives.{is_send_at, is_send_in, sends_behind}
-use Rattle.fbl_runs.specs.Lives.{StandsBehind, StandsInLife, life_in, standing, stood_after}
+use Rattle.fbl_runs.specs.Lives.{StandsBehind, StandsInLife, standing, stood_after}
 use Rattle.fbl_runs.specs.Rules.{entries_at, is_send, sends_standing}
-use Rattle.fbl_runs.proofs.LifeLaws.{IsEventAt, IsIn, LivesRise, are_standing, get_from_take, standing-more, standing_below, stands_in_life, take-none}
+use Rattle.fbl_runs.proofs.LifeLaws.{IsIn, LivesRise, are_standing, get_from_take, standing-more, standing_below, stands_in_life, take-none}
 
 -- ---- what a filter keeps
 

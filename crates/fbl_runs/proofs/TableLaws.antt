@@ -1,5 +1,5 @@
 -- What the tables of an index keep.
-use Rattle.fbl_runs.proofs.Common.{ℕ, zero, suc, Bool, true, false, cond, ◌≡◌, ◌≢◌, ◌==◌, ◌<◌, ◌≤◌, ◌+◌, inl, inr, List, [], ◌∷◌, ◌++◌, length, Option, Some, None, slice_get, refl, sym, ap, subst, ◌∙◌, arith}
+use Rattle.fbl_runs.proofs.Common.{ℕ, zero, suc, Bool, true, false, cond, ◌≡◌, ◌<◌, inl, inr, List, [], ◌∷◌, ◌++◌, length, Option, Some, None, slice_get, refl, sym, ap, subst, ◌∙◌, arith}
 use Rattle.fbl_runs.proofs.Common.{slice_get_within, length-append, At-front, At-seam, At-push, Determinant, receipt_in, Entry, entry_member, log_of, at}
 use Rattle.std.proofs.Common.{set, length-set, replicate}
 use Rattle.std.specs.Option.{option_or}

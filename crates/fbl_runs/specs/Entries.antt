@@ -1,5 +1,5 @@
 -- The entries of a run's log: sends and receipts, from when on a determinant is held or stored, control messages, and restarts.
-use Rattle.std.specs.Prelude.{ℕ, ◌≡◌, ◌==◌, ◌⊎◌, Bool, List, Option, Some, None, option_and_then}
+use Rattle.std.specs.Prelude.{ℕ, ◌≡◌, ◌==◌, Bool, List, Option, Some, None, option_and_then}
 use Rattle.std.specs.List.{filter, filter_map}
 use Rattle.fbl_trace.specs.declared.trace.Determinant.{Determinant}
 use Rattle.fbl_trace.specs.declared.trace.Mark.{Mark}

@@ -1,8 +1,8 @@
 -- What a pass over entries knows of the members' lives.
-use Rattle.std.specs.Prelude.{ℕ, ◌≡◌, ◌≢◌, ◌+◌, ◌<◌, ◌≤◌, ◌++◌, ◌∷◌, Bool, true, false, List, [], Option, Some, None, filter, length, map, slice_get, take, if◌then◌else◌}
+use Rattle.std.specs.Prelude.{ℕ, ◌≡◌, ◌≢◌, ◌+◌, ◌<◌, ◌≤◌, ◌++◌, ◌∷◌, Bool, false, List, [], Option, Some, None, filter, length, map, slice_get, take, if◌then◌else◌}
 use Rattle.std.specs.HashMap as hash_map
 use Rattle.fbl_trace.specs.declared.trace.Mark.{Mark}
-use Rattle.fbl_trace.specs.declared.trace.Mark.TheVariants.{Receipt, Send}
+use Rattle.fbl_trace.specs.declared.trace.Mark.TheVariants.{Send}
 use Rattle.fbl_runs.specs.declared.control.ControlMessage.{ControlMessage}
 use Rattle.fbl_runs.specs.declared.entry.Entry.{Entry}
 use Rattle.fbl_runs.specs.declared.entry.Entry.TheVariants.{Event, Restart, Tell}

@@ -7,7 +7,7 @@ use Rattle.fbl_runs.specs.declared.entry.Entry.TheVariants.{Restart}
 use Rattle.fbl_runs.specs.declared.links.Link.{Link}
 use Rattle.fbl_runs.specs.declared.lives.StandingEvent.{StandingEvent}
 use Rattle.fbl_runs.specs.Clocks.{StandsAt}
-use Rattle.fbl_runs.specs.Entries.{Logs, entry_member, log_of}
+use Rattle.fbl_runs.specs.Entries.{Logs, log_of}
 use Rattle.fbl_runs.specs.HappenedBefore.{Begins, Carries, IsAt, IsEarlier, Position, StoodBefore, Tells, at}
 use Rattle.fbl_runs.specs.Lives.{IsUndoneBy}
 

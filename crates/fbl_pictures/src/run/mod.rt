@@ -10,19 +10,20 @@ mod paths;
 mod standing;
 mod window;
 
-ghost use Rattle.std.specs.Prelude.{◌≡◌, ◌≤◌, ◌<◌, ℕ, IfOk, IfSome, count_by, length, string_bytes};
+ghost use Rattle.std.specs.Prelude.{◌≡◌, ◌≤◌, ◌<◌, ℕ, IfOk, IfSome, MatchOption, count_by, length, string_bytes};
 ghost use Rattle.fbl_input.specs.Faults.{PutsOut};
 ghost use Rattle.fbl_runs.specs.Clocks.{cut_of};
 ghost use Rattle.fbl_runs.specs.Entries.{log_of};
 ghost use Rattle.fbl_runs.specs.HappenedBefore.{Position};
 ghost use Rattle.fbl_runs.specs.declared.judged.Judged.TheVariants.{AtEachMoment, AtItsEnd};
 ghost use Rattle.fbl_judge.specs.Audits.{AreNamed, IsAudit};
+ghost use Rattle.fbl_judge.specs.Undone.{IsSaidUndone};
 ghost use Rattle.fbl_judge.specs.Unsafe.{IsSaidOf};
-ghost use Rattle.fbl_pictures.specs.RunPictures.{IsAuditedPicture, IsFindingText, IsPlaceText, IsRunPicture, IsUnsafePicture, counted as counted_of, drawn_around, run_heading as run_heading_of, things as things_of};
+ghost use Rattle.fbl_pictures.specs.RunPictures.{IsAuditedPicture, IsFindingText, IsFirstUndone, IsPlaceText, IsRunPicture, IsUndonePicture, IsUnsafePicture, LeavesNone, counted as counted_of, drawn_around, run_heading as run_heading_of, things as things_of};
 ghost use Rattle.fbl_pictures.specs.RunShapes.{AreShapesOf, is_event, shown_entries as shown_entries_of};
 ghost use Rattle.fbl_pictures.specs.Windows.{window_around};
 
-use crate::headings::{audit_words, escaped_text, heading, part_words, unsafe_words};
+use crate::headings::{audit_words, escaped_text, heading, part_words, undone_words, unsafe_words};
 use crate::names::push_any;
 use crate::run::arrows::{push_arrows, push_stubs, sources_of};
 use crate::run::finding::Finding;
@@ -34,12 +35,15 @@ use crate::run::window::Window;
 use crate::svg::picture_text;
 use fbl_history::Shape;
 use fbl_input::{OutputFault, Sources, put, spot_text};
-use fbl_judge::{Audit, LostReceipt, Pasts, UnsafeReceipt, audit_of, first_unsafe};
+use fbl_judge::{
+    Audit, LostReceipt, Pasts, UndoneReceipt, UnsafeReceipt, audit_of, first_unsafe,
+    undone_receipts,
+};
 use fbl_runs::{Entry, Judged};
 use std::alloc::{AllocError, Global};
 use std::io::Write;
 
-/// An unsafe log of more entries than these is drawn around its first unsafe moment.
+/// A log of more entries than these whose check is not safe is drawn around the place that the check names first.
 const MANY: usize = 200;
 
 /// How many of the entries are sends and receipts.
@@ -205,7 +209,7 @@ fn audited_text(
     finding_text(alloc, pasts, around, &finding, words.as_str())
 }
 
-/// The words for the moment at which a receipt is unsafe, if there is one.
+/// The words for the place that a check names of a receipt, if it names one.
 fn place_text(
     alloc: Global,
     sources: &Sources<'_>,
@@ -257,7 +261,8 @@ fn unsafe_text(
     finding_text(alloc, pasts, around, &finding, words.as_str())
 }
 
-/// The place around which an unsafe run is drawn: the one that is asked for, and else that of the moment, if there are many entries.
+/// The place around which a run is drawn whose check is not safe: the one that is asked for, and else the one that the check names, if there
+/// are many entries.
 fn place_around(pasts: &Pasts<'_>, asked: Option<usize>, at: Option<usize>) -> Option<usize>
     ensures { result ≡ drawn_around (length (shown_entries_of pasts.now)) asked at }
 {
@@ -287,6 +292,45 @@ fn said_text(
 {
     let around = place_around(pasts, asked, said.at);
     unsafe_text(alloc, pasts, sources, around, said)
+}
+
+/// The picture of the log with what is said of a receipt that a restart undid, around the place that is asked for, or around the restart if
+/// there are many entries.
+fn undone_text(
+    alloc: Global,
+    pasts: &Pasts<'_>,
+    sources: &Sources<'_>,
+    asked: Option<usize>,
+    said: &UndoneReceipt,
+) -> Result<String, AllocError>
+    requires judged { pasts.now.judged ≡ AtEachMoment }
+    requires said { (i : Position) × IsSaidUndone pasts.now i said.now }
+    requires asked { IfSome asked (λ place. place < length (shown_entries_of pasts.now)) }
+    ensures { IfOk result (λ text. IsUndonePicture pasts.now sources.now asked said.now (string_bytes text)) }
+{
+    let around = place_around(pasts, asked, Some(said.at));
+    let place = place_text(alloc, sources, Some(said.at))?;
+    let words = undone_words(alloc, &said.determinant, place.as_str(), said.orphans)?;
+    let receipts = [LostReceipt {
+        place: said.place,
+        determinant: said.determinant,
+    }];
+    let finding = Finding {
+        strike: pasts.run().strike(),
+        orphans: said.orphans,
+        receipts: &receipts,
+        at: None,
+        moment: pasts.last(),
+    };
+    finding_text(alloc, pasts, around, &finding, words.as_str())
+}
+
+/// The first receipt that a restart undid and that leaves orphans at the end.
+fn first_undone(alloc: Global, pasts: &Pasts<'_>) -> Result<Option<UndoneReceipt>, AllocError>
+    ensures { IfOk result (λ first. MatchOption first (LeavesNone pasts.now) (IsFirstUndone pasts.now)) }
+{
+    let undone = undone_receipts(alloc, pasts)?;
+    Ok(undone.as_slice().first().copied())
 }
 
 /// The picture of a run that is judged at its end.
@@ -321,9 +365,17 @@ fn moment_text(
     requires asked { IfSome asked (λ place. place < length (shown_entries_of pasts.now)) }
     ensures { IfOk result (λ text. IsRunPicture pasts.now sources.now asked (string_bytes text)) }
 {
-    match first_unsafe(pasts) {
-        Some(first) => said_text(alloc, pasts, sources, asked, &first),
-        None => audited_text(alloc, pasts, asked, &audit_of(alloc, pasts)?),
+    match (first_unsafe(pasts), first_undone(alloc, pasts)?) {
+        (None, None) => audited_text(alloc, pasts, asked, &audit_of(alloc, pasts)?),
+        (Some(said), None) => said_text(alloc, pasts, sources, asked, &said),
+        (None, Some(undone)) => undone_text(alloc, pasts, sources, asked, &undone),
+        (Some(said), Some(undone)) => {
+            if undone.place < said.place {
+                undone_text(alloc, pasts, sources, asked, &undone)
+            } else {
+                said_text(alloc, pasts, sources, asked, &said)
+            }
+        }
     }
 }
 
@@ -345,10 +397,11 @@ fn run_text(
 
 /// Draws the run, whose entries stand in these files, and writes the picture as SVG: a line for each member, a mark for each entry that is
 /// drawn, and an arrow for each message and each control message. Where a place is given, the 30 entries before it and the 30 behind it are
-/// drawn with its entry, and stubs of the arrows that leave these. Where the run is unsafe, the picture shows the first unsafe receipt, at
-/// its moment if the run is judged at each, and around that if the run has more than 200 entries and no place is given; but if the strike
-/// set leaves an orphan at the end at which the run is judged, and where the run is safe, it shows what an audit finds. The time taken is
-/// nearly linear in the entries.
+/// drawn with its entry, and stubs of the arrows that leave these. Where a check of the run says something, the picture shows what its first
+/// line says: an unsafe receipt, at its moment if the run is judged at each, or one that a restart undid, at the end; and that around the
+/// place which the line names, if the run has more than 200 entries and no place is given. But if the strike set leaves an orphan at the end
+/// at which the run is judged, and where the check says nothing, it shows what an audit finds. The time taken is nearly linear in the
+/// entries.
 pub fn write_run_picture<W: Write>(
     alloc: Global,
     pasts: &Pasts<'_>,

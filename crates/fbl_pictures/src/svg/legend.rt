@@ -96,7 +96,7 @@ const SIGNS: &[(Sign, &str)] = &[
     ),
     (
         Sign::Down,
-        "<path class='line down' d='M0 -4h20'/><text class='note' x='36' y='0'>struck member, down</text>",
+        "<path class='line down' d='M0 -4h20'/><text class='note' x='36' y='0'>member that is down</text>",
     ),
     (
         Sign::Strike,
@@ -116,11 +116,11 @@ const SIGNS: &[(Sign, &str)] = &[
     ),
     (
         Sign::Orphan,
-        "<path class='line orphan' d='M0 -4h20'/><text class='note' x='36' y='0'>orphan: depends on a lost receipt</text>",
+        "<path class='line orphan' d='M0 -4h20'/><text class='note' x='36' y='0'>orphan of a lost or undone receipt</text>",
     ),
     (
         Sign::Path,
-        "<path class='line path' d='M0 -4h14'/><path class='path-tip' d='M9 -10l12 6l-12 6z'/><text class='note' x='36' y='0'>path from a lost receipt to an orphan</text>",
+        "<path class='line path' d='M0 -4h14'/><path class='path-tip' d='M9 -10l12 6l-12 6z'/><text class='note' x='36' y='0'>path from a receipt to its orphan</text>",
     ),
     (
         Sign::Moment,

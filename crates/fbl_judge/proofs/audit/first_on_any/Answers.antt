@@ -1,4 +1,4 @@
-use Rattle.fbl_judge.proofs.Common.{arith, ◌≡◌, ◌+◌, ℕ, suc, subst, refl, Option, Some, None, Cut, DependsAt, length, log_of, cut_of, slice_get, slice_get_read, take}
+use Rattle.fbl_judge.proofs.Common.{arith, ◌≡◌, ◌+◌, ℕ, suc, subst, refl, Option, Some, None, DependsAt, length, log_of, cut_of, slice_get, slice_get_read, take}
 use Rattle.std.proofs.Common.{MatchOption}
 use Rattle.fbl_runs.proofs.Common.{take-more, take_all}
 use Rattle.fbl_judge.specs.Audits.{IsFirstOnAny}

@@ -1,4 +1,4 @@
-use Rattle.fbl_judge.proofs.Common.{Entry, List, arith, at, entry_member, false, false≢true, length, log_of, nat_tests, refl, slice_get_within, sym, true, ◌≡◌, ◌∙◌}
+use Rattle.fbl_judge.proofs.Common.{arith, at, entry_member, false, false≢true, log_of, nat_tests, refl, slice_get_within, sym, true, ◌≡◌, ◌∙◌}
 use Rattle.fbl_runs.specs.Clocks.{cut_of, seen}
 use Rattle.fbl_runs.proofs.LeadsLaws.{here_stands}
 use Rattle.fbl_judge.proofs.DependLaws.{least_within, receipt_at}

@@ -1,6 +1,5 @@
-use Rattle.fbl_judge.proofs.Common.{At-push, List, SameRestarts, Some, arith, inl, inr, length, log_of, refl, slice_get, slice_get_read, subst, suc, sym, take, ℕ, ◌++◌, ◌+◌, ◌<◌, ◌≡◌, ◌≤◌, ◌⊎◌, [], ◌∷◌, Cut}
+use Rattle.fbl_judge.proofs.Common.{List, SameRestarts, Some, arith, length, log_of, refl, slice_get, slice_get_read, subst, sym, take, ℕ, ◌+◌, ◌≡◌}
 use Rattle.std.proofs.lemmas.List.{take_all}
-use Rattle.fbl_trace.proofs.Gets.{take-more}
 use Rattle.fbl_runs.specs.Clocks.{cut_of}
 use Rattle.fbl_judge.specs.declared.view.View.{View}
 use Rattle.fbl_judge.specs.Candidates.{IsAny, IsOfLesser, IsOfViews}

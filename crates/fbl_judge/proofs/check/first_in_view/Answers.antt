@@ -1,4 +1,4 @@
-use Rattle.fbl_judge.proofs.Common.{arith, cases_lt, inl, inr, log_of, ℕ, ◌+◌, ◌<◌, ◌≡◌, ◌⊎◌, Cut}
+use Rattle.fbl_judge.proofs.Common.{arith, cases_lt, inl, inr, log_of, ◌+◌}
 use Rattle.fbl_runs.specs.Clocks.{cut_of}
 use Rattle.fbl_judge.specs.Candidates.{IsOfLesser, IsOfMember}
 use Rattle.fbl_judge.proofs.DependLaws.{receipt_at}

@@ -1,4 +1,4 @@
-use Rattle.fbl_judge.proofs.Common.{Position, arith, ap, at, cases_eq, entry_member, inl, inr, length, slice_get_within, subst, sym, ℕ, ◌<◌, ◌≡◌, ◌≤◌}
+use Rattle.fbl_judge.proofs.Common.{arith, ap, at, cases_eq, entry_member, inl, inr, length, subst, sym, ℕ, ◌<◌}
 use Rattle.fbl_runs.specs.Clocks.{seen}
 use Rattle.fbl_runs.proofs.LeadsLaws.{here_stands}
 use Rattle.fbl_judge.specs.Unsafe.{IsReceiptPlace}

@@ -1,4 +1,4 @@
-use Rattle.fbl_judge.proofs.Common.{Entry, List, ap, arith, at, entry_member, false≢true, slice_get_within, length, log_of, subst, sym, ◌<◌, ◌≡◌, ◌≤◌, ◌∙◌}
+use Rattle.fbl_judge.proofs.Common.{Entry, List, arith, at, entry_member, false≢true, slice_get_within, length, log_of, subst, sym, ◌<◌, ◌∙◌}
 use Rattle.fbl_runs.specs.Clocks.{StandsAt, cut_of, seen}
 use Rattle.fbl_runs.proofs.LeadsLaws.{here_stands}
 use Rattle.fbl_judge.proofs.MomentLaws.{last_there}

@@ -1,4 +1,4 @@
-use Rattle.fbl_judge.proofs.Common.{arith, ℕ, ◌≡◌, ◌↔◌, ◌∙◌, false, true, subst, sym, refl, log_of, nat_tests, slice_get_within, Cut, Stands, last_cut}
+use Rattle.fbl_judge.proofs.Common.{arith, ℕ, ◌≡◌, ◌↔◌, true, subst, refl, log_of, nat_tests, slice_get_within, Cut, Stands, last_cut}
 use Rattle.std.specs.FinSet as set
 use Rattle.fbl_runs.specs.Clocks.{cut_of}
 use Rattle.fbl_runs.specs.Logs.{run_of}

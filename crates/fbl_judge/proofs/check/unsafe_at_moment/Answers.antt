@@ -1,4 +1,4 @@
-use Rattle.fbl_judge.proofs.Common.{ap, at, entry_member, length, log_of, refl, slice_get_within, ◌≡◌, ◌∙◌}
+use Rattle.fbl_judge.proofs.Common.{ap, at, entry_member, log_of, refl, slice_get_within, ◌∙◌}
 use Rattle.fbl_runs.specs.Clocks.{cut_of, seen}
 use Rattle.fbl_runs.proofs.LeadsLaws.{here_stands}
 use Rattle.std.specs.FinSet as set

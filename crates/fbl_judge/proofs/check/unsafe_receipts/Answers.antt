@@ -1,4 +1,4 @@
-use Rattle.fbl_judge.proofs.Common.{arith, ap, at, entry_member, None, receipt_in, ◌≡◌, ◌∙◌, ◌≤◌, ◌<◌, subst, sym, [], ◌∷◌, inl, inr, refl, append-nil, append_assoc, List, Entry, length, Some, slice_get}
+use Rattle.fbl_judge.proofs.Common.{arith, ap, at, entry_member, ◌≤◌, ◌<◌, sym, [], ◌∷◌, inl, inr, refl, append-nil, append_assoc, List, Entry, length}
 use Rattle.std.proofs.lemmas.List.{drop_all}
 use Rattle.fbl_trace.proofs.Gets.{drop_next}
 use Rattle.fbl_runs.specs.Clocks.{seen}

@@ -1,8 +1,7 @@
-use Rattle.fbl_judge.proofs.Common.{ℕ, true, false, ◌≡◌, ◌<◌, ◌++◌, ◌∷◌, ◌∙◌, [], inl, inr, refl, sym, ap, subst, arith, cases_eq, Entry, Event, Hold, LaterReceipt, List, Option, None, Some, Store, Tell, Told, length, slice_get, slice_get_read, slice_get_within, restart_in, At-front, At-push, Restart}
+use Rattle.fbl_judge.proofs.Common.{ℕ, true, false, ◌≡◌, ◌∷◌, ◌∙◌, [], inl, inr, refl, sym, ap, subst, arith, cases_eq, Entry, Event, Hold, LaterReceipt, Some, Store, Tell, Told, length, slice_get, slice_get_read, slice_get_within, restart_in, At-front, At-push, Restart}
 use Rattle.fbl_trace.proofs.Gets.{At-seam}
 use Rattle.std.specs.Option.{is_some}
 use Rattle.fbl_runs.specs.declared.entry.Restart as restart
-use Rattle.fbl_judge.specs.Pasts.{IsRestartPlace}
 use Rattle.fbl_judge.proofs.pasts.restarts_of.Goals as goal
 use Rattle.fbl_judge.proofs.pasts.restarts_of.Goals.{then-is_some+in_ok-push, else-is_some}
 

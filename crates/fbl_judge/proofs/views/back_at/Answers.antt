@@ -1,4 +1,4 @@
-use Rattle.fbl_judge.proofs.Common.{arith, ap, at, entry_member, length, log_of, sym, subst, Position, ◌<◌, ◌≡◌, ◌≤◌, ◌+◌, ◌∙◌}
+use Rattle.fbl_judge.proofs.Common.{arith, at, entry_member, sym, subst, Position, ◌≡◌}
 use Rattle.fbl_runs.specs.Clocks.{StandsAt, seen}
 use Rattle.fbl_runs.proofs.LeadsLaws.{here_stands}
 use Rattle.fbl_judge.proofs.MomentLaws.{same_position}

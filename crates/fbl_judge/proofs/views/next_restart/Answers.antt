@@ -1,5 +1,4 @@
-use Rattle.fbl_judge.proofs.Common.{arith, ap, at, cases_eq, inl, inr, sym, subst, refl, ◌≡◌, ◌∙◌, ◌<◌, ◌≤◌, ◌+◌, ℕ, None, Some, Option, true, false, Entry, IsAt, Restart, length, log_of, restart_in, slice_get}
-use Rattle.fbl_runs.specs.declared.entry.Restart as restart
+use Rattle.fbl_judge.proofs.Common.{arith, ap, at, cases_eq, inl, inr, sym, subst, ◌≡◌, ◌∙◌, ℕ, Some, Restart, log_of, slice_get}
 use Rattle.fbl_judge.proofs.PlaceLaws.{entry_at, place_within, read_at}
 use Rattle.fbl_judge.proofs.RestartLaws.{is_restart, not_restart}
 use Rattle.fbl_judge.proofs.views.next_restart.Goals as goal

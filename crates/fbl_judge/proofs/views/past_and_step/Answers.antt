@@ -1,4 +1,3 @@
-use Rattle.fbl_judge.proofs.Common.{◌≡◌, Some, Entry, slice_get}
 use Rattle.fbl_runs.specs.Clocks.{cut_of}
 use Rattle.fbl_judge.proofs.PlaceLaws.{number_within, past_and_step_at, read_at}
 use Rattle.fbl_judge.proofs.views.past_and_step.Goals as goal

@@ -1,4 +1,4 @@
-use Rattle.fbl_judge.proofs.Common.{Entry, List, Some, ap, arith, length, refl, slice_get, slice_get_read, subst, ◌<◌, ◌≡◌, ◌≤◌, ◌∙◌}
+use Rattle.fbl_judge.proofs.Common.{Some, ap, arith, length, ◌<◌, ◌∙◌}
 use Rattle.fbl_judge.proofs.PlaceLaws.{read_at}
 use Rattle.fbl_judge.proofs.RestartLaws.{is_restart, none_in}
 use Rattle.fbl_judge.proofs.ViewLaws.{views_all, views_skip}

@@ -1,6 +1,5 @@
-use Rattle.fbl_judge.proofs.Common.{List, Some, arith, ap, at, false≢true, length, log_of, refl, slice_get, slice_get_read, slice_get_within, subst, sym, take, ◌+◌, ◌<◌, ◌≡◌, ◌≤◌, ◌∙◌}
+use Rattle.fbl_judge.proofs.Common.{List, arith, false≢true, length, refl, slice_get_read, subst, sym, take, ◌≡◌, ◌∙◌}
 use Rattle.std.proofs.lemmas.List.{take_all}
-use Rattle.fbl_runs.specs.Clocks.{cut_of}
 use Rattle.fbl_judge.specs.declared.view.View.{View}
 use Rattle.fbl_judge.specs.Views.{AreWith}
 use Rattle.fbl_judge.proofs.ViewLaws.{restarts_few, views_next, with_added, with_kept}

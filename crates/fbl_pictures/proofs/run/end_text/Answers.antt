@@ -15,7 +15,7 @@ pub returns-in-Some : goal.returns-in-Some
 returns-in-Some c =
     let orphan = orphan_at_end c.args.pasts.now c.in_ok-audit.audit c.in_ok-audit.ensures c.requires.judged c.is_empty.result c.is_empty.ensures in
     let none : ¬ (HasOrphan c.args.pasts.now) = λ has. false≢true (ap not (sym c.if-not-is_empty.false) ∙ orphan.1 has) in
-    IfOk-weaker c.said_text.result _ _ (λ text drawn. inr (none, (c.in-Some.first, c.in-Some.ensures, drawn))) c.said_text.ensures
+    IfOk-weaker c.said_text.result _ _ (λ text drawn. inr (inl (none, (c.in-Some.first, record { first = c.in-Some.ensures; none = inl c.requires.judged }, drawn)))) c.said_text.ensures
 
 pub returns : goal.returns
-returns c = IfOk-weaker c.audited_text-in-None.result _ _ (λ text drawn. inl (inr c.in-None.ensures, drawn)) c.audited_text-in-None.ensures
+returns c = IfOk-weaker c.audited_text-in-None.result _ _ (λ text drawn. inl (inr (c.in-None.ensures, inl c.requires.judged), drawn)) c.audited_text-in-None.ensures

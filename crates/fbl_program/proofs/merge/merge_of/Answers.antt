@@ -26,7 +26,8 @@ pub returns-in_err-run-in-Logs-clause-refused : goal.returns-in_err-run-in-Logs-
 returns-in_err-run-in-Logs-clause-refused c =
     let united = rw c.as_slice-in-Logs.ensures.value at c.in_ok-whole-in-Logs.ensures.union in
     rw c.in-Logs.is (passed (RefusesMerge (Logs c.in-Logs.logs)) (Order c.in_err-run-in-Logs.field-0.0) c.from_residual-in_err-run-in-Logs.result
-    c.from_residual-in_err-run-in-Logs.ensures.1 (parts_of_log c.in_ok-whole-in-Logs.whole, united, c.in_err-run-in-Logs.ensures.refused))
+    c.from_residual-in_err-run-in-Logs.ensures.1 (parts_of_log c.in_ok-whole-in-Logs.whole.run, c.in_ok-whole-in-Logs.whole.places.items, united,
+    c.in_err-run-in-Logs.ensures.refused))
 
 pub returns-in_ok-run-in-Dumps-clause-merged : goal.returns-in_ok-run-in-Dumps-clause-merged
 returns-in_ok-run-in-Dumps-clause-merged c =
@@ -37,5 +38,4 @@ returns-in_ok-run-in-Dumps-clause-merged c =
 pub returns-in_ok-run-in-Logs-clause-merged : goal.returns-in_ok-run-in-Logs-clause-merged
 returns-in_ok-run-in-Logs-clause-merged c =
     let united = rw c.as_slice-in-Logs.ensures.value at c.in_ok-whole-in-Logs.ensures.union in
-    let o = c.in_ok-run-in-Logs.ensures in
-    rw c.in-Logs.is (parts_of_log c.in_ok-whole-in-Logs.whole, united, record { rules = o.rules; parts = o.parts; order = o.order; given = o.places; kept = o.kept; answers = o.answers })
+    rw c.in-Logs.is (parts_of_log c.in_ok-whole-in-Logs.whole.run, c.in_ok-whole-in-Logs.whole.places.items, united, c.in_ok-run-in-Logs.ensures.ordered)

@@ -1,6 +1,5 @@
-use Rattle.fbl_runs.proofs.Common.{◌≡◌, ◌<◌, ◌∙◌, Bool, true, false, Determinant, List, Entry, Option, Some, None, ap, refl, sym, subst, arith, entry_member, false≢true, length, recorded_in, slice_get, slice_get_read, take}
+use Rattle.fbl_runs.proofs.Common.{◌≡◌, ◌∙◌, true, Determinant, List, Entry, Option, Some, None, ap, refl, sym, subst, arith, entry_member, false≢true, length, recorded_in, slice_get, slice_get_read}
 use Rattle.std.specs.Option.{is_some}
-use Rattle.fbl_runs.specs.Lawful.{records}
 use Rattle.fbl_runs.proofs.lawful.broken_rule.Goals as goal
 use Rattle.fbl_runs.proofs.lawful.broken_rule.Goals.{After-is_some, else-is_some-via-then-is_some+else-before-ge-MOST_PAIRS, else-is_some-via-else-is_some}
 

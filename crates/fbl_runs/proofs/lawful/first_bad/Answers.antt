@@ -1,8 +1,7 @@
-use Rattle.fbl_runs.proofs.Common.{arith, ℕ, ◌≡◌, ◌<◌, ◌+◌, ◌∙◌, sym, ap, refl, subst, List, Entry, HappenedBefore, Some, length, slice_get, slice_get_read, take}
+use Rattle.fbl_runs.proofs.Common.{arith, ◌≡◌, ◌∙◌, sym, refl, subst, List, Entry, HappenedBefore, Some, length, slice_get, slice_get_read, take}
 use Rattle.std.proofs.Common.{below_more}
 use Rattle.fbl_runs.specs.Lawful.{BreaksAt, ObeysAt, records}
 use Rattle.fbl_runs.specs.Precedence.{AreClocks}
-use Rattle.fbl_runs.specs.Rules.{AreLawful}
 use Rattle.fbl_runs.proofs.RunLaws.{good_all, records-is_none, records-is_some, records-le}
 use Rattle.fbl_runs.proofs.lawful.first_bad.Goals as goal
 use Rattle.fbl_runs.proofs.lawful.first_bad.Goals.{After-broken_rule, then-is_some, else-is_some}

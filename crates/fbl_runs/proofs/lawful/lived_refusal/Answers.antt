@@ -1,6 +1,4 @@
-use Rattle.fbl_runs.proofs.Common.{arith, true, sym, subst, inl, inr, refl, ◌≡◌, ◌∙◌, ℕ, List, Entry, None, Option}
-use Rattle.std.proofs.Common.{MatchOption}
-use Rattle.fbl_trace.specs.Configs.{FAllowed, MembersAllowed}
+use Rattle.fbl_runs.proofs.Common.{arith, true, sym, subst, inl, inr, refl, ℕ, List, Entry}
 use Rattle.fbl_trace.specs.MemberSets.{AllBelow}
 use Rattle.fbl_dumps.specs.declared.refusal.DumpRefusal.TheVariants.{BadEvent, BadStrike}
 use Rattle.fbl_runs.specs.declared.fault.LogBreach.TheVariants.{Life, Record}

@@ -1,6 +1,6 @@
-use Rattle.fbl_runs.proofs.Common.{false, sym, subst, inl, inr, refl, ◌≡◌, ◌∙◌, ℕ, List, Entry}
+use Rattle.fbl_runs.proofs.Common.{false, sym, subst, inl, inr, refl, ℕ, List, Entry}
 use Rattle.fbl_dumps.specs.declared.refusal.DumpRefusal.TheVariants.{BadEvent}
-use Rattle.fbl_runs.specs.declared.fault.LogBreach.TheVariants.{Control, Record}
+use Rattle.fbl_runs.specs.declared.fault.LogBreach.TheVariants.{Record}
 use Rattle.fbl_runs.specs.ControlMessages.{AreTold, IsFirstUntold}
 use Rattle.fbl_runs.specs.Lawful.{IsFirstBad, ObeysAt}
 use Rattle.fbl_runs.specs.Logs.{parts_of_log}

@@ -1,4 +1,4 @@
-use Rattle.fbl_runs.proofs.Common.{ℕ, true, ◌≡◌, ◌<◌, ◌≤◌, ◌+◌, ◌∙◌, ◌↔◌, ◌⊎◌, arith, cases_lt, Determinant, Entry, false≢true, inl, inr, length, List, log_of, max, nat_tests, receipt_in, refl, slice_get, slice_get_read, Some, subst, sym}
+use Rattle.fbl_runs.proofs.Common.{ℕ, ◌≡◌, ◌<◌, ◌≤◌, ◌+◌, ◌∙◌, ◌↔◌, ◌⊎◌, arith, cases_lt, Determinant, Entry, false≢true, inl, inr, length, List, log_of, max, nat_tests, receipt_in, refl, slice_get, slice_get_read, Some, subst, sym}
 use Rattle.std.proofs.Common.{nat_cmp}
 use Rattle.std.specs.Ordering.{ord_max}
 use Rattle.fbl_runs.specs.declared.lives.StandingEvent.{StandingEvent}

@@ -1,4 +1,4 @@
-use Rattle.fbl_runs.proofs.Common.{List, Entry, Event, IsAt, Send, Some, at, log_of}
+use Rattle.fbl_runs.proofs.Common.{List, Entry, Event, IsAt, Send, at, log_of}
 use Rattle.fbl_runs.specs.KnownLives.{HasLived}
 use Rattle.fbl_runs.proofs.DueLaws.{TakesAmong}
 use Rattle.fbl_runs.proofs.life_rules.is_taken.Given as goal

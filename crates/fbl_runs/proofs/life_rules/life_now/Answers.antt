@@ -1,4 +1,4 @@
-use Rattle.fbl_runs.proofs.Common.{ℕ, ◌≡◌, ◌<◌, ◌≤◌, ◌∙◌, ap, arith, length, List, log_of, refl, slice_get, slice_get_read, slice_get_within, Some, subst, sym}
+use Rattle.fbl_runs.proofs.Common.{ℕ, ◌≡◌, ◌<◌, ◌≤◌, ◌∙◌, ap, arith, length, List, refl, slice_get, slice_get_read, slice_get_within, Some, subst, sym}
 use Rattle.std.proofs.Common.{get_or}
 use Rattle.std.proofs.lemmas.Bool.{ltb-false}
 use Rattle.fbl_runs.specs.declared.lives.Life.{Life}

@@ -1,7 +1,6 @@
-use Rattle.fbl_runs.proofs.Common.{◌≡◌, ◌<◌, ◌∙◌, List, Some, arith, length, log_of, refl, slice_get, slice_get_read, standing, subst, sym}
+use Rattle.fbl_runs.proofs.Common.{◌≡◌, ◌<◌, List, Some, arith, length, log_of, refl, slice_get, slice_get_read, standing, subst, sym}
 use Rattle.fbl_runs.specs.declared.lives.StandingEvent.{StandingEvent}
 use Rattle.fbl_runs.specs.KnownLives.{AreEvents}
-use Rattle.fbl_runs.proofs.DueLaws.{due_iff}
 use Rattle.fbl_runs.proofs.life_rules.standing.Goals as goal
 
 pub returns : goal.returns

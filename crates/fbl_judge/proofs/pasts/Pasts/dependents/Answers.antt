@@ -1,4 +1,4 @@
-use Rattle.fbl_judge.proofs.Common.{DependsAt, Position, arith, cases_lt, false, inl, inr, length, log_of, refl, sym, true, ℕ, ◌<◌, ◌≡◌, ◌∙◌}
+use Rattle.fbl_judge.proofs.Common.{DependsAt, arith, cases_lt, false, inl, inr, log_of, refl, sym, true, ℕ, ◌∙◌}
 use Rattle.fbl_runs.specs.Clocks.{cut_of}
 use Rattle.fbl_judge.proofs.MemberLaws.{found_more, found_none}
 use Rattle.fbl_judge.proofs.ViewLaws.{nobody_beyond}

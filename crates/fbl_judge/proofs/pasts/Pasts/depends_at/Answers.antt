@@ -1,4 +1,4 @@
-use Rattle.fbl_judge.proofs.Common.{Dependence, Entry, List, Position, Precedes, ap, arith, at, inl, inr, log_of, nat_tests, suc, sym, subst, true, ℕ, length, ◌<◌, ◌-◌, ◌≡◌, ◌≤◌, ◌∙◌}
+use Rattle.fbl_judge.proofs.Common.{Entry, List, ap, arith, at, log_of, nat_tests, suc, subst, length, ◌<◌, ◌-◌, ◌≡◌, ◌≤◌, ◌∙◌}
 use Rattle.fbl_runs.specs.Clocks.{StandsAt, cut_of}
 use Rattle.fbl_runs.specs.Logs.{RunParts}
 use Rattle.fbl_judge.proofs.MomentLaws.{depends_last}

@@ -1,4 +1,4 @@
-use Rattle.fbl_judge.proofs.Common.{Dependence, Entry, IsAt, List, Position, Precedes, ap, arith, at, cases_lt, false≢true, inl, inr, log_of, sym, subst, true, ℕ, ◌<◌, ◌≡◌, ◌≤◌, ◌∙◌}
+use Rattle.fbl_judge.proofs.Common.{Dependence, Entry, List, Precedes, ap, arith, at, cases_lt, false≢true, inl, inr, log_of, sym, subst, ℕ, ◌≡◌, ◌∙◌}
 use Rattle.std.proofs.Common.{◌+◌, ◌-◌, ◌/◌}
 use Rattle.fbl_runs.specs.Clocks.{StandsAt}
 use Rattle.fbl_runs.specs.Logs.{RunParts}

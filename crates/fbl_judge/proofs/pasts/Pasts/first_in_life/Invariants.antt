@@ -1,5 +1,5 @@
 -- no entry before the first one depends on the receipt, and the end does, if it is one
-use Rattle.fbl_judge.proofs.Common.{Dependence, ℕ, ◌<◌, ◌≤◌, ◌-◌, length, log_of, at, Position, Precedes}
+use Rattle.fbl_judge.proofs.Common.{Dependence, ℕ, ◌<◌, ◌≤◌, ◌-◌, log_of, at, Position, Precedes}
 use Rattle.fbl_runs.specs.Clocks.{StandsAt}
 use Rattle.fbl_judge.proofs.pasts.Pasts.first_in_life.Given as goal
 

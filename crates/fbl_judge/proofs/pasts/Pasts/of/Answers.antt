@@ -1,4 +1,4 @@
-use Rattle.fbl_judge.proofs.Common.{Entry, List, subst, sym, ◌≡◌, ◌∙◌}
+use Rattle.fbl_judge.proofs.Common.{Entry, List, subst, sym, ◌∙◌}
 use Rattle.fbl_runs.specs.Rules.{AreLawful}
 use Rattle.fbl_judge.proofs.pasts.Pasts.of.Goals as goal
 

@@ -1,4 +1,4 @@
-use Rattle.fbl_judge.proofs.Common.{Entry, List, None, Option, Position, Some, Stands, ap, arith, at, length, log_of, nat_lt, nat_tests, refl, sym, subst, true, ℕ, ◌<◌, ◌≡◌, ◌≤◌, ◌↔◌, ◌∙◌, entry_member}
+use Rattle.fbl_judge.proofs.Common.{Entry, List, Option, Position, Stands, ap, arith, at, log_of, nat_tests, sym, subst, ℕ, ◌<◌, ◌≡◌, ◌≤◌, ◌↔◌, ◌∙◌, entry_member}
 use Rattle.fbl_runs.specs.Clocks.{StandsAt, cut_of, seen}
 use Rattle.fbl_runs.specs.Links.{IsPlaceOf}
 use Rattle.fbl_runs.specs.Logs.{RunParts}

@@ -1,4 +1,4 @@
-use Rattle.fbl_runs.proofs.Common.{◌≡◌, ◌∙◌, Position, Some, ap, arith, at, entry_member, length, refl, slice_get, slice_get_read, sym}
+use Rattle.fbl_runs.proofs.Common.{◌≡◌, ◌∙◌, Position, Some, ap, arith, entry_member, length, refl, slice_get, slice_get_read, sym}
 use Rattle.std.proofs.Common.{Fits, rules, w64}
 use Rattle.fbl_runs.specs.Clocks.{StandsAt}
 use Rattle.fbl_runs.proofs.ClockPasses.{number_within, past_at}

@@ -1,4 +1,4 @@
-use Rattle.fbl_runs.proofs.Common.{false, true, ◌≡◌, ◌≤◌, ◌∙◌, Position, Some, arith, false≢true, length, refl, slice_get, slice_get_read, nat_tests, sym}
+use Rattle.fbl_runs.proofs.Common.{◌≡◌, ◌≤◌, ◌∙◌, Position, Some, arith, false≢true, length, refl, slice_get, slice_get_read, nat_tests, sym}
 use Rattle.fbl_runs.specs.Clocks.{StandsAt}
 use Rattle.fbl_runs.proofs.ClockPasses.{precedes_kept, precedes_own}
 use Rattle.fbl_runs.proofs.clocks.Clocks.precedes.Goals as goal

@@ -1,6 +1,6 @@
-use Rattle.fbl_runs.proofs.Common.{◌<◌, ◌≡◌, ◌∙◌, ℕ, zero, List, Entry, Option, Some, None, Position, subst, sym, ap, refl, arith, length, slice_get, slice_get_read, slice_get_within, true, false, Bool, cond, ◌↔◌, ◌⊎◌, inl, inr, entry_member, HoldsAt, log_of}
+use Rattle.fbl_runs.proofs.Common.{◌<◌, ◌≡◌, ◌∙◌, ℕ, List, Entry, Option, Some, None, subst, sym, ap, refl, arith, length, slice_get, slice_get_read, slice_get_within, true, cond, ◌↔◌, entry_member}
 use Rattle.std.specs.FinSet as fin
-use Rattle.fbl_runs.specs.Clocks.{StandsAt, cut_of, seen}
+use Rattle.fbl_runs.specs.Clocks.{cut_of}
 use Rattle.fbl_runs.proofs.IndexLaws.{HoldsFrom, IsPassed, IsReached, fewer_left, found_more, found_none, held_here, holds_from, is_record, left, none_passed, passed_more, reached, still_passed}
 use Rattle.fbl_runs.proofs.index.Index.holders.Goals as goal
 use Rattle.fbl_runs.proofs.index.Index.holders.Goals.{In-Some, then-is_held_by, else-is_held_by}

@@ -1,4 +1,4 @@
-use Rattle.fbl_runs.proofs.Common.{◌≡◌, ◌<◌, ◌∙◌, ℕ, List, Entry, Position, Some, at, length, slice_get, slice_get_read, slice_get_within, refl, ap, subst, arith, sym, false≢true}
+use Rattle.fbl_runs.proofs.Common.{◌≡◌, ◌<◌, ◌∙◌, ℕ, List, Entry, Position, Some, at, length, slice_get, slice_get_read, slice_get_within, refl, ap, subst, arith, false≢true}
 use Rattle.std.proofs.Common.{◌-◌, get_or}
 use Rattle.fbl_runs.specs.Clocks.{StandsAt, cut_of}
 use Rattle.fbl_runs.proofs.IndexLaws.{is_of_life, no_link, one_entry, read}

@@ -1,5 +1,5 @@
-use Rattle.fbl_runs.proofs.Common.{◌<◌, ◌∙◌, ℕ, Option, Some, None, Position, subst, sym, ap, slice_get_within, false≢true, refl, log_of, inl, inr, ◌≡◌, slice_get, Entry, HasCome, recorded_in}
-use Rattle.fbl_runs.specs.Clocks.{StandsAt, cut_of, seen}
+use Rattle.fbl_runs.proofs.Common.{◌<◌, ◌∙◌, ℕ, Option, Some, None, subst, sym, slice_get_within, false≢true, refl, inl, inr, ◌≡◌, slice_get}
+use Rattle.fbl_runs.specs.Clocks.{StandsAt, cut_of}
 use Rattle.fbl_runs.proofs.IndexLaws.{IsPassed, IsReached, fewer_left, left, none_passed, passed_more, position_at, reached, stored_at_place, stores}
 use Rattle.fbl_runs.proofs.index.Index.is_stored.Goals as goal
 use Rattle.fbl_runs.proofs.index.Index.is_stored.Goals.{In-Some}

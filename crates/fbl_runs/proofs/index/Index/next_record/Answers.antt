@@ -1,4 +1,4 @@
-use Rattle.fbl_runs.proofs.Common.{List, Entry, Determinant, ◌+◌, subst, sym}
+use Rattle.fbl_runs.proofs.Common.{List, Entry, ◌+◌, subst, sym}
 use Rattle.fbl_runs.specs.Records.{IsNextRecord, IsRecordAt}
 use Rattle.fbl_runs.proofs.index.Index.next_record.Goals as goal
 

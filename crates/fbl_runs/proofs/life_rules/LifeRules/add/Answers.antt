@@ -1,4 +1,4 @@
-use Rattle.fbl_runs.proofs.Common.{◌∙◌, arith, sym, true, false}
+use Rattle.fbl_runs.proofs.Common.{◌∙◌, arith, sym}
 use Rattle.fbl_runs.proofs.FewLaws.{marks_more, marks_same}
 use Rattle.fbl_runs.proofs.RunLaws.{lawful_next}
 use Rattle.fbl_runs.proofs.life_rules.LifeRules.add.Goals as goal

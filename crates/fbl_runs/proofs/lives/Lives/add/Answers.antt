@@ -1,10 +1,9 @@
-use Rattle.fbl_runs.proofs.Common.{ℕ, ◌≡◌, ◌≢◌, ◌<◌, ◌++◌, ◌∷◌, [], ◌∙◌, append-nil, arith, ap, Bool, cond, ControlMessage, Entry, entry_member, Event, false, Hold, LaterReceipt, length, List, mark_in, None, Option, refl, Restart, restart_in, slice_get, slice_get_read, slice_get_within, Some, Store, subst, sym, Tell, Told}
+use Rattle.fbl_runs.proofs.Common.{ℕ, ◌≡◌, ◌≢◌, ◌<◌, ◌++◌, ◌∷◌, [], ◌∙◌, append-nil, arith, ap, Bool, cond, ControlMessage, Entry, entry_member, Event, false, Hold, LaterReceipt, length, List, mark_in, Option, refl, Restart, restart_in, slice_get, slice_get_read, Some, Store, subst, sym, Tell, Told}
 use Rattle.std.proofs.Common.{set, get_or}
 use Rattle.std.proofs.lemmas.List.{set-set}
 use Rattle.std.specs.HashMap as hash_map
 use Rattle.fbl_trace.specs.declared.trace.Mark.{Mark}
 use Rattle.fbl_runs.specs.ControlMessages.{same_control}
-use Rattle.fbl_runs.specs.declared.entry.Restart as restart
 use Rattle.fbl_runs.specs.declared.lives.KnownLog.{KnownLog}
 use Rattle.fbl_runs.specs.declared.lives.Life.{Life}
 use Rattle.fbl_runs.specs.declared.lives.StandingEvent.{StandingEvent}

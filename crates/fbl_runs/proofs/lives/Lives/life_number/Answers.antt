@@ -1,7 +1,6 @@
-use Rattle.fbl_runs.proofs.Common.{ℕ, ◌≡◌, ◌<◌, ◌≤◌, ◌+◌, ◌∙◌, arith, ap, cases_eq, eqb-true, eqb-self, false≢true, length, List, refl, slice_get, slice_get_read, slice_get_within, Some, subst, sym, inl, inr}
+use Rattle.fbl_runs.proofs.Common.{ℕ, ◌≡◌, ◌<◌, ◌∙◌, arith, ap, eqb-true, eqb-self, false≢true, length, List, refl, slice_get, slice_get_read, slice_get_within, Some, subst, sym}
 use Rattle.std.proofs.Common.{below_more, eqb, get_or}
 use Rattle.fbl_runs.specs.declared.lives.Life.{Life}
-use Rattle.fbl_runs.specs.KnownLives.{IsLifeAt}
 use Rattle.fbl_runs.proofs.lives.Lives.life_number.Goals as goal
 use Rattle.fbl_runs.proofs.lives.Lives.life_number.Goals.{else-eq-via-then-eq+else-other-life, else-eq-via-else-eq}
 

@@ -1,8 +1,6 @@
-use Rattle.fbl_runs.proofs.Common.{ℕ, ◌≡◌, ◌<◌, ◌+◌, ◌++◌, ◌∷◌, [], ◌∙◌, arith, ap, At-push, inl, inr, length, length-append, List, None, refl, slice_get, slice_get_within, Some, subst, sym}
+use Rattle.fbl_runs.proofs.Common.{ℕ, ◌≡◌, ◌+◌, ◌++◌, ◌∷◌, [], ◌∙◌, arith, ap, At-push, inl, inr, length, length-append, List, None, refl, slice_get, Some, subst, sym}
 use Rattle.std.specs.Map.{lookup}
 use Rattle.fbl_runs.specs.ControlMessages.{same_control}
-use Rattle.fbl_runs.specs.declared.lives.KnownLog.{KnownLog}
-use Rattle.fbl_runs.specs.declared.lives.Life.{Life}
 use Rattle.fbl_runs.proofs.LivedLaws.{IsFirstLife, IsFirstLog, lived_none}
 use Rattle.fbl_runs.proofs.lives.Lives.new.Goals as goal
 

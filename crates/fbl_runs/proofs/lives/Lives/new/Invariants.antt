@@ -1,4 +1,4 @@
-use Rattle.std.proofs.Common.{◌≡◌, ℕ, ◌<◌, length, Some}
+use Rattle.std.proofs.Common.{◌≡◌, ℕ, length, Some}
 use Rattle.fbl_runs.proofs.Common.{slice_get}
 use Rattle.fbl_runs.specs.declared.lives.KnownLog.{KnownLog}
 use Rattle.fbl_runs.specs.declared.lives.Life.{Life}

@@ -1,11 +1,9 @@
-use Rattle.fbl_runs.proofs.Common.{ℕ, ◌≡◌, ◌<◌, ◌++◌, ◌∷◌, [], ◌∙◌, append-nil, arith, ap, Bool, cond, Entry, false, true, length, List, refl, slice_get, slice_get_read, slice_get_within, Some, subst, sym}
+use Rattle.fbl_runs.proofs.Common.{ℕ, ◌≡◌, ◌<◌, ◌++◌, ◌∷◌, [], ◌∙◌, append-nil, arith, ap, Bool, cond, false, true, length, List, refl, slice_get, slice_get_read, slice_get_within, Some, subst, sym}
 use Rattle.std.proofs.Common.{set, get_or}
-use Rattle.std.proofs.lemmas.Bool.{ltb-false, ltb-true}
+use Rattle.std.proofs.lemmas.Bool.{ltb-false}
 use Rattle.fbl_runs.specs.declared.lives.KnownLog.{KnownLog}
 use Rattle.fbl_runs.specs.declared.lives.Life.{Life}
-use Rattle.fbl_runs.specs.declared.lives.StandingEvent.{StandingEvent}
 use Rattle.fbl_runs.specs.Rules.{is_send}
-use Rattle.fbl_runs.specs.KnownLives.{sent_now}
 use Rattle.fbl_runs.proofs.LivedLaws.{set_itself}
 use Rattle.fbl_runs.proofs.lives.Lives.note.Goals as goal
 

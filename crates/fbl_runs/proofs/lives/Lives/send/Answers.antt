@@ -1,9 +1,7 @@
 use Rattle.fbl_runs.proofs.Common.{ℕ, ◌≡◌, ◌≢◌, ◌<◌, ◌≤◌, ◌∙◌, arith, ap, eqb-true, false≢true, length, List, None, Option, refl, slice_get, slice_get_read, Some, subst, sym}
-use Rattle.std.proofs.Common.{MatchOption, ◌-◌, eqb, ltb, get_or}
+use Rattle.std.proofs.Common.{MatchOption, eqb, get_or}
 use Rattle.std.proofs.lemmas.Bool.{ltb-false}
 use Rattle.fbl_trace.proofs.RulesLaws.{eqb-self}
-use Rattle.fbl_runs.specs.declared.lives.Life.{Life}
-use Rattle.fbl_runs.specs.declared.lives.StandingEvent.{StandingEvent}
 use Rattle.fbl_runs.specs.KnownLives.{sent_to}
 use Rattle.fbl_runs.proofs.KnownLaws.{no_zero, none_past, sent_elsewhere, sent_life, sent_there, sent_to_one}
 use Rattle.fbl_runs.proofs.lives.Lives.send.Goals as goal
