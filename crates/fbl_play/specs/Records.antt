@@ -34,8 +34,8 @@ use Rattle.fbl_play.specs.declared.answer.Answer.{Answer}
 use Rattle.fbl_play.specs.declared.record.RecordFault.{RecordFault}
 use Rattle.fbl_play.specs.declared.record.RecordFault.TheVariants as faults
 use Rattle.fbl_play.specs.declared.record.Written.{Written}
-use Rattle.fbl_play.specs.Plays.{IsHistoryPlay, next_of}
-use Rattle.fbl_play.specs.Transcripts.{Transcript}
+use Rattle.fbl_play.specs.Plays.{PlaysScript, next_of}
+use Rattle.fbl_play.specs.Transcripts.{Transcript, history}
 
 -- ---- entries
 
@@ -53,6 +53,10 @@ holds_from member first table = map (λ e. Hold member e.det) (drop first table)
 
 abbrev pub stores_from : ℕ → ℕ → List TableEntry → List Entry
 stores_from member first table = map (λ e. Store member e.det) (drop first table)
+
+-- the entries, and behind them a receipt, that its member holds what its table has behind its first so many determinants, and these sends
+abbrev pub receipt_entries : List Entry → ℕ → Determinant → ℕ → List TableEntry → List (TraceEvent Note) → List Entry
+receipt_entries entries life d held table sends = ((entries ++ receipt_entry life d ∷ []) ++ holds_from d.to held table) ++ event_entries sends
 
 -- what is said of each of so many members, in order
 abbrev pub each_member : (ℕ → List Entry) → ℕ → List Entry
@@ -124,8 +128,7 @@ pub record Receives (next : Next ℕ Note) (old : Recorded) (d : Determinant) (n
   pub lives : new.lives ≡ old.lives
   pub saved : new.saved ≡ old.saved
   pub entries : new.entries
-      ≡ ((old.entries ++ receipt_entry (slice_index old.lives d.from) d ∷ []) ++ holds_from d.to (length (member old.group d.to).table) (member new.group d.to).table)
-      ++ event_entries sends
+      ≡ receipt_entries old.entries (slice_index old.lives d.from) d (length (member old.group d.to).table) (member new.group d.to).table sends
 
 -- a strike writes nothing
 pub record IsStruck (next : Next ℕ Note) (old : Recorded) (members : Members) (new : Recorded) : Type 0 where
@@ -271,8 +274,8 @@ module _ {O : Type 0} (before : GroupRecord ℕ Note → Transcript → O → Co
   -- the answer is the record of a history of the script, which is a log; or that history has none; or there was no memory
   abbrev pub IsRecordPlay : ℕ → Outline → O → O → Result RunParts RecordFault → Type 0
   IsRecordPlay workers s old new (Ok run) =
-      (columns : List Column) × (raw : RawLog) × IsHistoryPlay {E = Unit {0}} before after workers s old new (Ok columns) × IsRecordOf (next_of s.behaviour) s.config columns raw
+      (columns : List Column) × (raw : RawLog) × PlaysScript before after workers s (history None) (history (Some columns)) old new (Ok tt) × IsRecordOf (next_of s.behaviour) s.config columns raw
       × (run ≡ parts_of_log raw) × IsLog run
   IsRecordPlay workers s old new (Err faults.Memory) = Unit {0}
   IsRecordPlay workers s old new (Err fault) =
-      (columns : List Column) × IsHistoryPlay {E = Unit {0}} before after workers s old new (Ok columns) × HasNoRecord (next_of s.behaviour) s.config columns fault
+      (columns : List Column) × PlaysScript before after workers s (history None) (history (Some columns)) old new (Ok tt) × HasNoRecord (next_of s.behaviour) s.config columns fault

@@ -13,7 +13,7 @@ ghost use Rattle.fbl_law.specs.GroupSteps.{IsCheckpoint};
 ghost use Rattle.fbl_runs.specs.Logs.{IsLog, parts_of_log};
 ghost use Rattle.fbl_scripts.specs.Scripts.{outline};
 ghost use Rattle.fbl_play.specs.Plays.{next_of};
-ghost use Rattle.fbl_play.specs.Records.{AreBack, IsBegun, IsLogFault, IsOfAnother, IsRecordOf, IsRecordPlay, IsRoomFault, IsStopped, Receives, Records, RecordsAll, Refuses, RefusesReceipt, Restores, Saves, StopsIn, back_entries, event_entries, exchange, holds_from, is_among, is_mark, receipt_entry, restart_entries, restarts_of, round, so_far, standing_mark, stores_from, tells};
+ghost use Rattle.fbl_play.specs.Records.{AreBack, IsBegun, IsLogFault, IsOfAnother, IsRecordOf, IsRecordPlay, IsRoomFault, IsStopped, Receives, Records, RecordsAll, Refuses, RefusesReceipt, Restores, Saves, StopsIn, back_entries, event_entries, exchange, holds_from, is_among, is_mark, receipt_entries, receipt_entry, restart_entries, restarts_of, round, so_far, standing_mark, stores_from, tells};
 
 use crate::engine::history_of_script;
 use crate::observer::Observer;
@@ -89,9 +89,10 @@ fn push<T: Copy>(items: &mut Vec<T>, item: &T) -> Result<(), AllocError>
 }
 
 /// The receipt as an entry, where the sender of its message is in this life.
-fn receipt_entry(life: u32, determinant: Determinant) -> Entry
-    ensures { result ≡ receipt_entry life determinant }
+fn receipt_entry(life: u32, receipt: &Determinant) -> Entry
+    ensures { result ≡ receipt_entry life receipt.now }
 {
+    let determinant = *receipt;
     if life == 0 {
         Entry::Event(determinant.receipt())
     } else {
@@ -120,10 +121,13 @@ fn push_holds(
 {
     for place in first..table.len() {
         let determinant = table.entry_at(place).det;
-        push(entries, &Entry::Hold {
-            holder,
-            determinant,
-        })?;
+        push(
+            entries,
+            &Entry::Hold {
+                holder,
+                determinant,
+            },
+        )?;
     }
     Ok(())
 }
@@ -139,10 +143,13 @@ fn push_stores(
 {
     for place in first..table.len() {
         let determinant = table.entry_at(place).det;
-        push(entries, &Entry::Store {
-            member,
-            determinant,
-        })?;
+        push(
+            entries,
+            &Entry::Store {
+                member,
+                determinant,
+            },
+        )?;
     }
     Ok(())
 }
@@ -224,12 +231,15 @@ fn push_back<B: Behaviour<State = u64, Note = Note>>(
     requires { member < group.now.config.members }
     ensures { OnOk result (entries.new.items ≡ entries.old.items ++ back_entries group.now life member) }
 {
-    push(entries, &Entry::Restart(Restart {
-        member,
-        life,
-        receipts: group.received(member),
-        sends: group.sent(member),
-    }))?;
+    push(
+        entries,
+        &Entry::Restart(Restart {
+            member,
+            life,
+            receipts: group.received(member),
+            sends: group.sent(member),
+        }),
+    )?;
     push_holds(entries, member, 0, group.table(member))
 }
 
@@ -285,16 +295,40 @@ fn deliver<B: Behaviour<State = u64, Note = Note>>(
     }
 }
 
+/// Whether both are the same event.
+fn is_same(mark: &Mark, other: &Mark) -> bool
+    ensures { (result ≡ true) ↔ (mark.now ≡ other.now) }
+{
+    mark == other
+}
+
+/// Adds the receipt of a message whose sender is in this life, what its member's table has behind its first so many determinants, and the
+/// sends of the receipt's step.
+fn push_receipt(
+    entries: &mut Vec<Entry>,
+    life: u32,
+    receipt: &Determinant,
+    held: usize,
+    table: &Table,
+    sends: &[Event],
+) -> Result<(), AllocError>
+    ensures { OnOk result (entries.new.items ≡ receipt_entries entries.old.items life receipt.now held table.now sends.now) }
+{
+    push(entries, &receipt_entry(life, receipt))?;
+    push_holds(entries, receipt.to, held, table)?;
+    push_events(entries, sends)
+}
+
 /// Delivers what the receipt names: the receipt, what its member holds from then on, and the sends of its step.
 fn receive<B: Behaviour<State = u64, Note = Note>>(
     group: &mut Group<B>,
     written: &mut Written,
-    receipt: Determinant,
+    receipt: &Determinant,
 ) -> Result<(), RecordFault>
-    ensures received { OnOk result (Receives B.next (so_far group.old written.old) receipt (so_far group.new written.new)) }
-    ensures refused { IfErr result (IsStopped (RefusesReceipt B.next group.old receipt)) }
+    ensures received { OnOk result (Receives B.next (so_far group.old written.old) receipt.now (so_far group.new written.new)) }
+    ensures refused { IfErr result (IsStopped (RefusesReceipt B.next group.old receipt.now)) }
 {
-    let Determinant { from, to, .. } = receipt;
+    let (from, to) = (receipt.from, receipt.to);
     let n = group.config().members();
     if from.number() >= n || to.number() >= n {
         return Err(RecordFault::Uneven);
@@ -302,14 +336,19 @@ fn receive<B: Behaviour<State = u64, Note = Note>>(
     let events = group.trace().len();
     let held = group.table(to).len();
     deliver(group, to, from)?;
-    let made = &group.trace()[events..];
-    if made[0].mark() != receipt.receipt() {
+    if !is_same(&group.trace()[events].mark(), &receipt.receipt()) {
         return Err(RecordFault::Uneven);
     }
     let life = written.lives[usize::from(from.number())];
-    push(&mut written.entries, &receipt_entry(life, receipt))?;
-    push_holds(&mut written.entries, to, held, group.table(to))?;
-    push_events(&mut written.entries, &made[1..])?;
+    let sends = &group.trace()[events + 1..];
+    push_receipt(
+        &mut written.entries,
+        life,
+        receipt,
+        held,
+        group.table(to),
+        sends,
+    )?;
     Ok(())
 }
 
@@ -429,7 +468,7 @@ fn add<B: Behaviour<State = u64, Note = Note>>(
         } => receive(
             group,
             written,
-            Determinant {
+            &Determinant {
                 from: *from,
                 to: *to,
                 ssn: *ssn,
@@ -489,20 +528,33 @@ fn standing_mark(column: &Column) -> Option<Mark>
     }
 }
 
-/// Whether the events of the columns that are not undone are these, in order.
-fn is_trace(columns: &[Column], trace: &[Event]) -> bool
-    ensures { (result ≡ true) ↔ (filter_map standing_mark columns.now ≡ map mark_of trace.now) }
+/// The events of the columns that are not undone, in order.
+fn standing_marks(alloc: Global, columns: &[Column]) -> Result<Vec<Mark>, AllocError>
+    ensures { IfOk result (λ marks. marks.items ≡ filter_map standing_mark columns.now) }
 {
-    let mut count = 0;
+    let mut marks = Vec::new(alloc);
     for column in columns {
         if let Some(mark) = standing_mark(column) {
-            if count >= trace.len() || trace[count].mark() != mark {
-                return false;
-            }
-            count += 1;
+            marks.push(mark)?;
         }
     }
-    count == trace.len()
+    Ok(marks)
+}
+
+/// The events without their notes.
+fn marks_of(alloc: Global, trace: &[Event]) -> Result<Vec<Mark>, AllocError>
+    ensures { IfOk result (λ marks. marks.items ≡ map mark_of trace.now) }
+{
+    trace.iter().map(|event| event.mark()).collect(alloc)
+}
+
+/// Whether the events of the columns that are not undone are these, in order.
+fn is_trace(alloc: Global, columns: &[Column], trace: &[Event]) -> Result<bool, AllocError>
+    ensures { IfOk result (λ same. (same ≡ true) ↔ (filter_map standing_mark columns.now ≡ map mark_of trace.now)) }
+{
+    let standing = standing_marks(alloc, columns)?;
+    let made = marks_of(alloc, trace)?;
+    Ok(standing.as_slice() == made.as_slice())
 }
 
 /// The record of a history of a group of this configuration.
@@ -518,7 +570,7 @@ fn record_of<B: Behaviour<State = u64, Note = Note>>(
     let mut group: Group<B> = Group::new(alloc, config)?;
     let mut written = begin(alloc, &group)?;
     add_all(&mut group, &mut written, columns)?;
-    if !is_trace(columns, group.trace()) {
+    if !is_trace(alloc, columns, group.trace())? {
         return Err(RecordFault::Uneven);
     }
     Ok(RawLog {
