@@ -1,6 +1,6 @@
 //! The run of a play as a log: what its members would have written of it.
 
-ghost use Rattle.std.specs.Prelude.{◌≡◌, ◌≢◌, ℕ, ◌<◌, ◌≤◌, ◌↔◌, ◌++◌, ◌∷◌, [], IfErr, IfOk, OnOk, None, filter_map, map, sum_by, true};
+ghost use Rattle.std.specs.Prelude.{◌≡◌, ◌≢◌, ℕ, ◌<◌, ◌≤◌, ◌↔◌, ◌++◌, ◌∷◌, [], IfErr, IfOk, OnOk, None, drop, filter_map, length, map, slice_index, sum_by, true};
 ghost use Rattle.std.specs.FinSet as set;
 ghost use Rattle.fbl_trace.specs.Events.{mark_of};
 ghost use Rattle.fbl_group.specs.Checkpoints.{checkpoint_refusal};
@@ -295,6 +295,21 @@ fn deliver<B: Behaviour<State = u64, Note = Note>>(
     }
 }
 
+/// The member's life.
+fn life_of(written: &Written, member: Member) -> u32
+    ensures { result ≡ slice_index written.now.lives member }
+{
+    written.lives[usize::from(member.number())]
+}
+
+/// The events behind the first so many.
+fn events_from(events: &[Event], first: usize) -> &[Event]
+    requires { first ≤ length events.now }
+    ensures { result.now ≡ drop first events.now }
+{
+    &events[first..]
+}
+
 /// Whether both are the same event.
 fn is_same(mark: &Mark, other: &Mark) -> bool
     ensures { (result ≡ true) ↔ (mark.now ≡ other.now) }
@@ -339,8 +354,8 @@ fn receive<B: Behaviour<State = u64, Note = Note>>(
     if !is_same(&group.trace()[events].mark(), &receipt.receipt()) {
         return Err(RecordFault::Uneven);
     }
-    let life = written.lives[usize::from(from.number())];
-    let sends = &group.trace()[events + 1..];
+    let life = life_of(written, from);
+    let sends = events_from(group.trace(), events + 1);
     push_receipt(
         &mut written.entries,
         life,

@@ -11,9 +11,17 @@ returns-then-not-is_same-clause-refused g c =
     let delivered = c.in_ok-deliver.ensures.delivered in
     let longer = trace_grows g.B.Behaviour.next old new _ _ _ delivered.1 in
     let here = rw (c.trace.ensures.trace, c.trace-events.ensures.trace) at c.index-trace-events.is in
-    inr (new, delivered.0, mark_of event, drop (length old.trace + 1) new.trace, delivered.1, makes old new event longer here, (λ same.
-      let yes = c.is_same.ensures.1 (c.mark.ensures ∙ same ∙ sym c.receipt.ensures) in
-      grind (arith, yes, c.if-not-is_same.true)))
+    inr (
+      new,
+      delivered.0,
+      mark_of event,
+      drop (length old.trace + 1) new.trace,
+      delivered.1,
+      makes old new event longer here,
+      (λ same.
+          let yes = c.is_same.ensures.1 (c.mark.ensures ∙ same ∙ sym c.receipt.ensures) in
+          grind (arith, yes, c.if-not-is_same.true)),
+    )
 
 pub returns-clause-received : goal.returns-clause-received
 returns-clause-received g c =
@@ -31,6 +39,18 @@ returns-clause-received g c =
       makes = rw same at (makes old new event longer here);
       lives = refl;
       saved = refl;
-      entries = first_of (search rules, grind (arith, c.in_ok-push_receipt.ensures, c.from.ensures, c.number-2.ensures.value, c.len-held.ensures.len, c.table.ensures,
-      c.table-2.ensures, c.trace-2.ensures.trace, c.trace-events.ensures.trace));
+      entries = rw (
+        c.life_of-life.ensures,
+        c.len-held.ensures.len,
+        c.table.ensures,
+        c.table-2.ensures,
+        c.events_from-sends.ensures,
+        c.trace-2.ensures.trace,
+        c.trace-events.ensures.trace,
+      ) at c.in_ok-push_receipt.ensures;
     }
+
+pub events_from-sends-requires : goal.events_from-sends-requires
+events_from-sends-requires g c =
+    let longer = trace_grows g.B.Behaviour.next c.args.group.now c.deliver.new.group _ _ _ c.in_ok-deliver.ensures.delivered.1 in
+    rw (c.trace-2.ensures.trace, c.trace-events.ensures.trace) (omega (arith, longer))
