@@ -30,7 +30,7 @@ pub use Rattle.fbl_program.specs.CommandLines.{with_explain, with_strict, IsJobA
 pub use Rattle.fbl_program.specs.Statuses.{status_after}
 pub use Rattle.fbl_program.specs.declared.job.Task.{Task}
 pub use Rattle.fbl_program.specs.declared.job.Task.TheVariants.{Run, Script}
-pub use Rattle.fbl_program.specs.declared.job.ScriptTask.TheVariants.{Play, Show}
+pub use Rattle.fbl_program.specs.declared.job.ScriptTask.TheVariants.{Play, Record, Show}
 pub use Rattle.fbl_program.specs.declared.command_line.Misuse.{Misuse}
 pub use Rattle.fbl_program.specs.declared.command_line.Misuse.TheVariants.{NoCommand, Words}
 pub use Rattle.fbl_program.specs.declared.job.Job.{Job}

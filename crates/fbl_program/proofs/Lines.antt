@@ -4,8 +4,8 @@ use Rattle.fbl_program.proofs.Common.{decimal, drop, inl, subst, unwrap_or, deci
 use Rattle.fbl_program.proofs.Common.{AreWorkers, IsFlag, IsJobAt, IsJobOf, IsTaskAt, Job, task_for, explain_for, IsMisuseOf, IsRefusedFor, Names, all_of, is_merge, first_of, subcommand_of}
 use Rattle.fbl_program.proofs.Common.{names_of, built_takes, takes, nothing_held, stop_after, App, HasKind, HasMatchesOf, ReadsOne, Row, Text, fault_of, is_simple_and_free, kind_of, one_of, subcommand_name_of, subcommand_rows}
 use Rattle.fbl_program.proofs.Common.{subcommand_rows_of, Error, OutOfMemory, ArgMatches, out-ArgMatches, out-SubCommand, SubCommand, WorkersAllowed, IsCommandLine, is_audit, is_check, is_draw}
-use Rattle.fbl_program.proofs.Common.{is_play, is_show, is_show_workers, is_workers, flag_text, program, with_explain}
-use Rattle.fbl_program.proofs.Common.{with_strict, Draw, Judge, Play, Run, Script, Show, Task}
+use Rattle.fbl_program.proofs.Common.{is_play, is_record, is_record_workers, is_show, is_show_workers, is_workers, flag_text, program, with_explain}
+use Rattle.fbl_program.proofs.Common.{with_strict, Draw, Judge, Play, Record, Run, Script, Show, Task}
 use Rattle.clap.proofs.OnLiterals.{clap_on_literals}
 
 -- the subcommand that the words behind the program's name give, with what was found of it
@@ -72,6 +72,18 @@ digit_gives None false = by_count (λ n. WordGives None false ((48 + n) ∷ []))
 workers_gives : (o : Option Bool) (e : Bool) (n : ℕ) → WorkersAllowed n → WordGives o e (decimal n)
 workers_gives o e n is = subst (WordGives o e) (sym (decimal_digit n (omega (arith, is.1)))) (digit_gives o e n is)
 
+-- the words of a record, with a number of workers
+abbrev RecordGives : Bool → Text → Type 0
+RecordGives e word = Gives (with_word word (codes "record" ∷ [])) (codes "record") (Some word) None e
+
+record_digit_gives : (e : Bool) (n : ℕ) → WorkersAllowed n → RecordGives e ((48 + n) ∷ [])
+unfolding clap_on_literals
+record_digit_gives true = by_count (λ n. RecordGives true ((48 + n) ∷ [])) (refl, refl) (refl, refl) (refl, refl) (refl, refl) (refl, refl) (refl, refl) (refl, refl) (refl, refl)
+record_digit_gives false = by_count (λ n. RecordGives false ((48 + n) ∷ [])) (refl, refl) (refl, refl) (refl, refl) (refl, refl) (refl, refl) (refl, refl) (refl, refl) (refl, refl)
+
+record_gives : (e : Bool) (n : ℕ) → WorkersAllowed n → RecordGives e (decimal n)
+record_gives e n is = subst (RecordGives e) (sym (decimal_digit n (omega (arith, is.1)))) (record_digit_gives e n is)
+
 -- what a command line asks for
 abbrev words_for : {words : List Text} → IsCommandLine words → Text × Option Text × Option Text
 words_for (is_merge line) = (codes "merge", None, None)
@@ -82,6 +94,8 @@ words_for (is_play s line) = (codes "play", Some (codes "2"), Some (flag_text s)
 words_for (is_workers s n count line) = (codes "play", Some (decimal n), Some (flag_text s))
 words_for (is_show line) = (codes "show", Some (codes "2"), None)
 words_for (is_show_workers n count line) = (codes "show", Some (decimal n), None)
+words_for (is_record line) = (codes "record", Some (codes "2"), None)
+words_for (is_record_workers n count line) = (codes "record", Some (decimal n), None)
 
 abbrev asked_for : {words : List Text} → IsCommandLine words → Asked
 asked_for line = (let words = words_for line in (words.0, words.1, words.2, Some (flag_text (explain_for line)), None, None, None))
@@ -98,6 +112,8 @@ line_gives words (is_play false line) = rw line.1 (elim line.0 as (PlayGives (co
 line_gives words (is_workers s n count line) = rw line.1 (workers_gives (Some s) line.0 n count)
 line_gives words (is_show line) = rw line.1 (elim line.0 as (Gives (codes "show" ∷ []) (codes "show") (Some (codes "2")) None) [ true ↦ (refl, refl) | false ↦ (refl, refl) ])
 line_gives words (is_show_workers n count line) = rw line.1 (workers_gives None line.0 n count)
+line_gives words (is_record line) = rw line.1 (elim line.0 as (Gives (codes "record" ∷ []) (codes "record") (Some (codes "2")) None) [ true ↦ (refl, refl) | false ↦ (refl, refl) ])
+line_gives words (is_record_workers n count line) = rw line.1 (record_gives line.0 n count)
 
 -- ---- refusals
 
@@ -166,6 +182,11 @@ show_found : (rows : List Row) (task : Option Task) (n : ℕ) → (workers : ℕ
     → n < 10 → one_of (codes "workers") rows ≡ Some (decimal n) → task ≡ Some (Script (Show n))
 show_found rows task n (workers, are, is) small counted = is ∙ ap (λ w. Some (Script (Show w))) (are n small counted)
 
+-- so is that of a record
+record_found : (rows : List Row) (task : Option Task) (n : ℕ) → (workers : ℕ) × AreWorkers rows workers × (task ≡ Some (Script (Record workers)))
+    → n < 10 → one_of (codes "workers") rows ≡ Some (decimal n) → task ≡ Some (Script (Record n))
+record_found rows task n (workers, are, is) small counted = is ∙ ap (λ w. Some (Script (Record w))) (are n small counted)
+
 -- a name that has no text is not given
 not_named : (name : Option (Bor Text)) (text : Option Text) → Names name text → text ≡ None → name ≡ None
 not_named None text is none = refl
@@ -187,6 +208,8 @@ task_found name rows task at (is_play s line) f = play_found rows task 2 s (at.p
 task_found name rows task at (is_workers s n count line) f = play_found rows task n s (at.play f.named) (omega (arith, count.1)) f.workers f.strict
 task_found name rows task at (is_show line) f = show_found rows task 2 (at.show f.named) (omega arith) (f.workers ∙ ap Some (sym two))
 task_found name rows task at (is_show_workers n count line) f = show_found rows task n (at.show f.named) (omega (arith, count.1)) f.workers
+task_found name rows task at (is_record line) f = record_found rows task 2 (at.recorded f.named) (omega arith) (f.workers ∙ ap Some (sym two))
+task_found name rows task at (is_record_workers n count line) f = record_found rows task n (at.recorded f.named) (omega (arith, count.1)) f.workers
 
 -- names that have no text are none
 none_named : (names : List (Bor Text)) (texts : Option (List Text)) → AreNames names (unwrap_or texts []) → texts ≡ None → names ≡ []
