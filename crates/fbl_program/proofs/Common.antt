@@ -25,7 +25,7 @@ pub use Rattle.fbl_trace.specs.Configs.{WorkersAllowed}
 pub use Rattle.fbl_play.specs.Steps.{is_refusal}
 pub use Rattle.fbl_play.specs.declared.answer.Answer.{Answer}
 pub use Rattle.fbl_pictures.specs.HistoryPictures.{IsHistoryPicture}
-pub use Rattle.fbl_program.specs.CommandLines.{AreNames, AreWorkers, IsFlag, IsMisuseOf, IsJobOf, IsRefusedFor, Names, is_merge, IsCommandLine, IsTaskAt, flag_text, is_play, is_show, task_for, explain_for, program}
+pub use Rattle.fbl_program.specs.CommandLines.{AreNames, AreWorkers, IsFlag, IsMisuseOf, IsJobOf, IsRefusedFor, Names, is_merge, IsCommandLine, IsTaskAt, flag_text, is_play, is_record, is_record_workers, is_show, task_for, explain_for, program}
 pub use Rattle.fbl_program.specs.CommandLines.{with_explain, with_strict, IsJobAt, is_audit, is_check, is_draw, is_show_workers, is_workers}
 pub use Rattle.fbl_program.specs.Statuses.{status_after}
 pub use Rattle.fbl_program.specs.declared.job.Task.{Task}

@@ -1,6 +1,10 @@
 -- The exit status of what was done, and whether a play was refused something.
 use Rattle.fbl_trace.specs.declared.trace.Note.{Note}
 use Rattle.fbl_program.proofs.Common.{◌≡◌, ℕ, ◌||◌, ◌&&◌, not, Bool, false, List, [], ◌∷◌, Option, Some, None, Result, Ok, Err, IfSome, arith, IsErrAnd, OutputFault, PutsOut, puts_as, ap, ◌∙◌, list_any, or-false, sym, RunFault}
+use Rattle.fbl_program.specs.Outcomes.{DoesScript, TriesScript}
+use Rattle.fbl_program.specs.declared.job.ScriptTask.{ScriptTask}
+use Rattle.fbl_program.specs.declared.scripts.ScriptFault.{ScriptFault}
+use Rattle.fbl_program.specs.declared.scripts.ScriptFault.TheVariants as scripts
 use Rattle.fbl_program.proofs.Common.{Answer, AnswerFault, Answers, Output, is_refusal, Command, GroupRecord, Observes, PlaysScript, Ran, Transcript, Outline, PlaysWell, next_of, status_after, text, unobserved}
 
 -- what is known of what was done over an input is known of the status that it ends with
@@ -21,6 +25,12 @@ pub cut_answer : {A : Type 0} (IsRight : A → List ℕ → Type 0) (IsSeen : Bo
     → IsErrAnd r (λ x. x ≡ Output e) → PutsOut IsRight before after (Err e) → Answers IsSeen Missing before after r
 cut_answer IsRight IsSeen Missing f right before after e (Ok x) same puts = absurd same
 cut_answer IsRight IsSeen Missing f right before after e (Err x) same puts = rw same (puts_as IsRight IsSeen f right before after e puts)
+
+-- the same of a script, which may have no record
+pub tries_err : (task : ScriptTask) (s : Outline) (before after : Option (List ℕ)) (e : OutputFault) (r : Result Bool ScriptFault) → IsErrAnd r (λ x. x ≡ scripts.Output e)
+    → DoesScript task s before after (Err e) → TriesScript task s before after r
+tries_err task s before after e (Ok x) same does = absurd same
+tries_err task s before after e (Err x) same does = rw same does
 
 -- an observer that keeps whether some command was refused
 module _ {O : Type 0} (has : O → Bool) where
