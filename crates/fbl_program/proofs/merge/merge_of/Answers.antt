@@ -26,8 +26,12 @@ pub returns-in_err-run-in-Logs-clause-refused : goal.returns-in_err-run-in-Logs-
 returns-in_err-run-in-Logs-clause-refused c =
     let united = rw c.as_slice-in-Logs.ensures.value at c.in_ok-whole-in-Logs.ensures.union in
     rw c.in-Logs.is (passed (RefusesMerge (Logs c.in-Logs.logs)) (Order c.in_err-run-in-Logs.field-0.0) c.from_residual-in_err-run-in-Logs.result
-    c.from_residual-in_err-run-in-Logs.ensures.1 (parts_of_log c.in_ok-whole-in-Logs.whole.run, c.in_ok-whole-in-Logs.whole.places.items, united,
-    c.in_err-run-in-Logs.ensures.refused))
+    c.from_residual-in_err-run-in-Logs.ensures.1 (
+      parts_of_log c.in_ok-whole-in-Logs.whole.run,
+      c.in_ok-whole-in-Logs.whole.places.items,
+      united,
+      c.in_err-run-in-Logs.ensures.refused,
+    ))
 
 pub returns-in_ok-run-in-Dumps-clause-merged : goal.returns-in_ok-run-in-Dumps-clause-merged
 returns-in_ok-run-in-Dumps-clause-merged c =
