@@ -285,21 +285,34 @@ def try_mutated_logs(tally):
         tally.note(is_fault or found_unsafe or (ran.status == 0 and ran.fault == ""), f"files {number} for {words[0]}, {given!r:.600}: {ran}")
 
 
+def try_without_memory(refuser, words, files, tally):
+    """Of so many files the whole is written, or their fault, or nothing where a request for memory is refused."""
+    wanted, refused = run(words), 0
+    for variable in ("REFUSE_AT", "REFUSE_FROM"):
+        for number, ran, met in refuser.refuse_each(words, variable=variable):
+            # the fault's line stands where there is no memory for its explanation
+            whole = ran[:2] == wanted[:2] and (ran.fault == wanted.fault or (met and "--explain" in words and wanted.fault.startswith(ran.fault)))
+            tally.note(whole or (met and ran == NOTHING), f"{words}, {variable}={number}: {ran}")
+            refused += ran == NOTHING
+    # each file takes some requests
+    tally.note(refused > files, f"{words}: memory ran out {refused} times alone")
+
+
+def later_life_first():
+    """Files for two lives of a member, the later one first, and for another member. To sort so many entries takes memory."""
+    events = ([["restart", 1, 1, 1, 1], ["send", 1, 2, 0]], [["send", 0, 1, 1]], [["receipt", 1, 1, 0, 1], *(["send", 1, number, 0] for number in range(1, 30))])
+    return [{"version": 2, "members": 2, "f": 1, "strike": [], "events": own} for own in events]
+
+
 def try_logs_without_memory(refuser, _, tally):
-    """Of several files, and of a log with restarts, the whole is written, or their fault, or nothing where a request for memory is refused."""
+    """Several files, and logs with restarts, where requests for memory are refused."""
     logs = [EXAMPLES / "logs" / f"member-{member}.json" for member in range(3)]
     late = [EXAMPLES / "wrong/member-0-send-last.json", *logs[1:]]
     moments = [EXAMPLES / "moments" / f"member-{member}.json" for member in range(3)]
     restarts = [EXAMPLES / "restarts" / f"{name}.json" for name in ("undone", "one-of-two")]
-    for words in (["merge", *logs], ["audit", *logs], ["check", "--explain", *logs], ["draw", *logs], ["merge", *late], ["merge", "--explain", *late],
-                  ["merge", *moments], ["audit", "--explain", *moments], ["check", "--explain", *moments], ["draw", *moments],
-                  ["check", *moments[1:]], ["check", *moments[1:], *logs[:1]], *(["check", "--explain", log] for log in restarts)):
-        wanted, refused = run(words), 0
-        for variable in ("REFUSE_AT", "REFUSE_FROM"):
-            for number, ran, met in refuser.refuse_each(words, variable=variable):
-                # the fault's line stands where there is no memory for its explanation
-                whole = ran[:2] == wanted[:2] and (ran.fault == wanted.fault or (met and "--explain" in words and wanted.fault.startswith(ran.fault)))
-                tally.note(whole or (met and ran == NOTHING), f"{words}, {variable}={number}: {ran}")
-                refused += ran == NOTHING
-        # each file takes some requests
-        tally.note(refused > len(logs), f"{words}: memory ran out {refused} times alone")
+    with files_of(texts_of(later_life_first())) as lives:
+        for words in (["merge", *logs], ["audit", *logs], ["check", "--explain", *logs], ["draw", *logs], ["merge", *late],
+                      ["merge", "--explain", *late], ["merge", *moments], ["audit", "--explain", *moments], ["check", "--explain", *moments],
+                      ["draw", *moments], ["check", *moments[1:]], ["check", *moments[1:], *logs[:1]], ["merge", *lives],
+                      ["check", "--explain", *lives], *(["check", "--explain", log] for log in restarts)):
+            try_without_memory(refuser, words, len(logs), tally)

@@ -1,7 +1,7 @@
 -- An entry of a log with restarts that may come next still may where other members have come further.
-use Rattle.fbl_order.proofs.Common.{ℕ, zero, suc, List, [], ◌∷◌, ◌++◌, ◌+◌, ◌≡◌, ◌≢◌, ◌≤◌, ◌<◌, ◌∙◌, ◌⊎◌, Some, refl, sym, ap, subst, arith, inl, inr, cases_eq, cases_lt, cases_order}
+use Rattle.fbl_order.proofs.Common.{ℕ, List, ◌++◌, ◌+◌, ◌≡◌, ◌≢◌, ◌≤◌, ◌<◌, ◌∙◌, Some, refl, sym, ap, subst, arith, inl, inr, cases_lt, cases_order}
 use Rattle.fbl_order.proofs.Common.{length, length-append, take, take_all, take-append-le, slice_get, slice_get_within, At-front, Contains}
-use Rattle.fbl_order.proofs.Common.{Mark, Send, Receipt, Entry, Event, entry_member, mark_in, marks, member_of, send_of, LogsBegin, Begins}
+use Rattle.fbl_order.proofs.Common.{Mark, Send, Receipt, Entry, Event, entry_member, mark_in, marks, member_of, send_of, LogsBegin}
 use Rattle.fbl_order.proofs.Own.{own-front}
 use Rattle.fbl_order.proofs.Marks.{mark_member}
 use Rattle.fbl_trace.proofs.Gets.{At-append}
@@ -10,7 +10,7 @@ use Rattle.fbl_runs.specs.declared.entry.Entry.TheVariants.{Restart}
 use Rattle.fbl_runs.specs.Clocks.{seen}
 use Rattle.fbl_runs.specs.ControlMessages.{MayBeTold}
 use Rattle.fbl_runs.specs.Entries.{log_of, named_life, restart_in}
-use Rattle.fbl_runs.specs.HappenedBefore.{Carries, IsAt, Position, at}
+use Rattle.fbl_runs.specs.HappenedBefore.{Carries, IsAt, at}
 use Rattle.fbl_runs.specs.Lives.{StandsBehind, StandsInLife, life_in, standing}
 use Rattle.fbl_runs.specs.Rules.{FollowsAt, IsDue, IsReached, IsSentInLife, IsTaken, KeepsReceipts, MayFollow, MayTake, next_in, receipts_standing, restarts, sends_standing}
 use Rattle.fbl_runs.proofs.LifeLaws.{LivesRise, StandsBehind-earlier, restart_is, stands_in_life}

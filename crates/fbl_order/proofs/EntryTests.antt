@@ -1,5 +1,5 @@
 -- Whether two entries are the same, as `==` decides it.
-use Rattle.fbl_order.proofs.Common.{ℕ, Bool, true, List, Entry, Event, Hold, LaterReceipt, Restart, Store, Tell, Told, Send, Receipt, ◌≡◌, arith, nat_tests, refl, ap}
+use Rattle.fbl_order.proofs.Common.{Bool, true, Entry, Event, Hold, LaterReceipt, Restart, Store, Tell, Told, Send, Receipt, ◌≡◌, arith, nat_tests}
 use Rattle.fbl_runs.specs.contracts.entry.EntryPartialEq.TheImpl as impl
 
 abbrev pub same : Entry → Entry → Bool

@@ -1,7 +1,7 @@
 -- Parts of orders of entries: one to which no next entry can be added is the furthest.
 use Rattle.fbl_order.proofs.Common.{ℕ, zero, suc, List, [], ◌∷◌, ◌++◌, ◌+◌, ◌≡◌, ◌≤◌, ◌<◌, ◌∙◌, Some, refl, sym, ap, subst, arith, inl, inr, cases_eq, cases_order, eqb-self}
 use Rattle.fbl_order.proofs.Common.{drop, length, length-append, length-take, take, take_all, take-append-drop, take-append-le, take-more, slice_get, slice_get_within, slice_get-take, append-nil, append_assoc, append_cancel_left, filter-append, filter_map-append}
-use Rattle.fbl_order.proofs.Common.{At-filter, At-front, At-push, Begins, own, Mark, Send, Receipt, log_of, member_of, mark_in, marks, WellFormed, WellFormed-keeps, WellFormed-push, MayFollow}
+use Rattle.fbl_order.proofs.Common.{At-filter, At-front, At-push, Begins, own, Mark, Send, Receipt, log_of, member_of, mark_in, marks, WellFormed, WellFormed-push, MayFollow}
 use Rattle.fbl_order.proofs.Common.{Entry, Event, Hold, LaterReceipt, Restart, Store, Tell, Told, entry_member, MayCome, MayFollowAs, LogsBegin, Obeys, SameEntryLogs, AreFew, AreHeard, IsBegun, IsFurthest, HasNoOrder, CanCome}
 use Rattle.fbl_order.proofs.Common.{Bool, None, Option, true, false, cond, have_lives, restart_in, receipt_of, WellFormed-none}
 use Rattle.fbl_order.proofs.Dues.{lives-later}
@@ -12,7 +12,7 @@ use Rattle.std.proofs.lemmas.List.Sums.{sum_by_push}
 use Rattle.fbl_runs.specs.declared.entry.Restart as restart
 use Rattle.fbl_runs.specs.Rules as rules
 use Rattle.fbl_runs.proofs.LifeLaws.{restart_is}
-use Rattle.fbl_order.proofs.Own.{At-some, own-begin-shorter, own-front, own-push, own-push_other, own-take, same_own-length}
+use Rattle.fbl_order.proofs.Own.{At-some, own-front, own-push, own-push_other, own-take}
 use Rattle.fbl_runs.specs.declared.control.ControlMessage.{ControlMessage}
 use Rattle.fbl_runs.specs.ControlMessages.{AreTold, Has, MayBeTold}
 use Rattle.fbl_runs.specs.HappenedBefore.{IsAt, at}

@@ -1,5 +1,5 @@
 -- Where there are too many sends and receipts, or restarts, there is no order.
-use Rattle.fbl_order.proofs.Common.{ℕ, List, Entry, Some, ◌≡◌, ◌<◌, ◌∙◌, ap, arith, inl, inr, refl, sym, slice_get, take, restarts, restart_in, have_lives, AreFew, RefusesMany, RefusesOrder, IsOneLifeTooMany}
+use Rattle.fbl_order.proofs.Common.{ℕ, List, Entry, Some, ◌≡◌, ◌<◌, ◌∙◌, ap, arith, inl, inr, slice_get, take, restarts, restart_in, have_lives, AreFew, RefusesMany, RefusesOrder, IsOneLifeTooMany}
 use Rattle.fbl_order.proofs.Fronts.{none-from_many}
 use Rattle.fbl_order.proofs.Marks.{is_restart-is, marks-before, restarts-more, weight}
 use Rattle.fbl_order.proofs.Common.{true, cond, is_some, ◌+◌}

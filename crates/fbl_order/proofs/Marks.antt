@@ -1,6 +1,6 @@
 -- The sends and receipts among entries, and in a member's log.
 use Rattle.fbl_order.proofs.Common.{ℕ, List, Mark, None, Some, [], ◌∷◌, ◌++◌, ◌+◌, ◌<◌, ◌≡◌, ◌==◌, ◌∙◌, true, false, cond, ap, arith, drop, length-append, refl, sym, length, take-append-drop, take, slice_get, filter_map-append}
-use Rattle.fbl_order.proofs.Common.{Entry, Event, Hold, Store, LaterReceipt, Restart, Tell, Told, entry_member, mark_in, marks, member_of, receipt_of, filter_map, append-nil, take-more, add-one, own, Begins, LogsBegin, log_of, as_entries, items_at}
+use Rattle.fbl_order.proofs.Common.{Entry, Event, Hold, Store, LaterReceipt, Restart, Tell, Told, entry_member, mark_in, marks, member_of, receipt_of, append-nil, take-more, add-one, own, Begins, LogsBegin, log_of, as_entries, items_at}
 use Rattle.fbl_trace.proofs.Common.{cons_option}
 use Rattle.fbl_trace.proofs.Gets.{map-At}
 use Rattle.fbl_runs.specs.declared.entry.Restart as restart

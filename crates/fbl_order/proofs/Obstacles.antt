@@ -4,7 +4,6 @@ use Rattle.fbl_order.proofs.Common.{Bool, true, false, BreaksControl, BreaksEven
 use Rattle.fbl_trace.specs.declared.fault.EventRule.{EventRule}
 use Rattle.fbl_trace.specs.declared.fault.EventRule.TheVariants.{NothingInFlight}
 use Rattle.fbl_runs.specs.Entries.{receipt_in}
-use Rattle.fbl_runs.specs.declared.control.ControlMessage.{ControlMessage}
 use Rattle.fbl_runs.specs.declared.fault.ControlRule.{ControlRule}
 use Rattle.fbl_runs.specs.declared.fault.ControlRule.TheVariants.{NotTold}
 use Rattle.fbl_runs.specs.declared.fault.LifeRule.{LifeRule}

@@ -65,8 +65,8 @@ merge several files themselves:
   fblrun check member-0.json member-1.json member-2.json
 
 A log, a dump of version 2, may also be lines, as a process can write them: the object without its events, and on each further
-line an event, or a list of events. A process that crashes and comes back writes a file for each of its lives: name them in
-the order of the lives."#;
+line an event, or a list of events. A process that crashes and comes back writes a file for each of its lives, which may
+be named in any order."#;
 
 /// What `audit` does.
 const AUDIT: &str =

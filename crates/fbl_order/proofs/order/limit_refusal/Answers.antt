@@ -1,4 +1,4 @@
-use Rattle.fbl_order.proofs.Common.{Entry, RefusesMany, Some, ◌≡◌, ◌∙◌, ap, inl, mark_in, refl, slice_get, slice_get_read, slice_get_within, sym}
+use Rattle.fbl_order.proofs.Common.{Entry, Some, ◌≡◌, ◌∙◌, ap, inl, mark_in, refl, slice_get, slice_get_read, slice_get_within, sym}
 use Rattle.fbl_order.proofs.order.limit_refusal.Goals.{then-lived, else-lived}
 use Rattle.fbl_order.proofs.order.limit_refusal.Goals as goal
 

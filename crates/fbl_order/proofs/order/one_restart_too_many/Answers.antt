@@ -1,4 +1,4 @@
-use Rattle.fbl_order.proofs.Common.{ℕ, Bool, None, Option, Some, ◌≡◌, ◌∙◌, ap, arith, inr, is_some, refl, restarts, slice_get_read, sym, take_all}
+use Rattle.fbl_order.proofs.Common.{ℕ, ◌≡◌, ◌∙◌, ap, arith, inr, is_some, refl, restarts, slice_get_read, sym, take_all}
 use Rattle.fbl_order.proofs.Marks.{is_restart-is, restart_there, restarts-more, weight}
 use Rattle.fbl_runs.specs.Rules.{is_restart}
 use Rattle.fbl_order.proofs.order.one_restart_too_many.Goals.{then-is_some+else-count-eq-MOST_RESTARTS, else-is_some}

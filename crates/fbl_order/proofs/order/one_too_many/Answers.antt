@@ -1,4 +1,4 @@
-use Rattle.fbl_order.proofs.Common.{ℕ, Some, ◌≡◌, ◌∙◌, ap, arith, length, length-append, marks, refl, slice_get_read, sym, take, take_all}
+use Rattle.fbl_order.proofs.Common.{ℕ, ◌∙◌, ap, arith, length, length-append, marks, refl, slice_get_read, sym, take, take_all}
 use Rattle.fbl_order.proofs.Marks.{marks-none, marks-some}
 use Rattle.fbl_order.proofs.order.one_too_many.Goals.{in-Some+else-count-eq-MOST_EVENTS, in_default}
 use Rattle.fbl_order.proofs.order.one_too_many.Goals as goal

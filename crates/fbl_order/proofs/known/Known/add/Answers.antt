@@ -1,4 +1,4 @@
-use Rattle.fbl_order.proofs.Common.{◌≡◌, ◌++◌, ◌∷◌, [], Bool, true, List, Entry, subst, sym}
+use Rattle.fbl_order.proofs.Common.{◌++◌, ◌∷◌, [], Bool, subst, sym}
 use Rattle.fbl_order.specs.Known.{Knows, MayCome}
 use Rattle.fbl_order.specs.declared.known.Known.TheVariants.{Lives}
 use Rattle.fbl_order.proofs.KnownLaws.{known_lives, on_ok}

@@ -1,4 +1,4 @@
-use Rattle.fbl_order.proofs.Common.{◌≡◌, Bool, true, subst, sym}
+use Rattle.fbl_order.proofs.Common.{Bool, subst, sym}
 use Rattle.fbl_order.specs.Known.{Breaks, MayCome}
 use Rattle.fbl_order.specs.declared.known.BrokenRule.TheVariants.{Life}
 use Rattle.fbl_runs.proofs.RuleLaws.{breaks_life}

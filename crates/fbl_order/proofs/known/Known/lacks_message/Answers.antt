@@ -1,4 +1,4 @@
-use Rattle.fbl_order.proofs.Common.{◌≡◌, ◌∙◌, Bool, true, false, not, List, Some, None, inl, inr, refl, subst, sym, ap, Entry, Event, Hold, LaterReceipt, Restart, Store, Tell, Told}
+use Rattle.fbl_order.proofs.Common.{◌≡◌, ◌∙◌, Bool, true, false, not, List, Some, None, inl, inr, refl, subst, sym, Entry, Event, Hold, LaterReceipt, Restart, Store, Tell, Told}
 use Rattle.fbl_trace.specs.declared.trace.Determinant.{Determinant}
 use Rattle.fbl_runs.specs.ControlMessages.{BreaksControl}
 use Rattle.fbl_runs.specs.Entries.{log_of, named_life, receipt_in}

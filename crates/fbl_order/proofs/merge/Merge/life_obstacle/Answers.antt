@@ -1,4 +1,4 @@
-use Rattle.fbl_order.proofs.Common.{◌≡◌, ◌↔◌, ◌∙◌, ℕ, Bool, Entry, Knows, LacksInLife, List, IsFirstAfter, IsNextAt, false≢true, get_or, have_lives, true, ap, arith, entry_member, placed_of, subst, sym}
+use Rattle.fbl_order.proofs.Common.{◌≡◌, ◌∙◌, ℕ, Bool, Entry, Knows, IsFirstAfter, IsNextAt, false≢true, get_or, arith, entry_member, placed_of, subst, sym}
 use Rattle.fbl_order.specs.Faults.{HasAllOf}
 use Rattle.fbl_order.proofs.MergeLaws.{cursor-next}
 use Rattle.fbl_order.proofs.Obstacles.{has_all, passes_one}

@@ -1,7 +1,7 @@
 use Rattle.fbl_order.proofs.Common.{Bool, Breaks, have_lives, placed_of, subst, sym}
 use Rattle.fbl_order.specs.Faults.{Hinders}
 use Rattle.fbl_order.specs.declared.known.BrokenRule.TheVariants as broken
-use Rattle.fbl_order.proofs.Obstacles.{breaks_found, control_case, event_case, life_case, some_found}
+use Rattle.fbl_order.proofs.Obstacles.{breaks_found, control_case, event_case, life_case}
 use Rattle.fbl_order.proofs.merge.Merge.obstacle.Goals as goal
 
 event_breaks : (c : goal.In-Event) → Breaks (have_lives c.args.entries.now) c.args.n (placed_of c.args.entries.now c.args.self.now) c.args.entry.now (broken.Event c.in-Event.rule)
