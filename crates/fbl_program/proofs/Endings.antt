@@ -1,7 +1,13 @@
 -- The exit status of what was done, and whether a play was refused something.
 use Rattle.fbl_trace.specs.declared.trace.Note.{Note}
-use Rattle.fbl_program.proofs.Common.{◌≡◌, ℕ, ◌||◌, ◌&&◌, not, Bool, false, List, [], ◌∷◌, Option, Some, None, Result, Ok, Err, IfSome, arith, IsErrAnd, OutputFault, PutsOut, puts_as, ap, ◌∙◌, list_any, or-false, sym, RunFault}
-use Rattle.fbl_program.specs.Outcomes.{DoesScript, TriesScript}
+use Rattle.std.specs.Prelude.{◌≢◌}
+use Rattle.fbl_program.proofs.Common.{◌≡◌, ℕ, ◌||◌, ◌&&◌, not, Bool, false, refl, subst, List, [], ◌∷◌, Option, Some, None, Result, Ok, Err, IfSome, arith, IsErrAnd, OutputFault, PutsOut, puts_as, ap, ◌∙◌, list_any, or-false, sym, RunFault}
+use Rattle.fbl_play.specs.Records.{IsRecordPlay}
+use Rattle.fbl_play.specs.declared.record.RecordFault.{RecordFault}
+use Rattle.fbl_play.specs.declared.record.RecordFault.TheVariants as faults
+use Rattle.fbl_records.specs.LogLines.{log_line}
+use Rattle.fbl_runs.specs.Logs.{IsLog, RunParts}
+use Rattle.fbl_program.specs.Outcomes.{DoesScript, HasNoLog, IsRecorded, TriesScript}
 use Rattle.fbl_program.specs.declared.job.ScriptTask.{ScriptTask}
 use Rattle.fbl_program.specs.declared.scripts.ScriptFault.{ScriptFault}
 use Rattle.fbl_program.specs.declared.scripts.ScriptFault.TheVariants as scripts
@@ -31,6 +37,19 @@ pub tries_err : (task : ScriptTask) (s : Outline) (before after : Option (List �
     → DoesScript task s before after (Err e) → TriesScript task s before after r
 tries_err task s before after e (Ok x) same does = absurd same
 tries_err task s before after e (Err x) same does = rw same does
+
+-- a script that was played has a record, or no log has it, whoever observes the play
+module _ {O : Type 0} (seen_before : GroupRecord ℕ Note → Transcript → O → Command → O → Type 0) (seen_after : GroupRecord ℕ Note → Transcript → O → Command → Answer → O → Type 0) where
+  module _ (workers : ℕ) (s : Outline) (old new : O) where
+    pub recorded : (run : RunParts) (told : List ℕ) → IsRecordPlay seen_before seen_after workers s old new (Ok run) → told ≡ log_line run → IsRecorded workers s told
+    recorded run told (columns, raw, plays, made, same, log) is = (columns, raw, plays.0, made, subst IsLog same log, is ∙ ap log_line same)
+
+    pub has_no_log : (fault : RecordFault) → fault ≢ faults.Memory → IsRecordPlay seen_before seen_after workers s old new (Err fault) → HasNoLog workers s
+    has_no_log faults.Memory other is = absurd (other refl)
+    has_no_log faults.Uneven other (columns, plays, none) = (columns, faults.Uneven, plays.0, none)
+    has_no_log faults.Restarts other (columns, plays, none) = (columns, faults.Restarts, plays.0, none)
+    has_no_log faults.Marks other (columns, plays, none) = (columns, faults.Marks, plays.0, none)
+    has_no_log (faults.Refused breach) other (columns, plays, none) = (columns, faults.Refused breach, plays.0, none)
 
 -- an observer that keeps whether some command was refused
 module _ {O : Type 0} (has : O → Bool) where
