@@ -96,8 +96,8 @@ fn show<T: Eprint + Threads + Wait + Sync, W: Write>(
     write_history_picture(alloc, members, f, name, history.columns(), writer)
 }
 
-/// Plays the script, or draws its history or writes its record once it was played, and answers whether all is well. Each command is told of where that
-/// is asked for.
+/// Plays the script, or draws its history or writes its record once it was played, and answers whether all is well. Each command is
+/// told of where that is asked for.
 pub(crate) fn do_script<T: Eprint + Threads + Wait + Sync, W: Write>(
     rt: &T,
     alloc: Global,
