@@ -1,13 +1,11 @@
 -- The exit status of what was done, and whether a play was refused something.
 use Rattle.fbl_trace.specs.declared.trace.Note.{Note}
-use Rattle.std.specs.Prelude.{◌≢◌}
-use Rattle.fbl_program.proofs.Common.{◌≡◌, ℕ, ◌||◌, ◌&&◌, not, Bool, false, refl, subst, List, [], ◌∷◌, Option, Some, None, Result, Ok, Err, IfSome, arith, IsErrAnd, OutputFault, PutsOut, puts_as, ap, ◌∙◌, list_any, or-false, sym, RunFault}
+use Rattle.fbl_program.proofs.Common.{◌≡◌, ℕ, ◌||◌, ◌&&◌, not, Bool, false, inl, refl, subst, IsScriptOf, Script, List, [], ◌∷◌, Option, Some, None, Result, Ok, Err, IfSome, arith, IsErrAnd, OutputFault, PutsOut, puts_as, ap, ◌∙◌, list_any, or-false, sym, RunFault}
 use Rattle.fbl_play.specs.Records.{IsRecordPlay}
-use Rattle.fbl_play.specs.declared.record.RecordFault.{RecordFault}
-use Rattle.fbl_play.specs.declared.record.RecordFault.TheVariants as faults
+use Rattle.fbl_input.specs.Faults.{run_result}
 use Rattle.fbl_records.specs.LogLines.{log_line}
 use Rattle.fbl_runs.specs.Logs.{IsLog, RunParts}
-use Rattle.fbl_program.specs.Outcomes.{DoesScript, HasNoLog, IsRecorded, TriesScript}
+use Rattle.fbl_program.specs.Outcomes.{DoesScript, EndsTask, IsRecorded, TriesScript}
 use Rattle.fbl_program.specs.declared.job.ScriptTask.{ScriptTask}
 use Rattle.fbl_program.specs.declared.scripts.ScriptFault.{ScriptFault}
 use Rattle.fbl_program.specs.declared.scripts.ScriptFault.TheVariants as scripts
@@ -18,6 +16,13 @@ pub ended : (known : Option (List ℕ)) (Does : List ℕ → Result Bool RunFaul
     → IfSome known (λ input. Does input done) → IfSome known (λ input. (r : Result Bool RunFault) × Does input r × (status ≡ status_after r))
 ended None Does done status is h = tt
 ended (Some input) Does done status is h = (done, h, is)
+
+-- so it is of what was done with a script
+pub script_ended : (task : ScriptTask) (s : Outline) (before after : Option (List ℕ)) (done : Result Bool OutputFault) (status : ℕ) (known : Option (List ℕ))
+    → IfSome known (λ input. IsScriptOf input s) → DoesScript task s before after done → status ≡ status_after (run_result done)
+    → IfSome known (λ input. EndsTask (Script task) input before after status)
+script_ended task s before after done status None is does same = tt
+script_ended task s before after done status (Some input) is does same = inl (run_result done, inl (s, done, is, does, refl), same)
 
 -- an answer that was cut off, seen as whether all is well
 pub cut : {A : Type 0} (IsRight : A → List ℕ → Type 0) (IsSeen : Bool → List ℕ → Type 0) (f : A → Bool) → ((x : A) (told : List ℕ) → IsRight x told → IsSeen (f x) told)
@@ -38,18 +43,11 @@ pub tries_err : (task : ScriptTask) (s : Outline) (before after : Option (List �
 tries_err task s before after e (Ok x) same does = absurd same
 tries_err task s before after e (Err x) same does = rw same does
 
--- a script that was played has a record, or no log has it, whoever observes the play
+-- what a record of a play has as its line, whoever observes the play
 module _ {O : Type 0} (seen_before : GroupRecord ℕ Note → Transcript → O → Command → O → Type 0) (seen_after : GroupRecord ℕ Note → Transcript → O → Command → Answer → O → Type 0) where
   module _ (workers : ℕ) (s : Outline) (old new : O) where
     pub recorded : (run : RunParts) (told : List ℕ) → IsRecordPlay seen_before seen_after workers s old new (Ok run) → told ≡ log_line run → IsRecorded workers s told
     recorded run told (columns, raw, plays, made, same, log) is = (columns, raw, plays.0, made, subst IsLog same log, is ∙ ap log_line same)
-
-    pub has_no_log : (fault : RecordFault) → fault ≢ faults.Memory → IsRecordPlay seen_before seen_after workers s old new (Err fault) → HasNoLog workers s
-    has_no_log faults.Memory other is = absurd (other refl)
-    has_no_log faults.Uneven other (columns, plays, none) = (columns, faults.Uneven, plays.0, none)
-    has_no_log faults.Restarts other (columns, plays, none) = (columns, faults.Restarts, plays.0, none)
-    has_no_log faults.Marks other (columns, plays, none) = (columns, faults.Marks, plays.0, none)
-    has_no_log (faults.Refused breach) other (columns, plays, none) = (columns, faults.Refused breach, plays.0, none)
 
 -- an observer that keeps whether some command was refused
 module _ {O : Type 0} (has : O → Bool) where

@@ -1,6 +1,16 @@
-use Rattle.fbl_program.proofs.Common.{Err, IfSome_then, inl, refl, over_fault, DoesScript, IsScriptFault, IsScriptOf, OverInput}
-use Rattle.fbl_program.proofs.Endings.{ended}
+use Rattle.fbl_program.proofs.Common.{Err, IfSome_then, Ok, inl, outline, refl, over_fault, DoesScript, IsScriptFault, IsScriptOf, OverInput}
+use Rattle.fbl_program.proofs.Endings.{ended, script_ended}
 use Rattle.fbl_program.proofs.jobs.end_script.Goals as goal
+
+pub returns-in-Ok-do_script : goal.returns-in-Ok-do_script
+returns-in-Ok-do_script g c =
+    script_ended c.args.task (outline c.in-Ok.script) _ _ (Ok c.in-Ok-do_script.is_well) _ (g.R.Read.remaining c.args.reader.now.stream)
+    c.in-Ok.ensures.script c.in-Ok-do_script.ensures c.end.ensures
+
+pub returns-in-Err-Output : goal.returns-in-Err-Output
+returns-in-Err-Output g c =
+    script_ended c.args.task (outline c.in-Ok.script) _ _ (Err c.in-Err-Output.fault) _ (g.R.Read.remaining c.args.reader.now.stream)
+    c.in-Ok.ensures.script (rw (c.in-Err-Output.is, c.in-Err-Output.field-0-is) at c.do_script.ensures) c.end-in-Err-Output.ensures
 
 pub returns-in-Err : goal.returns-in-Err
 returns-in-Err g c =
