@@ -285,13 +285,19 @@ def try_mutated_logs(tally):
         tally.note(is_fault or found_unsafe or (ran.status == 0 and ran.fault == ""), f"files {number} for {words[0]}, {given!r:.600}: {ran}")
 
 
+def is_told_of(told, wanted):
+    """Whether what is told are lines of what is to be told, in their order: the fault's line, if there is one, and of an explanation what there
+    is memory for."""
+    lines, more = iter(wanted.splitlines()), told.splitlines()
+    return all(line in lines for line in more) and (not wanted.startswith("fault: ") or more[:1] == wanted.splitlines()[:1])
+
+
 def try_without_memory(refuser, words, files, tally):
     """Of so many files the whole is written, or their fault, or nothing where a request for memory is refused."""
     wanted, refused = run(words), 0
     for variable in ("REFUSE_AT", "REFUSE_FROM"):
         for number, ran, met in refuser.refuse_each(words, variable=variable):
-            # the fault's line stands where there is no memory for its explanation
-            whole = ran[:2] == wanted[:2] and (ran.fault == wanted.fault or (met and "--explain" in words and wanted.fault.startswith(ran.fault)))
+            whole = ran[:2] == wanted[:2] and (ran.fault == wanted.fault or (met and "--explain" in words and is_told_of(ran.fault, wanted.fault)))
             tally.note(whole or (met and ran == NOTHING), f"{words}, {variable}={number}: {ran}")
             refused += ran == NOTHING
     # each file takes some requests
