@@ -18,7 +18,7 @@ use Rattle.fbl_scripts.specs.Scripts.{Outline}
 use Rattle.fbl_group.proofs.Common.{nat_tests}
 use Rattle.fbl_play.proofs.Common.{◌≡◌, ◌∙◌, ℕ, ◌+◌, ◌<◌, List, [], ◌∷◌, ◌++◌, length, drop, Answer, Column, Command, Err, GroupRecord, None, Next, Ok, Result, Some, Transcript, next_of}
 use Rattle.fbl_play.specs.Plays.{PlaysScript}
-use Rattle.fbl_play.specs.Records.{HasNoRecord, IsLogFault, IsOfAnother, IsRecordOf, IsRecordPlay, IsStopped, Makes, Recorded, Records, RecordsAll}
+use Rattle.fbl_play.specs.Records.{IsLogFault, IsOfAnother, IsRecordOf, IsRecordPlay, IsStopped, Makes, Recorded, Records, RecordsAll}
 use Rattle.fbl_play.specs.Transcripts.{history}
 use Rattle.fbl_play.specs.declared.record.RecordFault.{RecordFault}
 use Rattle.fbl_play.specs.declared.record.RecordFault.TheVariants as faults

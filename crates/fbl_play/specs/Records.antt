@@ -25,7 +25,6 @@ use Rattle.fbl_history.specs.declared.column.Column.{Column}
 use Rattle.fbl_history.specs.declared.column.Column.TheVariants.{Checkpoint, Receipt, Recovery, Send, Strike}
 use Rattle.fbl_runs.specs.declared.entry.Entry.{Entry}
 use Rattle.fbl_runs.specs.declared.entry.Entry.TheVariants.{Event, Hold, LaterReceipt, Restart, Store, Tell, Told}
-use Rattle.fbl_runs.specs.declared.fault.LogBreach.{LogBreach}
 use Rattle.fbl_runs.specs.declared.run.RawLog.{RawLog}
 use Rattle.fbl_runs.specs.Logs.{IsLog, IsLogBreach, RefusesLog, RunParts, parts_of_log}
 use Rattle.fbl_scripts.specs.declared.script.Command.{Command}

@@ -1,4 +1,4 @@
-use Rattle.std.proofs.Common.{◌≡◌, ◌∙◌, ◌+◌, arith, drop, inr, length, refl, rules, sym}
+use Rattle.std.proofs.Common.{◌∙◌, ◌+◌, arith, drop, inr, length, refl, sym}
 use Rattle.fbl_trace.specs.Events.{mark_of}
 use Rattle.fbl_play.proofs.Recording.{makes, trace_grows}
 use Rattle.fbl_play.proofs.record.receive.Goals as goal
