@@ -65,7 +65,7 @@ makes old new event longer is = record {
 
 pub stopped_weaker : (P Q : Type 0) → (P → Q) → (fault : RecordFault) → IsStopped P fault → IsStopped Q fault
 stopped_weaker P Q f faults.Memory is = tt
-stopped_weaker P Q f faults.Uneven is = f is
+stopped_weaker P Q f faults.OtherHistory is = f is
 stopped_weaker P Q f faults.Restarts is = absurd is
 stopped_weaker P Q f faults.Marks is = absurd is
 stopped_weaker P Q f (faults.Refused breach) is = absurd is
@@ -78,7 +78,7 @@ module _ {O : Type 0} (before : GroupRecord ℕ Note → Transcript → O → Co
   module _ (workers : ℕ) (s : Outline) (old new : O) (columns : List Column) (plays : PlaysScript before after workers s (history None) (history (Some columns)) old new (Ok tt)) where
     of_another : (fault : RecordFault) → IsStopped (IsOfAnother (next_of s.behaviour) s.config columns) fault → IsRecordPlay before after workers s old new (Err fault)
     of_another faults.Memory is = tt
-    of_another faults.Uneven is = (columns, plays, is)
+    of_another faults.OtherHistory is = (columns, plays, is)
     of_another faults.Restarts is = absurd is
     of_another faults.Marks is = absurd is
     of_another (faults.Refused breach) is = absurd is
@@ -91,7 +91,7 @@ module _ {O : Type 0} (before : GroupRecord ℕ Note → Transcript → O → Co
     no_log : (raw : RawLog) → IsRecordOf (next_of s.behaviour) s.config columns raw → (fault : RecordFault) → IsLogFault (parts_of_log raw) fault
         → IsRecordPlay before after workers s old new (Err fault)
     no_log raw made faults.Memory is = tt
-    no_log raw made faults.Uneven is = absurd is
+    no_log raw made faults.OtherHistory is = absurd is
     no_log raw made faults.Restarts is = absurd is
     no_log raw made faults.Marks is = absurd is
     no_log raw made (faults.Refused breach) is = (columns, plays, (raw, made, is))

@@ -1,6 +1,6 @@
 -- The record of a play, as a log: its history is gone through again on a new group, and what each step does is written as its members would
 -- have written it.
-use Rattle.std.specs.Prelude.{◌≡◌, ◌≢◌, ℕ, zero, suc, ◌+◌, ◌<◌, ◌≤◌, ◌==◌, ◌⊎◌, not, ◌&&◌, Bool, true, false, List, [], ◌∷◌, ◌++◌, count_by, drop, filter_map, length, map, slice_get, slice_index, slice_set, sum_by, take, Option, Some, None, Result, Ok, Err, if◌then◌else◌}
+use Rattle.std.specs.Prelude.{◌≡◌, ◌≢◌, ℕ, zero, suc, ◌+◌, ◌<◌, ◌≤◌, ◌==◌, ◌⊎◌, not, ◌&&◌, ◌||◌, Bool, true, false, List, [], ◌∷◌, ◌++◌, count_by, drop, filter, filter_map, flat_map, length, map, slice_get, slice_index, slice_set, sum_by, take, Option, Some, None, Result, Ok, Err, if◌then◌else◌}
 use Rattle.std.specs.FinSet as set
 use Rattle.fbl_trace.specs.declared.trace.Note.{Note}
 use Rattle.fbl_trace.specs.declared.trace.Determinant.{Determinant}
@@ -10,10 +10,10 @@ use Rattle.fbl_trace.specs.declared.trace.Event.{Event as TraceEvent}
 use Rattle.fbl_trace.specs.Configs.{Settings}
 use Rattle.fbl_trace.specs.Events.{mark_of, receipt_of}
 use Rattle.fbl_trace.specs.Fold.{Next}
-use Rattle.fbl_trace.specs.MemberSets.{Members}
+use Rattle.fbl_trace.specs.MemberSets.{Members, members_where}
 use Rattle.fbl_table.specs.declared.entry.Entry.{Entry as TableEntry}
 use Rattle.fbl_dumps.specs.declared.refusal.DumpRefusal.{DumpRefusal}
-use Rattle.fbl_law.specs.Groups.{GroupRecord, member}
+use Rattle.fbl_law.specs.Groups.{GroupRecord, member, member_checkpoint}
 use Rattle.fbl_law.specs.GroupSteps.{IsCheckpoint, IsGroupStart}
 use Rattle.fbl_group.specs.Checkpoints.{checkpoint_refusal}
 use Rattle.fbl_group.specs.Deliveries.{Delivers, deliver_refusal}
@@ -23,6 +23,7 @@ use Rattle.fbl_group.specs.declared.answers.Recovered.{Recovered}
 use Rattle.fbl_group.specs.declared.answers.Struck.{Struck}
 use Rattle.fbl_history.specs.declared.column.Column.{Column}
 use Rattle.fbl_history.specs.declared.column.Column.TheVariants.{Checkpoint, Receipt, Recovery, Send, Strike}
+use Rattle.fbl_runs.specs.declared.control.ControlMessage.{ControlMessage}
 use Rattle.fbl_runs.specs.declared.entry.Entry.{Entry}
 use Rattle.fbl_runs.specs.declared.entry.Entry.TheVariants.{Event, Hold, LaterReceipt, Restart, Store, Tell, Told}
 use Rattle.fbl_runs.specs.declared.run.RawLog.{RawLog}
@@ -32,7 +33,7 @@ use Rattle.fbl_scripts.specs.Scripts.{Outline}
 use Rattle.fbl_play.specs.declared.answer.Answer.{Answer}
 use Rattle.fbl_play.specs.declared.record.RecordFault.{RecordFault}
 use Rattle.fbl_play.specs.declared.record.RecordFault.TheVariants as faults
-use Rattle.fbl_play.specs.declared.record.Written.{Written}
+use Rattle.fbl_play.specs.declared.record.columns.Written.{Written}
 use Rattle.fbl_play.specs.Plays.{PlaysScript, next_of}
 use Rattle.fbl_play.specs.Transcripts.{Transcript, history}
 
@@ -57,31 +58,37 @@ stores_from member first table = map (λ e. Store member e.det) (drop first tabl
 abbrev pub receipt_entries : List Entry → ℕ → Determinant → ℕ → List TableEntry → List (TraceEvent Note) → List Entry
 receipt_entries entries life d held table sends = ((entries ++ receipt_entry life d ∷ []) ++ holds_from d.to held table) ++ event_entries sends
 
--- what is said of each of so many members, in order
-abbrev pub each_member : (ℕ → List Entry) → ℕ → List Entry
-each_member said zero = []
-each_member said (suc n) = each_member said n ++ said n
+-- what there is of each of so many members, in order
+abbrev pub each_member : {T : Type 0} → (ℕ → List T) → ℕ → List T
+each_member of zero = []
+each_member of (suc n) = each_member of n ++ of n
 
--- a control message, told at once
-abbrev pub told_at_once : ℕ → ℕ → ℕ → List Entry
-told_at_once id from to = Tell (record { from = from; to = to; id = id }) ∷ Told (record { from = from; to = to; id = id }) ∷ []
+-- what the member tells each other one of these, of n members, under this number
+abbrev pub messages_from : ℕ → ℕ → Members → ℕ → List ControlMessage
+messages_from id from receivers n =
+    each_member (λ to. if set.contains receivers to && not (to == from) then record { from = from; to = to; id = id } ∷ [] else []) n
 
--- the member tells each other one of these, of n members, something
-abbrev pub tells : ℕ → ℕ → Members → ℕ → List Entry
-tells id from receivers n = each_member (λ to. if set.contains receivers to && not (to == from) then told_at_once id from to else []) n
+-- what each of the senders, of n members, tells each other one of the receivers behind the entries, under a number that no earlier control
+-- message has: how many entries there are
+abbrev pub next_messages : ℕ → List Entry → Members → Members → List ControlMessage
+next_messages n entries senders receivers =
+    each_member (λ from. if set.contains senders from then messages_from (length entries) from receivers n else []) n
 
--- the member is one of these, or no set is given
-abbrev pub is_among : Option Members → ℕ → Bool
-is_among None member = true
-is_among (Some members) member = set.contains members member
+-- the message is from the one member to the other
+abbrev pub is_between : ℕ → ℕ → ControlMessage → Bool
+is_between from to message = message.from == from && message.to == to
 
--- each of the senders, all of n members where no set is given, tells each of the receivers something
-abbrev pub exchange : ℕ → ℕ → Option Members → Members → List Entry
-exchange n id senders receivers = each_member (λ from. if is_among senders from then tells id from receivers n else []) n
+-- a control message that is told at once
+abbrev pub told_at_once : ControlMessage → List Entry
+told_at_once message = Tell message ∷ Told message ∷ []
 
--- the entries, and such an exchange, under a number that no earlier control message has: how many entries there are
-abbrev pub round : ℕ → List Entry → Option Members → Members → List Entry
-round n entries senders receivers = entries ++ exchange n (length entries) senders receivers
+-- it is not
+abbrev pub is_elsewhere : ℕ → ℕ → ControlMessage → Bool
+is_elsewhere from to message = not (is_between from to message)
+
+-- the entries, and such messages, each told at once
+abbrev pub round : ℕ → List Entry → Members → Members → List Entry
+round n entries senders receivers = entries ++ flat_map told_at_once (next_messages n entries senders receivers)
 
 -- the member is back in this life, with the receipts and the sends that the group has of it, and holds its table
 abbrev pub back_entries : GroupRecord ℕ Note → ℕ → ℕ → List Entry
@@ -94,21 +101,23 @@ restart_entries r lives members n = each_member (λ m. if set.contains members m
 
 -- ---- a history gone through again
 
--- a group that has come so far, the life of each of its members, how many determinants of each member's table its checkpoint has, and what
--- is written
+-- a group that has come so far, the life of each of its members, how many determinants of each member's table its checkpoint has, what
+-- members told others when they were back and these are not told yet, and what is written
 pub record Recorded : Type 0 where
   pub group : GroupRecord ℕ Note
   pub lives : List ℕ
   pub saved : List ℕ
+  pub untold : List ControlMessage
   pub entries : List Entry
 
 abbrev pub so_far : GroupRecord ℕ Note → Written → Recorded
-so_far r w = record { group = r; lives = w.lives; saved = w.saved; entries = w.entries.items }
+so_far r w = record { group = r; lives = w.lives; saved = w.saved; untold = w.untold.items; entries = w.entries.items }
 
 -- at first all are in life 0, and the sends of the starts are written
-pub record IsBegun (new : Recorded) : Type 0 where
+pub record IsRecordStart (new : Recorded) : Type 0 where
   pub lives : (m : ℕ) → slice_index new.lives m ≡ 0
   pub saved : (m : ℕ) → slice_index new.saved m ≡ 0
+  pub untold : new.untold ≡ []
   pub entries : new.entries ≡ event_entries new.group.trace
 
 -- the trace has got this receipt, and then these sends
@@ -117,8 +126,8 @@ pub record Makes (old new : GroupRecord ℕ Note) (receipt : Mark) (sends : List
   pub made : drop (length old.trace) new.trace ≡ event ∷ sends
   pub is : mark_of event ≡ receipt
 
--- a delivery makes the receipt. It is written, with the life of its sender; behind it that its member holds what its table has got; and then
--- the sends of its step
+-- a delivery makes the receipt. First its member is told what is untold of its sender. Then the receipt is written, with the life of its
+-- sender; behind it that its member holds what its table has got; and then the sends of its step
 pub record Receives (next : Next ℕ Note) (old : Recorded) (d : Determinant) (new : Recorded) : Type 0 where
   pub answer : Receipted ℕ
   pub delivers : Delivers next old.group new.group d.to d.from answer
@@ -126,8 +135,9 @@ pub record Receives (next : Next ℕ Note) (old : Recorded) (d : Determinant) (n
   pub makes : Makes old.group new.group (receipt_of d) sends
   pub lives : new.lives ≡ old.lives
   pub saved : new.saved ≡ old.saved
+  pub untold : new.untold ≡ filter (is_elsewhere d.from d.to) old.untold
   pub entries : new.entries
-      ≡ receipt_entries old.entries (slice_index old.lives d.from) d (length (member old.group d.to).table) (member new.group d.to).table sends
+      ≡ receipt_entries (old.entries ++ map Told (filter (is_between d.from d.to) old.untold)) (slice_index old.lives d.from) d (length (member old.group d.to).table) (member new.group d.to).table sends
 
 -- a strike writes nothing
 pub record IsStruck (next : Next ℕ Note) (old : Recorded) (members : Members) (new : Recorded) : Type 0 where
@@ -135,6 +145,7 @@ pub record IsStruck (next : Next ℕ Note) (old : Recorded) (members : Members) 
   pub strikes : Strikes next old.group new.group members answer
   pub lives : new.lives ≡ old.lives
   pub saved : new.saved ≡ old.saved
+  pub untold : new.untold ≡ old.untold
   pub entries : new.entries ≡ old.entries
 
 -- the members are in their next lives, and of the tables with which they are back their checkpoints count as having nothing: the lives, and
@@ -143,22 +154,36 @@ pub record AreBack (members : Members) (before had after has : List ℕ) : Type 
   pub lives : (m : ℕ) → m < 16 → slice_index after m ≡ (if set.contains members m then slice_index before m + 1 else slice_index before m)
   pub saved : (m : ℕ) → m < 16 → slice_index has m ≡ (if set.contains members m then 0 else slice_index had m)
 
--- a recovery: all others tell each member that is down something, those that were down are back, and tell one another so, that what they
--- send afterwards comes behind all of it
+-- a recovery gathers something of the member: it is up, or has had a receipt at its checkpoint
+abbrev pub is_gathered_from : GroupRecord ℕ Note → ℕ → Bool
+is_gathered_from r m = not (set.contains r.down m) || not ((member_checkpoint r m).received == 0)
+
+abbrev pub sources : GroupRecord ℕ Note → Members
+sources r = members_where r.config.members (is_gathered_from r)
+
+-- a recovery: all of whom something is gathered tell each member that is down something; those that were down are back, and tell one another
+-- so, and then the survivors. A survivor is told it before it receives a message from them: what they send afterwards, again too, comes
+-- behind all of it
 pub record Restores (next : Next ℕ Note) (old new : Recorded) : Type 0 where
   pub answer : Recovered
   pub recovers : Recovers next old.group new.group answer
   pub back : AreBack old.group.down old.lives old.saved new.lives new.saved
-  pub entries : new.entries
+  pub mid : List Entry
+  pub restarts : mid
       ≡ round old.group.config.members
-      (round old.group.config.members old.entries None old.group.down ++ restart_entries new.group new.lives old.group.down new.group.config.members)
-      (Some old.group.down) old.group.down
+      (round old.group.config.members old.entries (sources old.group) old.group.down ++ restart_entries new.group new.lives old.group.down new.group.config.members)
+      old.group.down old.group.down
+  pub last : List ControlMessage
+  pub survivors : last ≡ next_messages old.group.config.members mid old.group.down (set.difference (sources old.group) old.group.down)
+  pub entries : new.entries ≡ mid ++ map Tell last
+  pub untold : new.untold ≡ old.untold ++ last
 
 -- a checkpoint of the member stores what its table has, and its older checkpoint has not
 pub record Saves (old : Recorded) (m : ℕ) (new : Recorded) : Type 0 where
   pub checkpoint : IsCheckpoint old.group new.group m
   pub lives : new.lives ≡ old.lives
   pub saved : new.saved ≡ slice_set old.saved m (length (member new.group m).table)
+  pub untold : new.untold ≡ old.untold
   pub entries : new.entries ≡ old.entries ++ stores_from m (slice_index old.saved m) (member new.group m).table
 
 -- what the column is of is done again, and written. A send is made with the receipt before it, or is that of a start
@@ -188,7 +213,7 @@ pub record IsRecordOf (next : Next ℕ Note) (config : Settings Note) (columns :
   pub first : Recorded
   pub last : Recorded
   pub start : IsGroupStart next config first.group
-  pub begun : IsBegun first
+  pub begun : IsRecordStart first
   pub all : RecordsAll next first columns last
   pub trace : filter_map standing_mark columns ≡ map mark_of last.group.trace
   pub members : log.members ≡ config.members
@@ -201,7 +226,7 @@ pub record IsRecordOf (next : Next ℕ Note) (config : Settings Note) (columns :
 -- memory ran out, or this is so
 abbrev pub IsStopped : Type 0 → RecordFault → Type 0
 IsStopped Refused faults.Memory = Unit {0}
-IsStopped Refused faults.Uneven = Refused
+IsStopped Refused faults.OtherHistory = Refused
 IsStopped Refused _ = ⊥
 
 -- the group doesn't make the receipt
@@ -228,7 +253,7 @@ StopsIn next old columns =
 -- or it goes through all of them, and then its trace has other events. Of no history of a play is one of the two known
 abbrev pub IsOfAnother : Next ℕ Note → Settings Note → List Column → Type 0
 IsOfAnother next config columns =
-    (first : Recorded) × IsGroupStart next config first.group × IsBegun first
+    (first : Recorded) × IsGroupStart next config first.group × IsRecordStart first
     × (StopsIn next first columns ⊎ ((last : Recorded) × RecordsAll next first columns last × (filter_map standing_mark columns ≢ map mark_of last.group.trace)))
 
 -- how many members the column brings back
@@ -263,7 +288,7 @@ IsLogFault run _ = ⊥
 abbrev pub HasNoRecord : Next ℕ Note → Settings Note → List Column → RecordFault → Type 0
 HasNoRecord next config columns (faults.Refused breach) =
     (raw : RawLog) × IsRecordOf next config columns raw × IsLogFault (parts_of_log raw) (faults.Refused breach)
-HasNoRecord next config columns faults.Uneven = IsOfAnother next config columns
+HasNoRecord next config columns faults.OtherHistory = IsOfAnother next config columns
 HasNoRecord next config columns faults.Memory = ⊥
 HasNoRecord next config columns fault = HasNoRoom columns fault
 
