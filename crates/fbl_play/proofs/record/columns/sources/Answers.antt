@@ -1,4 +1,4 @@
-use Rattle.std.proofs.Common.{rules, arith}
+use Rattle.std.proofs.Common.{rules}
 use Rattle.fbl_trace.specs.MemberSets.{members_where}
 use Rattle.fbl_play.proofs.record.columns.sources.Goals as goal
 
