@@ -11,6 +11,7 @@ from hostile_parts.restarts import MOST_CUTS, status_of
 from program import run
 
 RECORDS = 1000
+RECOVERIES = 600
 WORKERS = (1, 3)
 
 
@@ -42,6 +43,19 @@ def random_script(source):
     starts = [[*source.sample(range(members), 2), source.randint(0, 99), source.randint(0, 5)] for _ in range(source.randint(1, 6))]
     commands = [random_command(source, members, f, 1 + place // 4) for place in range(source.randint(8, 50))]
     return {"version": 2, "members": members, "f": f, "behaviour": source.choice(["relay", "mix"]), "start": starts, "commands": commands}
+
+
+def random_recovery(source):
+    """A script in which several members are struck at once and recovered, and survivors then receive what those sent, again too."""
+    members = source.randint(3, 5)
+    f = source.randint(2, members - 1)
+    starts = [[*source.sample(range(members), 2), source.randint(0, 99), source.randint(1, 5)] for _ in range(source.randint(2, 5))]
+    before = [["deliver", *source.sample(range(members), 2)] for _ in range(source.randint(6, 24))]
+    struck = source.sample(range(members), source.randint(2, f))
+    after = [["deliver", to, sender] for to in range(members) if to not in struck for sender in struck] * 2
+    source.shuffle(after)
+    commands = [*before, ["strike", struck], ["recover"], *after]
+    return {"version": 2, "members": members, "f": f, "behaviour": "mix", "start": starts, "commands": commands}
 
 
 # ---- what a play says
@@ -162,4 +176,5 @@ def try_records(tally):
     """The records of scripts made at random."""
     source = random.Random(14)
     cases = [(random_script(source), WORKERS[number % 2], number) for number in range(RECORDS)]
+    cases += [(random_recovery(source), 1, number) for number in range(RECOVERIES)]
     note_each(tally, judge_record, cases)
