@@ -13,3 +13,4 @@ pub mod Turning
 pub mod Lasts
 pub mod Layers
 pub mod ShapeLaws
+mod Recording

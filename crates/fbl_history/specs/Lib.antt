@@ -10,3 +10,4 @@ pub mod Arrows
 pub mod Marks
 pub mod HistoryShapes
 pub mod ShapeLaws
+pub mod Records

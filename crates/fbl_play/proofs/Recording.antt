@@ -1,105 +1,20 @@
--- A history that is gone through again goes on by one column, and what stops it.
-use Rattle.std.proofs.Common.{ap, arith, get_or, length-append, refl, sym, Bool, true}
-use Rattle.std.proofs.lemmas.List.{drop_more}
-use Rattle.std.proofs.lemmas.Result.{IfErr-at_err, IfOk-at_ok, err_from_is_err_and}
-use Rattle.std.specs.Prelude.{IfErr, IfOk}
-use Rattle.std.specs.Result.{IsErrAnd}
-use Rattle.fbl_trace.specs.contracts.trace.MarkPartialEq.TheImpl as impl
-use Rattle.fbl_trace.specs.declared.trace.Event.{Event as TraceEvent}
-use Rattle.fbl_trace.specs.declared.trace.Mark.{Mark}
-use Rattle.fbl_trace.specs.declared.trace.Mark.TheVariants.{Receipt, Send}
+-- The record of a play's history is that of the play.
+use Rattle.fbl_history.specs.Records.{IsRecord}
+use Rattle.fbl_history.specs.declared.record.RecordFault.{RecordFault}
+use Rattle.fbl_history.specs.declared.record.RecordFault.TheVariants as faults
+use Rattle.fbl_runs.specs.Logs.{RunParts}
 use Rattle.fbl_trace.specs.declared.trace.Note.{Note}
-use Rattle.fbl_trace.specs.Events.{mark_of}
-use Rattle.fbl_group.specs.Deliveries.{Delivers}
-use Rattle.fbl_group.specs.declared.answers.Receipted.{Receipted}
-use Rattle.fbl_runs.specs.Logs.{IsLog, RunParts, parts_of_log}
-use Rattle.fbl_runs.specs.declared.run.RawLog.{RawLog}
 use Rattle.fbl_scripts.specs.Scripts.{Outline}
-use Rattle.fbl_group.proofs.Common.{nat_tests}
-use Rattle.fbl_play.proofs.Common.{◌≡◌, ◌∙◌, ℕ, ◌+◌, ◌<◌, List, [], ◌∷◌, ◌++◌, length, drop, Answer, Column, Command, Err, GroupRecord, None, Next, Ok, Result, Some, Transcript, next_of}
-use Rattle.fbl_play.specs.Plays.{PlaysScript}
-use Rattle.fbl_play.specs.Records.{IsLogFault, IsOfAnother, IsRecordOf, IsRecordPlay, IsStopped, Makes, Recorded, Records, RecordsAll}
+use Rattle.fbl_play.proofs.Common.{Answer, Column, Command, Err, GroupRecord, List, None, Ok, Result, Some, Transcript, next_of, ℕ}
+use Rattle.fbl_play.specs.Plays.{IsRecordPlay, PlaysScript}
 use Rattle.fbl_play.specs.Transcripts.{history}
-use Rattle.fbl_play.specs.declared.record.RecordFault.{RecordFault}
-use Rattle.fbl_play.specs.declared.record.RecordFault.TheVariants as faults
 
--- ---- marks
-
-abbrev pub same_mark : Mark → Mark → Bool
-same_mark a b = (impl.ghosts).eq a b
-
-pub same_true : (a b : Mark) → same_mark a b ≡ true → a ≡ b
-same_true (Send from ssn to) (Send from' ssn' to') is = grind (arith, nat_tests, is)
-same_true (Receipt to rsn from ssn) (Receipt to' rsn' from' ssn') is = grind (arith, nat_tests, is)
-same_true a b is = cc
-
-pub same_self : (a : Mark) → same_mark a a ≡ true
-same_self (Send from ssn to) = grind (arith, nat_tests)
-same_self (Receipt to rsn from ssn) = grind (arith, nat_tests)
-
-pub same_if : (a b : Mark) → a ≡ b → same_mark a b ≡ true
-same_if a b is = rw is (same_self b)
-
--- ---- steps
-
-pub records_more : (next : Next ℕ Note) (columns : List Column) (column : Column) (old mid new : Recorded) → RecordsAll next old columns mid → Records next mid column new
-    → RecordsAll next old (columns ++ column ∷ []) new
-records_more next [] column old mid new is last = (new, (rw is at last), refl)
-records_more next (c ∷ columns) column old mid new is last = (is.0, is.1, records_more next columns column is.0 mid new is.2 last)
-
--- a delivery makes a trace longer
-pub trace_grows : (next : Next ℕ Note) (old new : GroupRecord ℕ Note) (to from : ℕ) (answer : Receipted ℕ) → Delivers next old new to from answer
-    → length old.trace < length new.trace
-trace_grows next old new to from answer is = rw (is.2.delivery.trace, length-append old.trace _) (omega arith)
-
--- what it makes, by its first event
-pub makes : (old new : GroupRecord ℕ Note) (event : TraceEvent Note) → length old.trace < length new.trace → event ≡ get_or new.trace (length old.trace) event
-    → Makes old new (mark_of event) (drop (length old.trace + 1) new.trace)
-makes old new event longer is = record {
-  event = event;
-  made = drop_more new.trace (length old.trace) event longer ∙ ap (λ e. e ∷ drop (length old.trace + 1) new.trace) (sym is);
-  is = refl;
-}
-
--- ---- faults
-
-pub stopped_weaker : (P Q : Type 0) → (P → Q) → (fault : RecordFault) → IsStopped P fault → IsStopped Q fault
-stopped_weaker P Q f faults.Memory is = tt
-stopped_weaker P Q f faults.OtherHistory is = f is
-stopped_weaker P Q f faults.Restarts is = absurd is
-stopped_weaker P Q f faults.Marks is = absurd is
-stopped_weaker P Q f (faults.Refused breach) is = absurd is
-
-pub stopped_err : {T : Type 0} (r : Result T RecordFault) (fault : RecordFault) (P Q : Type 0) → (P → Q) → IsErrAnd r (λ e. e ≡ fault) → IsStopped P fault
-    → IfErr r (IsStopped Q)
-stopped_err r fault P Q f failed is = (let e = err_from_is_err_and r failed in rw (e.1, e.2) (stopped_weaker P Q f fault is))
-
-module _ {O : Type 0} (before : GroupRecord ℕ Note → Transcript → O → Command → O → Type 0) (after : GroupRecord ℕ Note → Transcript → O → Command → Answer → O → Type 0) where
-  module _ (workers : ℕ) (s : Outline) (old new : O) (columns : List Column) (plays : PlaysScript before after workers s (history None) (history (Some columns)) old new (Ok tt)) where
-    of_another : (fault : RecordFault) → IsStopped (IsOfAnother (next_of s.behaviour) s.config columns) fault → IsRecordPlay before after workers s old new (Err fault)
-    of_another faults.Memory is = tt
-    of_another faults.OtherHistory is = (columns, plays, is)
-    of_another faults.Restarts is = absurd is
-    of_another faults.Marks is = absurd is
-    of_another (faults.Refused breach) is = absurd is
-
-    -- the history is of another group
-    pub another_ends : (r : Result RunParts RecordFault) (fault : RecordFault) → IsErrAnd r (λ e. e ≡ fault) → IsStopped (IsOfAnother (next_of s.behaviour) s.config columns) fault
-        → IsRecordPlay before after workers s old new r
-    another_ends r fault failed is = (let e = err_from_is_err_and r failed in rw (e.1, e.2) (of_another fault is))
-
-    no_log : (raw : RawLog) → IsRecordOf (next_of s.behaviour) s.config columns raw → (fault : RecordFault) → IsLogFault (parts_of_log raw) fault
-        → IsRecordPlay before after workers s old new (Err fault)
-    no_log raw made faults.Memory is = tt
-    no_log raw made faults.OtherHistory is = absurd is
-    no_log raw made faults.Restarts is = absurd is
-    no_log raw made faults.Marks is = absurd is
-    no_log raw made (faults.Refused breach) is = (columns, plays, (raw, made, is))
-
-    -- the record is a log, or it is not
-    pub record_ends : (raw : RawLog) → IsRecordOf (next_of s.behaviour) s.config columns raw → (r : Result RunParts RecordFault)
-        → IfOk r (λ run. IsLog run × (run ≡ parts_of_log raw)) → IfErr r (IsLogFault (parts_of_log raw)) → IsRecordPlay before after workers s old new r
-    record_ends raw made (Ok run) well bad =
-        let is = IfOk-at_ok {T = RunParts} {E = RecordFault} (λ run. IsLog run × (run ≡ parts_of_log raw)) {r = Ok run} {x = run} refl well in
-        (columns, raw, plays, made, is.1, is.0)
-    record_ends raw made (Err fault) well bad = no_log raw made fault (IfErr-at_err {T = RunParts} {E = RecordFault} (IsLogFault (parts_of_log raw)) {r = Err fault} {y = fault} refl bad)
+pub record_play : {O : Type 0} (before : GroupRecord ℕ Note → Transcript → O → Command → O → Type 0) (after : GroupRecord ℕ Note → Transcript → O → Command → Answer → O → Type 0)
+    (workers : ℕ) (s : Outline) (old new : O) (columns : List Column) → PlaysScript before after workers s (history None) (history (Some columns)) old new (Ok tt)
+    → (r : Result RunParts RecordFault) → IsRecord (next_of s.behaviour) s.config columns r → IsRecordPlay before after workers s old new r
+record_play before after workers s old new columns plays (Ok run) is = (columns, is.0, plays, is.1, is.2, is.3)
+record_play before after workers s old new columns plays (Err faults.Memory) is = tt
+record_play before after workers s old new columns plays (Err faults.OtherHistory) is = (columns, plays, is)
+record_play before after workers s old new columns plays (Err faults.Restarts) is = (columns, plays, is)
+record_play before after workers s old new columns plays (Err faults.Marks) is = (columns, plays, is)
+record_play before after workers s old new columns plays (Err (faults.Refused breach)) is = (columns, plays, is)

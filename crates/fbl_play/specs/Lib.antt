@@ -3,4 +3,3 @@ pub mod Steps
 pub mod Texts
 pub mod Transcripts
 pub mod Plays
-pub mod Records

@@ -15,6 +15,6 @@ pub use answer::Answer;
 pub use engine::{history_of_script, play, play_script};
 pub use observer::{NoObserver, Observer};
 pub use reason::{NamedMembers, Reason};
-pub use record::{RecordFault, record_of_script};
+pub use record::record_of_script;
 pub use remark::Remark;
 pub use transcript::Transcribed;

@@ -1,7 +1,7 @@
 -- The exit status of what was done, and whether a play was refused something.
 use Rattle.fbl_trace.specs.declared.trace.Note.{Note}
 use Rattle.fbl_program.proofs.Common.{◌≡◌, ℕ, ◌||◌, ◌&&◌, not, Bool, false, inl, refl, subst, IsScriptOf, Script, List, [], ◌∷◌, Option, Some, None, Result, Ok, Err, IfSome, arith, IsErrAnd, OutputFault, PutsOut, puts_as, ap, ◌∙◌, list_any, or-false, sym, RunFault}
-use Rattle.fbl_play.specs.Records.{IsRecordPlay}
+use Rattle.fbl_play.specs.Plays.{IsRecordPlay}
 use Rattle.fbl_input.specs.Faults.{run_result}
 use Rattle.fbl_records.specs.LogLines.{log_line}
 use Rattle.fbl_runs.specs.Logs.{IsLog, RunParts}

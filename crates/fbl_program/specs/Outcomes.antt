@@ -2,7 +2,9 @@
 use Rattle.std.specs.Prelude.{◌≡◌, ℕ, ◌&&◌, ◌⊎◌, not, Bool, true, List, [], ◌∷◌, Option, Some, None, Result, Ok, Err, length, map}
 use Rattle.std.specs.Io.KnownBytes.{Keeps}
 use Rattle.std.specs.List.{list_any}
+use Rattle.fbl_history.specs.Records.{HasNoRecord, IsRecordOf}
 use Rattle.fbl_history.specs.declared.column.Column.{Column}
+use Rattle.fbl_history.specs.declared.record.RecordFault.{RecordFault}
 use Rattle.fbl_input.specs.Faults.{OverInput, PutsOut, run_result}
 use Rattle.fbl_input.specs.declared.fault.RunFault.{RunFault}
 use Rattle.fbl_input.specs.declared.input_fault.InputFault.{InputFault}
@@ -15,8 +17,6 @@ use Rattle.fbl_pictures.specs.HistoryPictures.{IsHistoryPicture}
 use Rattle.fbl_pictures.specs.RunPictures.{IsRunPicture}
 use Rattle.fbl_pictures.specs.RunShapes.{shown_entries}
 use Rattle.fbl_play.specs.Plays.{PlaysUnobserved, next_of}
-use Rattle.fbl_play.specs.Records.{HasNoRecord, IsRecordOf}
-use Rattle.fbl_play.specs.declared.record.RecordFault.{RecordFault}
 use Rattle.fbl_play.specs.Steps.{is_refusal}
 use Rattle.fbl_play.specs.Transcripts.{history, text}
 use Rattle.fbl_records.specs.DumpLines.{dump_line}

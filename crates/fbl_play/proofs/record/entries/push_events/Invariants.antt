@@ -1,6 +1,0 @@
-use Rattle.std.proofs.Common.{◌≡◌, ◌++◌, take}
-use Rattle.fbl_play.specs.Records.{event_entries}
-use Rattle.fbl_play.proofs.record.entries.push_events.Given as goal
-
-abbrev pub invariant-loop-event : goal.invariant-loop-event
-invariant-loop-event l = l.entries.items ≡ l.fn.entries.items ++ event_entries (take l.event-index l.events)

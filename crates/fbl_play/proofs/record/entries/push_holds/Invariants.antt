@@ -1,6 +1,0 @@
-use Rattle.std.proofs.Common.{◌≡◌, ◌++◌}
-use Rattle.fbl_play.specs.Records.{holds_from}
-use Rattle.fbl_play.proofs.record.entries.push_holds.Given as goal
-
-abbrev pub invariant-loop-place : goal.invariant-loop-place
-invariant-loop-place l = l.entries.items ++ holds_from l.holder l.place l.table ≡ l.fn.entries.items ++ holds_from l.holder l.first l.table
