@@ -53,3 +53,4 @@ pub use Rattle.fbl_program.specs.declared.job.RunTask.{RunTask}
 pub use Rattle.fbl_program.specs.declared.job.Question.TheVariants.{Audit, Check, Draw}
 pub use Rattle.fbl_program.specs.declared.job.RunTask.TheVariants.{Judge, Merge}
 pub use Rattle.std.proofs.lemmas.Option.{IfSome_then}
+pub use Rattle.std.proofs.lemmas.Result.{IfOk-weaker}

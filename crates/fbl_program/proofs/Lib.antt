@@ -1,4 +1,5 @@
 pub mod Common
+pub mod Apps
 pub mod Lines
 pub mod Endings
 pub mod Several

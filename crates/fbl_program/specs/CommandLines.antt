@@ -3,6 +3,7 @@ use Rattle.std.specs.Prelude.{◌≡◌, ℕ, ◌<◌, ◌⊎◌, Bool, true, fa
 use Rattle.std.specs.Borrow.{Bor}
 use Rattle.clap.specs.Simple.{on_top}
 use Rattle.clap.specs.Words.{App, HasKind, Row, Rule, Text, all_of, fault_of, first_of, kind_of, new_app, new_rule, one_of, subcommand_of, with_rule, with_subcommand}
+use Rattle.clap.specs.declared.builder.ArgAction.{ArgAction}
 use Rattle.clap.specs.declared.builder.ArgAction.TheVariants.{Append, Set, SetTrue}
 use Rattle.clap.specs.declared.builder.value_parser.ValueParser.TheVariants as parsers
 use Rattle.fbl_trace.specs.Configs.{WorkersAllowed}
@@ -19,57 +20,51 @@ use Rattle.fbl_program.specs.declared.job.Task.TheVariants.{Script, Run}
 
 -- ---- what the parser of command lines is told
 
+-- `--NAME VALUE`, which is given or not
+abbrev pub option_rule : Text → Rule
+option_rule name = record (new_rule name) { long = Some name; action = Some Set; value_names = 1 }
+
+-- `--NAME`, which is given or not
+abbrev pub flag_rule : Text → Rule
+flag_rule name = record (new_rule name) { long = Some name; action = Some SetTrue }
+
 -- `--workers N`: a number from 1 to 8, and 2 where it is not given
 abbrev pub workers_rule : Rule
-workers_rule = record (new_rule (codes "workers")) { long = Some (codes "workers"); action = Some Set; value_names = 1; parser = Some (parsers.Signed (pos 1) (pos 8)); defaults = codes "2" ∷ [] }
+workers_rule = record (option_rule (codes "workers")) { parser = Some (parsers.Signed (pos 1) (pos 8)); defaults = codes "2" ∷ [] }
 
--- `--explain`, which is given or not
-abbrev pub explain_rule : Rule
-explain_rule = record (new_rule (codes "explain")) { long = Some (codes "explain"); action = Some SetTrue }
-
--- `--strict`, which is given or not
-abbrev pub strict_rule : Rule
-strict_rule = record (new_rule (codes "strict")) { long = Some (codes "strict"); action = Some SetTrue }
-
--- `FILE`, a word of its own, which is given or not
-abbrev pub input_rule : Rule
-input_rule = record (new_rule (codes "input")) { action = Some Set; value_names = 1 }
-
--- `FILE..`, words of their own, as many as are given
-abbrev pub inputs_rule : Rule
-inputs_rule = record (new_rule (codes "input")) { action = Some Append; value_names = 1 }
+-- `FILE`, a word of its own, which is given or not, or as many as are given, as the action takes them
+abbrev pub input_rule : ArgAction → Rule
+input_rule action = record (new_rule (codes "input")) { action = Some action; value_names = 1 }
 
 -- `-o FILE` or `--output FILE`, which is given or not
 abbrev pub output_rule : Rule
-output_rule = record (new_rule (codes "output")) { short = Some 111; long = Some (codes "output"); action = Some Set; value_names = 1 }
-
--- `--around K`, which is given or not
-abbrev pub around_rule : Rule
-around_rule = record (new_rule (codes "around")) { long = Some (codes "around"); action = Some Set; value_names = 1 }
+output_rule = record (option_rule (codes "output")) { short = Some 111 }
 
 -- what each subcommand has: what it reads, the file to write, and `--explain`
 abbrev pub with_shared : Rule → App → App
-with_shared read app = with_rule (with_rule (with_rule app read) output_rule) explain_rule
+with_shared read app = with_rule (with_rule (with_rule app read) output_rule) (flag_rule (codes "explain"))
+
+-- a subcommand of this name that plays a script
+abbrev pub player_app : Text → App
+player_app name = with_rule (new_app name) workers_rule
 
 abbrev pub play_app : App
-play_app = with_shared input_rule (with_rule (with_rule (new_app (codes "play")) workers_rule) strict_rule)
-
-abbrev pub show_app : App
-show_app = with_shared input_rule (with_rule (new_app (codes "show")) workers_rule)
-
-abbrev pub record_app : App
-record_app = with_shared input_rule (with_rule (new_app (codes "record")) workers_rule)
+play_app = with_shared (input_rule Set) (with_rule (player_app (codes "play")) (flag_rule (codes "strict")))
 
 abbrev pub draw_app : App
-draw_app = with_shared inputs_rule (with_rule (new_app (codes "draw")) around_rule)
+draw_app = with_shared (input_rule Append) (with_rule (new_app (codes "draw")) (option_rule (codes "around")))
 
 -- a subcommand of this name that reads files, with no more
 abbrev pub shared_app : Text → App
-shared_app name = with_shared inputs_rule (new_app name)
+shared_app name = with_shared (input_rule Append) (new_app name)
 
 -- a program with a version, which asks for a subcommand
 abbrev pub top_app : App
 top_app = on_top (λ s. record s { subcommand_required = true; has_version = true }) (new_app (codes "fblrun"))
+
+-- the same with a subcommand of this name that plays a script, with no more
+abbrev pub with_player : Text → App → App
+with_player name app = with_subcommand app (with_shared (input_rule Set) (player_app name)).top
 
 -- the same with a subcommand of this name that has no more than each
 abbrev pub with_reader : Text → App → App
@@ -77,7 +72,7 @@ with_reader name app = with_subcommand app (shared_app name).top
 
 -- the program with the subcommands `play`, `show` and `record`
 abbrev pub with_players : App
-with_players = with_subcommand (with_subcommand (with_subcommand top_app play_app.top) show_app.top) record_app.top
+with_players = with_player (codes "record") (with_player (codes "show") (with_subcommand top_app play_app.top))
 
 -- the program with the subcommands `play`, `show`, `record`, `merge`, `audit`, `check` and `draw`
 abbrev pub program : App

@@ -1,11 +1,13 @@
 //! The command line.
 
-ghost use Rattle.std.specs.Prelude.{◌≡◌, map, false, IfOk, IfErr, option_map, string_bytes};
+ghost use Rattle.std.specs.Prelude.{◌≡◌, map, false, IfOk, IfErr, option_map, pos, string_bytes};
 ghost use Rattle.clap.specs.Words.{app_of, first_of, found_of, new_app, rows_of, rule_of, with_rule};
+ghost use Rattle.clap.specs.declared.builder.value_parser.ValueParser.TheVariants.{Signed};
 ghost use Rattle.clap.specs.declared.builder.command.Command.TheViews.{out-Command as fields_of};
-ghost use Rattle.fbl_program.specs.CommandLines.{AreNames, AreWorkers, IsCommandLine, IsFlag, IsJobAt, IsJobOf, IsMisuseOf, IsRefusedFor, IsTaskAt, around_rule, draw_app, explain_rule, input_rule, inputs_rule, output_rule, play_app, program, record_app, show_app, strict_rule, texts_in, top_app, with_players, with_reader, with_shared, workers_rule};
+ghost use Rattle.fbl_program.specs.CommandLines.{AreNames, AreWorkers, IsCommandLine, IsFlag, IsJobAt, IsJobOf, IsMisuseOf, IsRefusedFor, IsTaskAt, draw_app, flag_rule, input_rule, option_rule, play_app, program, texts_in, top_app, with_player, with_players, with_reader, with_shared, workers_rule};
 
 use crate::job::{Job, Question, RunTask, ScriptTask, Task};
+use clap::builder::ValueParser;
 use clap::{Arg, ArgAction, ArgMatches, Command};
 use std::alloc::{AllocError, Global};
 
@@ -118,6 +120,9 @@ const DUMP: &str =
 const AROUND: &str =
     "Draws the entry at K, as a check prints it, with the 30 entries before it and the 30 behind it";
 
+/// What `--strict` does.
+const STRICT: &str = "Ends with status 1 where a command was refused; the text is the same";
+
 /// What `-o` does.
 const OUTPUT: &str =
     "The file to write, which gets a whole text or stays as it was; where none is named, or -, it is standard output";
@@ -170,87 +175,55 @@ impl From<AllocError> for Misuse {
     }
 }
 
+/// An option that has one value.
+fn option<'a>(alloc: Global, name: &'a str, value: &'a str, help: &'a str) -> Arg<'a>
+    ensures rule { rule_of result ≡ option_rule name.now }
+    ensures local { result.global ≡ false }
+{
+    Arg::new(alloc, name)
+        .long(name)
+        .action(ArgAction::Set)
+        .value_name(value)
+        .help(help)
+}
+
+/// The numbers of workers that may make a run.
+fn counts<'a>() -> ValueParser<'a>
+    ensures { result ≡ Signed (pos 1) (pos 8) }
+{
+    clap::value_parser!(u8).range(1..=8)
+}
+
 /// The option `--workers`.
 fn workers<'a>(alloc: Global) -> Arg<'a>
     ensures rule { rule_of result ≡ workers_rule }
     ensures local { result.global ≡ false }
 {
-    Arg::new(alloc, "workers")
-        .long("workers")
-        .action(ArgAction::Set)
-        .value_name("N")
-        .value_parser(clap::value_parser!(u8).range(1..=8))
+    option(alloc, "workers", "N", "How many workers make a run, 1 to 8")
+        .value_parser(counts())
         .default_value("2")
-        .help("How many workers make a run, 1 to 8")
 }
 
-/// The flag `--strict`.
-fn strict<'a>(alloc: Global) -> Arg<'a>
-    ensures rule { rule_of result ≡ strict_rule }
+/// A flag, which is given or not.
+fn flag<'a>(alloc: Global, name: &'a str, help: &'a str) -> Arg<'a>
+    ensures rule { rule_of result ≡ flag_rule name.now }
     ensures local { result.global ≡ false }
 {
-    Arg::new(alloc, "strict")
-        .long("strict")
-        .action(ArgAction::SetTrue)
-        .help("Ends with status 1 where a command was refused; the text is the same")
-}
-
-/// The flag `--explain`, with what it does.
-fn explain<'a>(alloc: Global, help: &'a str) -> Arg<'a>
-    ensures rule { rule_of result ≡ explain_rule }
-    ensures local { result.global ≡ false }
-{
-    Arg::new(alloc, "explain")
-        .long("explain")
+    Arg::new(alloc, name)
+        .long(name)
         .action(ArgAction::SetTrue)
         .help(help)
 }
 
-/// The file with the input, and what it is.
-fn input<'a>(alloc: Global, help: &'a str) -> Arg<'a>
-    ensures rule { rule_of result ≡ input_rule }
+/// What is read: a file, or several, as the action takes them.
+fn input<'a>(alloc: Global, action: ArgAction, help: &'a str) -> Arg<'a>
+    ensures rule { rule_of result ≡ input_rule action }
     ensures local { result.global ≡ false }
 {
     Arg::new(alloc, "input")
-        .action(ArgAction::Set)
+        .action(action)
         .value_name("FILE")
         .help(help)
-}
-
-/// The files with the input, and what they have.
-fn inputs<'a>(alloc: Global, help: &'a str) -> Arg<'a>
-    ensures rule { rule_of result ≡ inputs_rule }
-    ensures local { result.global ≡ false }
-{
-    Arg::new(alloc, "input")
-        .action(ArgAction::Append)
-        .value_name("FILE")
-        .help(help)
-}
-
-/// The option `-o`, the file to write.
-fn output<'a>(alloc: Global) -> Arg<'a>
-    ensures rule { rule_of result ≡ output_rule }
-    ensures local { result.global ≡ false }
-{
-    Arg::new(alloc, "output")
-        .short('o')
-        .long("output")
-        .action(ArgAction::Set)
-        .value_name("FILE")
-        .help(OUTPUT)
-}
-
-/// The option `--around`, the entry around which a run is drawn.
-fn around<'a>(alloc: Global) -> Arg<'a>
-    ensures rule { rule_of result ≡ around_rule }
-    ensures local { result.global ≡ false }
-{
-    Arg::new(alloc, "around")
-        .long("around")
-        .action(ArgAction::Set)
-        .value_name("K")
-        .help(AROUND)
 }
 
 /// The subcommand with what each has too: what is read, which is this, the file to write, and the flag `--explain`, which does this.
@@ -266,8 +239,8 @@ fn with_shared_args<'a>(
     ensures no_globals { IfOk result (λ c. (fields_of c).has_globals ≡ false) }
 {
     let sub = sub.arg(read)?;
-    let sub = sub.arg(output(alloc))?;
-    sub.arg(explain(alloc, explained))
+    let sub = sub.arg(option(alloc, "output", "FILE", OUTPUT).short('o'))?;
+    sub.arg(flag(alloc, "explain", explained))
 }
 
 /// A subcommand that plays a script, with its number of workers.
@@ -290,26 +263,24 @@ fn play<'a>(alloc: Global) -> Result<Command<'a>, AllocError>
     ensures no_globals { IfOk result (λ c. (fields_of c).has_globals ≡ false) }
 {
     let play = player(alloc, "play", PLAY, PLAY_EXAMPLE)?;
-    let play = play.arg(strict(alloc))?;
-    with_shared_args(alloc, play, input(alloc, SCRIPT), EXPLAIN_PLAY)
+    let play = play.arg(flag(alloc, "strict", STRICT))?;
+    let script = input(alloc, ArgAction::Set, SCRIPT);
+    with_shared_args(alloc, play, script, EXPLAIN_PLAY)
 }
 
-/// The subcommand `show`.
-fn show<'a>(alloc: Global) -> Result<Command<'a>, AllocError>
-    ensures app { IfOk result (λ c. app_of c ≡ show_app) }
-    ensures no_globals { IfOk result (λ c. (fields_of c).has_globals ≡ false) }
+/// The program with a subcommand of this name that plays a script.
+fn with_player<'a>(
+    alloc: Global,
+    command: Command<'a>,
+    name: &'a str,
+    about: &'a str,
+    example: &'a str,
+) -> Result<Command<'a>, AllocError>
+    ensures { IfOk result (λ c. app_of c ≡ with_player name.now (app_of command.entry)) }
 {
-    let show = player(alloc, "show", SHOW, SHOW_EXAMPLE)?;
-    with_shared_args(alloc, show, input(alloc, SCRIPT), EXPLAIN_PLAY)
-}
-
-/// The subcommand `record`.
-fn record<'a>(alloc: Global) -> Result<Command<'a>, AllocError>
-    ensures app { IfOk result (λ c. app_of c ≡ record_app) }
-    ensures no_globals { IfOk result (λ c. (fields_of c).has_globals ≡ false) }
-{
-    let record = player(alloc, "record", RECORD, RECORD_EXAMPLE)?;
-    with_shared_args(alloc, record, input(alloc, SCRIPT), EXPLAIN_PLAY)
+    let player = player(alloc, name, about, example)?;
+    let script = input(alloc, ArgAction::Set, SCRIPT);
+    command.subcommand(with_shared_args(alloc, player, script, EXPLAIN_PLAY)?)
 }
 
 /// The program with a subcommand of this name that reads dumps.
@@ -324,8 +295,8 @@ fn with_reader<'a>(
     ensures { IfOk result (λ c. app_of c ≡ with_reader name.now (app_of command.entry)) }
 {
     let reader = Command::new(alloc, name).about(about).after_help(example);
-    let reader = with_shared_args(alloc, reader, inputs(alloc, DUMP), explained)?;
-    command.subcommand(reader)
+    let dumps = input(alloc, ArgAction::Append, DUMP);
+    command.subcommand(with_shared_args(alloc, reader, dumps, explained)?)
 }
 
 /// The subcommand `draw`, which may be around an entry.
@@ -336,8 +307,9 @@ fn draw<'a>(alloc: Global) -> Result<Command<'a>, AllocError>
     let draw = Command::new(alloc, "draw")
         .about(DRAW)
         .after_help(DRAW_EXAMPLE);
-    let draw = draw.arg(around(alloc))?;
-    with_shared_args(alloc, draw, inputs(alloc, DUMP), EXPLAIN_DRAW)
+    let draw = draw.arg(option(alloc, "around", "K", AROUND))?;
+    let dumps = input(alloc, ArgAction::Append, DUMP);
+    with_shared_args(alloc, draw, dumps, EXPLAIN_DRAW)
 }
 
 /// The program above its subcommands.
@@ -355,11 +327,9 @@ fn top<'a>(alloc: Global) -> Command<'a>
 fn with_players<'a>(alloc: Global) -> Result<Command<'a>, AllocError>
     ensures { IfOk result (λ c. app_of c ≡ with_players) }
 {
-    let (play, show) = (play(alloc)?, show(alloc)?);
-    let command = top(alloc).subcommand(play)?;
-    let command = command.subcommand(show)?;
-    let record = record(alloc)?;
-    command.subcommand(record)
+    let command = top(alloc).subcommand(play(alloc)?)?;
+    let command = with_player(alloc, command, "show", SHOW, SHOW_EXAMPLE)?;
+    with_player(alloc, command, "record", RECORD, RECORD_EXAMPLE)
 }
 
 /// What the program takes: `play`, with a number of workers, strict or not, `show` and `record`, with a number of workers, each with or
@@ -372,8 +342,7 @@ fn command_line<'a>(alloc: Global) -> Result<Command<'a>, AllocError>
     let command = with_reader(alloc, command, "merge", MERGE, MERGE_EXAMPLE, EXPLAIN_DRAW)?;
     let command = with_reader(alloc, command, "audit", AUDIT, AUDIT_EXAMPLE, EXPLAIN_AUDIT)?;
     let command = with_reader(alloc, command, "check", CHECK, CHECK_EXAMPLE, EXPLAIN_CHECK)?;
-    let draw = draw(alloc)?;
-    command.subcommand(draw)
+    command.subcommand(draw(alloc)?)
 }
 
 /// How many workers are asked for.
