@@ -13,7 +13,7 @@ use Rattle.std.proofs.lemmas.Option.{get_or_from_slice_get}
 use Rattle.fbl_trace.proofs.Gets.{At-front, At-push, At-seam}
 use Rattle.fbl_runs.proofs.Listing.{seen-later}
 use Rattle.fbl_judge.proofs.Common.{Dependence, Precedes, Stands}
-use Rattle.fbl_runs.proofs.ClockLaws.{one_position}
+use Rattle.fbl_runs.proofs.LeadsLaws.{one_position}
 use Rattle.fbl_judge.specs.Paths.{IsDependentPlace}
 use Rattle.fbl_judge.specs.Unsafe.{IsLeftOrphanAt}
 use Rattle.fbl_judge.proofs.Common.{Cut}

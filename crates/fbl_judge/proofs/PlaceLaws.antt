@@ -3,8 +3,7 @@ use Rattle.fbl_judge.proofs.Common.{ℕ, cond, ◌≡◌, ◌==◌, ◌<◌, Lis
 use Rattle.fbl_runs.specs.Clocks.{StandsAt, seen}
 use Rattle.fbl_runs.specs.Indexes.{EndsStep}
 use Rattle.fbl_runs.specs.Precedence.{IsPast}
-use Rattle.fbl_runs.proofs.ClockLaws.{one_position}
-use Rattle.fbl_runs.proofs.LeadsLaws.{here_stands}
+use Rattle.fbl_runs.proofs.LeadsLaws.{here_stands, one_position}
 use Rattle.fbl_runs.proofs.Listing.{placed}
 use Rattle.fbl_judge.specs.Views.{IsPastAndStepAt}
 use Rattle.fbl_judge.proofs.PastLaws.{past_and_step_of}

@@ -5,7 +5,8 @@ use Rattle.fbl_runs.specs.declared.entry.Restart as restart
 use Rattle.fbl_runs.specs.Rules.{AreLawful}
 use Rattle.fbl_runs.proofs.Listing.{placed, stands_at}
 use Rattle.std.proofs.Common.{IfSome}
-use Rattle.fbl_runs.proofs.ClockLaws.{Precedes-joined, one_position}
+use Rattle.fbl_runs.proofs.ClockLaws.{Precedes-joined}
+use Rattle.fbl_runs.proofs.LeadsLaws.{one_position}
 use Rattle.fbl_judge.specs.Dependents.{HasRestart, IsLastPlace, IsLater, IsLesser}
 use Rattle.fbl_judge.specs.Pasts.{AreRestartPlaces, IsRestartPlace}
 use Rattle.fbl_judge.specs.Unsafe.{IsLastRestart}

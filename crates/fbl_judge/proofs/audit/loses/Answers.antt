@@ -1,7 +1,7 @@
 use Rattle.fbl_judge.proofs.Common.{◌≡◌, ◌∙◌, ◌==◌, ℕ, true, false, ap, arith, nat_tests, sym, subst, false≢true, Members, Determinant, log_of, cut_of, HoldsAt, IsReceiptAt, Position, RunParts}
 use Rattle.std.specs.FinSet as set
 use Rattle.std.proofs.Common.{not}
-use Rattle.fbl_runs.proofs.ClockLaws.{one_position}
+use Rattle.fbl_runs.proofs.LeadsLaws.{one_position}
 use Rattle.fbl_judge.proofs.Audits.{none_left, one_determinant}
 use Rattle.fbl_judge.proofs.audit.loses.Goals as goal
 
