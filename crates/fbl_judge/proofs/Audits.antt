@@ -13,12 +13,13 @@ use Rattle.std.proofs.lemmas.Option.{get_or_from_slice_get}
 use Rattle.fbl_trace.proofs.Gets.{At-front, At-push, At-seam}
 use Rattle.fbl_runs.proofs.Listing.{seen-later}
 use Rattle.fbl_judge.proofs.Common.{Dependence, Precedes, Stands}
+use Rattle.fbl_runs.proofs.LeadsLaws.{one_position}
 use Rattle.fbl_judge.specs.Paths.{IsDependentPlace}
 use Rattle.fbl_judge.specs.Unsafe.{IsLeftOrphanAt}
 use Rattle.fbl_judge.proofs.Common.{Cut}
 use Rattle.fbl_judge.specs.Audits.{AreNamed, DependsOnAny, IsFirstOnAny, IsLost, IsNamedBy, end_of}
 use Rattle.fbl_judge.specs.declared.audit.LostReceipt.{LostReceipt}
-use Rattle.fbl_judge.proofs.Places.{one_entry, one_position, place_of, place_within, placed_at}
+use Rattle.fbl_judge.proofs.Places.{one_entry, place_of, place_within, placed_at}
 
 -- no holder is left exactly where nobody outside the members holds it
 pub none_left : (holders members : Members) (Holds : ℕ → Type 0) → ((q : ℕ) → (set.contains holders q ≡ true) ↔ Holds q) → (b : Bool) → b ≡ (set.len (set.difference holders members) == 0)

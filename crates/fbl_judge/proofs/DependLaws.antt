@@ -4,12 +4,13 @@ use Rattle.fbl_judge.proofs.Common.{AreEntries, Determinant, Dependence, Entry, 
 use Rattle.std.proofs.Common.{min, slice_index}
 use Rattle.fbl_runs.specs.Clocks.{StandsAt, cut_of}
 use Rattle.fbl_runs.proofs.Listing.{stands_at}
+use Rattle.fbl_runs.proofs.ClockLaws.{last_there}
 use Rattle.fbl_judge.specs.declared.view.View.{View}
 use Rattle.fbl_judge.specs.Candidates.{IsLeastIn, IsReceiptHere, IsWithin, NoneDepends}
 use Rattle.fbl_judge.specs.Pasts.{IsFirstInLife}
 use Rattle.fbl_judge.specs.Views.{IsBase, IsLifeAt, IsOneLife, IsPastAndStep, IsPastAndStepAt, IsView}
 use Rattle.fbl_judge.proofs.LifeLaws.{first_arrives, first_least, first_none, none_depends, one_life, same_within, within_same}
-use Rattle.fbl_judge.proofs.MomentLaws.{last_there, meet, stands_less, within_moment}
+use Rattle.fbl_judge.proofs.MomentLaws.{meet, stands_less, within_moment}
 use Rattle.fbl_judge.proofs.PastLaws.{past_length}
 use Rattle.fbl_judge.proofs.ViewLaws.{nobody_beyond}
 

@@ -2,9 +2,9 @@
 use Rattle.fbl_judge.proofs.Common.{ℕ, ◌<◌, ◌+◌, inl, List, length, Some, None, refl, arith, slice_get_within}
 use Rattle.fbl_judge.proofs.Common.{Dependence, Entry, Cut, DependsAt, Logs, log_of, Position, Precedes, StandsBehind, StandsAt, at, step, RunParts}
 use Rattle.fbl_runs.proofs.Listing.{some_entry}
+use Rattle.fbl_runs.proofs.ClockLaws.{last_there}
 use Rattle.fbl_judge.specs.Dependents.{HasRestart, IsDependent, IsFirstOf}
 use Rattle.fbl_judge.specs.Paths.{IsDependentPlace}
-use Rattle.fbl_judge.proofs.FromRuns.{last_there}
 
 -- where a member has not restarted, what has come stands
 pub stands_alive : (log : List Entry) (k x : ℕ) → ¬ (HasRestart log) → k < x → StandsBehind log k x

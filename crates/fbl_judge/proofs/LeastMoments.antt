@@ -2,9 +2,9 @@
 use Rattle.fbl_judge.proofs.Common.{ℕ, zero, suc, Bool, true, false, ◌≡◌, ◌<◌, ◌≤◌, ◌⊎◌, ◌↔◌, inl, inr, List, [], ◌∷◌, None, Some, slice_get, length, refl, sym, subst, ◌∙◌, arith, cases_lt, false≢true, slice_get_within}
 use Rattle.fbl_judge.proofs.Common.{AreEntries, HappenedBefore, Entry, Event, Hold, LaterReceipt, Receipt, Restart, Send, Store, Tell, Told, IsArrival, IsRecord, Logs, log_of, recorded_in, IsAt, Leads, Position, Precedes, at, itself, step, Cut, HasCome, IsInStepOf, IsLeastMoment}
 use Rattle.fbl_runs.specs.Precedence.{IsPast}
-use Rattle.fbl_runs.proofs.ClockLaws.{has_past}
+use Rattle.fbl_runs.proofs.ClockLaws.{Precedes-joined, first_there, has_past, leads_there}
 use Rattle.fbl_judge.specs.Laws.{LeastMomentLaw}
-use Rattle.fbl_judge.proofs.MomentLaws.{arrival_no_record, first_there, joined, leads_first, moment_closed, own_before, same_at, step_there, to_record}
+use Rattle.fbl_judge.proofs.MomentLaws.{arrival_no_record, moment_closed, own_before, same_at, step_there, to_record}
 
 -- ---- the steps of a log's first entries
 
@@ -188,14 +188,14 @@ module _ (n : ℕ) (entries : List Entry) (are : AreEntries n entries) (j : Posi
 
   consistent : (i k : Position) → Leads HappenedBefore logs i k → HasCome cut k → HasCome cut i
   consistent i k leads come = elim ((has k).0 come) [
-    | inl p ↦ (has i).1 (inl (joined (step (itself (leads_first HappenedBefore logs i k leads).1) leads) p))
+    | inl p ↦ (has i).1 (inl (Precedes-joined (step (itself (leads_there HappenedBefore logs i k leads).0.1) leads) p))
     | inr (x, p, in_step) ↦
         let b = step_there logs x k in_step in
         let own = to_record logs i k b.0 b.1 b.2 leads in
         let a = in_step.0 in
         (has i).1 (elim (cases_lt x.number i.number) [
           | inl behind ↦ inr (x, p, (in_step.0, in_step.1 ∙ sym own.4, behind, λ y after upto. in_step.3 y after (let less = own.5 in omega (arith, upto, less))))
-          | inr before ↦ inl (joined (own_before logs i x own.0 a.0 (own.4 ∙ sym in_step.1) before own.2 a.1) p)
+          | inr before ↦ inl (Precedes-joined (own_before logs i x own.0 a.0 (own.4 ∙ sym in_step.1) before own.2 a.1) p)
         ])
   ]
 

@@ -1,5 +1,4 @@
 pub mod Common
-pub mod FromRuns
 pub mod Places
 pub mod MomentLaws
 pub mod SafeAlways
@@ -16,6 +15,7 @@ pub mod Dependents
 pub mod Restarts
 pub mod PathLaws
 pub mod Audits
+pub mod RecordedLaws
 pub mod ReasonLaws
 pub mod PlaceLaws
 pub mod RestartLaws

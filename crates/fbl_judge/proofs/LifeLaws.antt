@@ -1,16 +1,12 @@
 -- A member's life at a view: where in it the member first depends on a receipt, and the least moment at which it does.
-use Rattle.fbl_judge.proofs.Common.{ℕ, ◌≡◌, ◌<◌, ◌≤◌, ◌+◌, ◌⊎◌, inl, inr, max, Some, None, length, refl, ap, subst, ◌∙◌, arith, cases_eq, cases_lt, slice_get_within}
-use Rattle.fbl_judge.proofs.Common.{Determinant, Mark, Receipt, Send, send_of, Dependence, Entry, Event, Hold, LaterReceipt, Restart, Store, Tell, Told, IsArrival, Logs, mark_in, receipt_in, IsAt, Leads, Position, Precedes, at, itself, step, StandsBehind, Cut, DependsAt, HasCome, HasRestarted, IsMoment, IsReceiptAt, SameRestarts}
+use Rattle.fbl_judge.proofs.Common.{ℕ, ◌≡◌, ◌<◌, ◌≤◌, ◌+◌, inl, inr, max, Some, None, length, refl, ap, subst, ◌∙◌, arith, cases_eq, cases_lt, slice_get_within}
+use Rattle.fbl_judge.proofs.Common.{Determinant, Mark, Receipt, Send, send_of, Dependence, Entry, Event, Hold, LaterReceipt, Restart, Store, Tell, Told, IsArrival, Logs, mark_in, receipt_in, IsAt, Leads, Position, Precedes, at, step, StandsBehind, Cut, DependsAt, HasCome, HasRestarted, IsMoment, IsReceiptAt, SameRestarts}
+use Rattle.fbl_runs.proofs.ClockLaws.{last_step, last_there}
 use Rattle.fbl_judge.specs.Candidates.{IsLeastIn, NoneDepends}
 use Rattle.fbl_judge.specs.Pasts.{IsFirstInLife}
 use Rattle.fbl_judge.specs.Views.{IsBase, IsLifeAt, IsOneLife, IsPastAndStep}
-use Rattle.fbl_judge.proofs.MomentLaws.{last_there, stands_less, stands_on}
+use Rattle.fbl_judge.proofs.MomentLaws.{stands_less, stands_on}
 use Rattle.fbl_judge.proofs.PastLaws.{joined_moment, joined_parts, joined_within, past_has}
-
--- a path is of no step, or has a last one
-pub last_step : {logs : Logs} {i j : Position} → Precedes Dependence logs i j → (i ≡ j) ⊎ ((k : Position) × Precedes Dependence logs i k × Leads Dependence logs k j)
-last_step (itself h) = inl refl
-last_step (step {j} {k} p leads) = inr (j, p, leads)
 
 -- a receipt comes in
 pub receipt_arrives : (e : Entry) (d : Determinant) → receipt_in e ≡ Some d → IsArrival e

@@ -1,40 +1,13 @@
 -- Moments: what precedes an entry has come with it, their meet and their join, and what holds at moments with the same restarts.
 use Rattle.fbl_judge.proofs.Common.{ℕ, zero, suc, ◌≡◌, ◌<◌, ◌≤◌, ◌+◌, ◌⊎◌, ◌↔◌, inl, inr, List, [], ◌∷◌, max, Some, None, slice_get, length, refl, sym, ap, subst, ◌∙◌, arith, cases_eq, slice_get_within}
-use Rattle.fbl_judge.proofs.Common.{Determinant, Mark, Receipt, Send, send_of, Causality, Dependence, HappenedBefore, Entry, Event, Hold, LaterReceipt, Restart, Store, Tell, Told, IsArrival, IsRecord, Logs, mark_in, recorded_in}
+use Rattle.fbl_judge.proofs.Common.{Determinant, Mark, Receipt, Send, send_of, Dependence, HappenedBefore, Entry, Event, Hold, LaterReceipt, Restart, Store, Tell, Told, IsArrival, IsRecord, Logs, mark_in, recorded_in}
 use Rattle.fbl_judge.proofs.Common.{IsAt, IsEarlier, Leads, Position, Precedes, at, itself, step, StandsBehind, Cut, DependsAt, HasCome, HasRestarted, HoldsAt, IsInStepOf, IsMoment, IsStoredAt, Stands, last_cut}
 use Rattle.fbl_runs.specs.declared.entry.Restart as restart
 use Rattle.std.proofs.Common.{min}
+use Rattle.fbl_runs.proofs.LeadsLaws.{same_position}
+use Rattle.fbl_runs.proofs.ClockLaws.{last_there, leads_there}
 
 -- ---- paths
-
--- a step leads from an entry to an entry
-pub leads_first : (c : Causality) (logs : Logs) (i j : Position) → Leads c logs i j → (a : Entry) × IsAt logs i a
-leads_first HappenedBefore logs i j (inl own) = (own.0, own.2)
-leads_first HappenedBefore logs i j (inr (inl carries)) = (Event carries.0, carries.3)
-leads_first HappenedBefore logs i j (inr (inr (inl tells))) = (Tell tells.0, tells.1)
-leads_first HappenedBefore logs i j (inr (inr (inr begins))) = (Restart begins.0, begins.2)
-leads_first Dependence logs i j (inl stood) = (stood.0.0, stood.0.2)
-leads_first Dependence logs i j (inr carries) = (Event carries.0, carries.3)
-
-pub leads_last : (c : Causality) (logs : Logs) (i j : Position) → Leads c logs i j → (b : Entry) × IsAt logs j b
-leads_last HappenedBefore logs i j (inl own) = (own.1, own.3)
-leads_last HappenedBefore logs i j (inr (inl carries)) = (carries.2, carries.4)
-leads_last HappenedBefore logs i j (inr (inr (inl tells))) = (Told tells.0, tells.2)
-leads_last HappenedBefore logs i j (inr (inr (inr begins))) = (LaterReceipt begins.1 begins.0.life, begins.3)
-leads_last Dependence logs i j (inl stood) = (stood.0.1, stood.0.3)
-leads_last Dependence logs i j (inr carries) = (carries.2, carries.4)
-
-pub first_there : {c : Causality} {logs : Logs} {i j : Position} → Precedes c logs i j → (a : Entry) × IsAt logs i a
-first_there (itself {a} h) = (a, h)
-first_there (step p leads) = first_there p
-
-pub last_there : {c : Causality} {logs : Logs} {i j : Position} → Precedes c logs i j → (b : Entry) × IsAt logs j b
-last_there (itself {a} h) = (a, h)
-last_there {c} {logs} (step {j} {k} p leads) = leads_last c logs j k leads
-
-pub joined : {c : Causality} {logs : Logs} {i j k : Position} → Precedes c logs i j → Precedes c logs j k → Precedes c logs i k
-joined p (itself h) = p
-joined p (step q leads) = step (joined p q) leads
 
 -- dependence is by what happened before
 pub happened : {logs : Logs} {i j : Position} → Precedes Dependence logs i j → Precedes HappenedBefore logs i j
@@ -45,10 +18,6 @@ happened (step p (inr carries)) = step (happened p) (inr (inl carries))
 -- one entry stands at a position
 pub same_at : (logs : Logs) (i : Position) (a b : Entry) → IsAt logs i a → IsAt logs i b → a ≡ b
 same_at logs i a b at_a at_b = (let same : Some a ≡ Some b = sym at_a ∙ at_b in cc)
-
--- the position is the same where its parts are
-pub same_position : (i j : Position) → i.member ≡ j.member → i.number ≡ j.number → i ≡ j
-same_position i j m k = λ x. record { member = m x; number = k x }
 
 -- a member's entry happened before its later ones
 pub own_before : (logs : Logs) (i k : Position) (a b : Entry) → i.member ≡ k.member → i.number ≤ k.number → IsAt logs i a → IsAt logs k b → Precedes HappenedBefore logs i k
@@ -133,7 +102,7 @@ step_there logs i k in_step = (let r = in_step.3 k.number in_step.2 (omega arith
 
 pub last_is_moment : (logs : Logs) → IsMoment logs (last_cut logs)
 last_is_moment logs = record {
-  consistent = λ i j leads come. (let a = leads_first HappenedBefore logs i j leads in slice_get_within (logs i.member) i.number a.0 a.1);
+  consistent = λ i j leads come. (let a = (leads_there HappenedBefore logs i j leads).0 in slice_get_within (logs i.member) i.number a.0 a.1);
   whole = λ i j step come. (let e = step_there logs i j step in slice_get_within (logs j.member) j.number e.0 e.1);
 }
 

@@ -7,10 +7,11 @@ use Rattle.fbl_runs.specs.declared.judged.Judged.{Judged}
 use Rattle.fbl_runs.specs.declared.judged.Judged.TheVariants.{AtEachMoment, AtItsEnd}
 use Rattle.fbl_runs.specs.Clocks.{StandsAt, cut_of}
 use Rattle.fbl_runs.specs.Logs.{RunParts, run_of}
+use Rattle.fbl_runs.proofs.LeadsLaws.{same_position}
 use Rattle.fbl_judge.specs.Laws.{IsSameEntry, OrderLaw, SaySame}
 use Rattle.fbl_judge.specs.Unsafe.{ComesFirst, HasFewerRestarts, IsFewer, IsFirstCandidate, IsFirstDependent, IsLastRestart, IsLeftOrphanAt, IsNamed, IsSaidAt, IsSaidOf, IsUnsafe, RestartsFirst, restarts_at}
 use Rattle.fbl_judge.specs.declared.check.UnsafeReceipt.{UnsafeReceipt}
-use Rattle.fbl_judge.proofs.MomentLaws.{same_at, same_position}
+use Rattle.fbl_judge.proofs.MomentLaws.{same_at}
 use Rattle.fbl_judge.proofs.UnsafeLaws.{one_least, one_set, same_members, not_both}
 use Rattle.fbl_judge.proofs.ViewLaws.{counts_apart}
 

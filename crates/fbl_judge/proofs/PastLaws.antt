@@ -3,8 +3,10 @@ use Rattle.fbl_judge.proofs.Common.{ℕ, cond, ◌≡◌, ◌≢◌, ◌==◌, �
 use Rattle.fbl_judge.proofs.Common.{HappenedBefore, Entry, Restart, IsArrival, IsRecord, Logs, IsAt, Leads, Position, Precedes, at, itself, step, Cut, HasCome, HasRestarted, IsInStepOf, IsMoment}
 use Rattle.fbl_runs.specs.declared.entry.Restart as restart
 use Rattle.fbl_runs.specs.Indexes.{EndsStep}
+use Rattle.fbl_runs.proofs.LeadsLaws.{same_position}
+use Rattle.fbl_runs.proofs.ClockLaws.{Precedes-joined, first_there, leads_there}
 use Rattle.fbl_judge.specs.Views.{IsPastAndStep}
-use Rattle.fbl_judge.proofs.MomentLaws.{arrival_no_record, first_there, joined, leads_first, leaves, leaves_no_record, max_or, moment_closed, own_before, same_at, same_position, some_at, step_there, to_record}
+use Rattle.fbl_judge.proofs.MomentLaws.{arrival_no_record, leaves, leaves_no_record, max_or, moment_closed, own_before, same_at, some_at, step_there, to_record}
 
 -- a restart is no hold or store
 pub restart_no_record : (logs : Logs) (i : Position) (r : restart.Restart) → IsAt logs i (Restart r) → ¬ ((e : Entry) × IsAt logs i e × IsRecord e)
@@ -14,7 +16,7 @@ module _ (logs : Logs) (j : Position) (e : Entry) (here : IsAt logs j e) (arrive
   -- what leads to what has come has come
   pub past_consistent : (i k : Position) → Leads HappenedBefore logs i k → HasCome cut k → HasCome cut i
   past_consistent i k leads come = elim ((of k).0 come) [
-    | inl p ↦ (of i).1 (inl (joined (step (itself (leads_first HappenedBefore logs i k leads).1) leads) p))
+    | inl p ↦ (of i).1 (inl (Precedes-joined (step (itself (leads_there HappenedBefore logs i k leads).0.1) leads) p))
     | inr in_step ↦
         let b = step_there logs j k in_step in
         let own = to_record logs i k b.0 b.1 b.2 leads in
@@ -58,7 +60,7 @@ module _ (logs : Logs) (j : Position) (e : Entry) (here : IsAt logs j e) (arrive
         ])
         by_leaving there p (inr (t, a, at_t, kind, same, behind, q)) = elim (cases_eq i.number t.number) [
           | inr ne ↦ inl (elim (cases_lt k.number t.number) [
-            | inl before ↦ (of k).1 (inl (joined (own_before logs k t there.0 a (sym in_step.1 ∙ same) (omega (arith, before)) there.1 at_t) q))
+            | inl before ↦ (of k).1 (inl (Precedes-joined (own_before logs k t there.0 a (sym in_step.1 ∙ same) (omega (arith, before)) there.1 at_t) q))
             | inr after ↦ absurd (
                 let r = in_step.3 t.number (omega (arith, behind, ne)) after in
                 let at_t' : IsAt logs (at i.member t.number) a = subst (λ (m : ℕ). IsAt logs (at m t.number) a) (sym same) at_t in

@@ -6,11 +6,11 @@ use Rattle.std.proofs.lemmas.List.{reverse-append}
 use Rattle.fbl_runs.specs.Links.{IsPlaceOf}
 use Rattle.fbl_runs.specs.Rules.{AreLawful}
 use Rattle.fbl_runs.proofs.Listing.{locate_all, stands_at}
+use Rattle.fbl_runs.proofs.ClockLaws.{last_step, last_there}
 use Rattle.fbl_judge.specs.Dependents.{IsDependentSend}
 use Rattle.fbl_judge.specs.Paths.{ArePathsFrom, IsDependentOn, IsDependentPlace, IsPath, IsPathTo, IsPlaceBefore, PlaceLeads, path_step}
 use Rattle.fbl_judge.specs.declared.paths.OrphanPath.{OrphanPath}
 use Rattle.fbl_runs.proofs.LeadsLaws.{leads_before}
-use Rattle.fbl_judge.proofs.FromRuns.{last_step, last_there}
 use Rattle.fbl_judge.proofs.Places.{one_entry, one_place, placed_at}
 
 -- an entry that a message comes in with is an event

@@ -1,22 +1,12 @@
 -- Entries by their places in the list.
-use Rattle.fbl_judge.proofs.Common.{ℕ, cond, ◌≡◌, ◌==◌, ◌<◌, List, Some, max, slice_get, length, refl, ap, subst, ◌∙◌, arith, slice_get_read, slice_get_within, Entry, entry_member, log_of, IsAt, Position, at, Cut}
-use Rattle.std.proofs.Common.{get_or}
+use Rattle.fbl_judge.proofs.Common.{ℕ, cond, ◌≡◌, ◌==◌, ◌<◌, List, Some, max, slice_get, length, refl, ap, subst, ◌∙◌, arith, slice_get_within, Entry, entry_member, log_of, Position, at, Cut}
 use Rattle.fbl_runs.specs.Clocks.{StandsAt, seen}
 use Rattle.fbl_runs.specs.Indexes.{EndsStep}
 use Rattle.fbl_runs.specs.Precedence.{IsPast}
-use Rattle.fbl_runs.proofs.ClockLaws.{one_position}
-use Rattle.fbl_runs.proofs.LeadsLaws.{here_stands}
-use Rattle.fbl_runs.proofs.Listing.{placed, stands_at}
+use Rattle.fbl_runs.proofs.LeadsLaws.{here_stands, one_position}
+use Rattle.fbl_runs.proofs.Listing.{placed}
 use Rattle.fbl_judge.specs.Views.{IsPastAndStepAt}
 use Rattle.fbl_judge.proofs.PastLaws.{past_and_step_of}
-
--- what is read at a place stands there
-pub read_at : (entries read : List Entry) (place : ℕ) (e : Entry) → read ≡ entries → place < length entries → e ≡ get_or read place e → slice_get entries place ≡ Some e
-read_at entries read place e same within is =
-    subst (λ (es : List Entry). slice_get es place ≡ Some e) same (slice_get_read read (length read) place e refl (let l = ap (λ (es : List Entry). length es) same in omega (arith, l, within)) is)
-
-pub place_within : (entries : List Entry) (place : ℕ) (i : Position) → StandsAt entries place i → place < length entries
-place_within entries place i stands = slice_get_within entries place stands.0 stands.1
 
 -- the number of an entry is one of its member's log
 pub number_within : (entries : List Entry) (place : ℕ) (e : Entry) (m number : ℕ) → slice_get entries place ≡ Some e → m ≡ entry_member e → ((j : Position) → StandsAt entries place j → number ≡ j.number) → number < length (log_of entries m)
@@ -37,7 +27,3 @@ past_and_step_at entries place e m number end here member is ends past cut of_pa
     let number' : number ≡ j.number = is j stands in
     let ends' = subst (λ (x : ℕ). EndsStep (log_of entries j.member) x end) number' (subst (λ (x : ℕ). EndsStep (log_of entries x) number end) same ends) in
     past_and_step_of (log_of entries) j b at_j arrives end ends' past cut (of_past j stands) (subst (λ (x : ℕ). (q : ℕ) → cut q ≡ max (past q) (cond (q == x) end 0)) same counts)
-
--- and what stands at the place of a position is there
-pub entry_at : (entries : List Entry) (place : ℕ) (e : Entry) (i : Position) → StandsAt entries place i → slice_get entries place ≡ Some e → IsAt (log_of entries) i e
-entry_at entries place e i stands here = stands_at entries place i e stands here

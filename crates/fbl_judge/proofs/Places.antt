@@ -6,20 +6,11 @@ use Rattle.fbl_judge.proofs.Common.{Causality, Entry, entry_member, log_of, IsAt
 use Rattle.fbl_runs.specs.Rules.{AreLawful}
 use Rattle.fbl_runs.proofs.Listing.{locate_all, seen-later, some_entry, stands_at}
 use Rattle.fbl_runs.proofs.LeadsLaws.{leads_before}
-use Rattle.fbl_judge.proofs.FromRuns.{leads_there}
-
-pub same_position : (i j : Position) → i.member ≡ j.member → i.number ≡ j.number → i ≡ j
-same_position i j member number = λ t. record { member = member t; number = number t }
+use Rattle.fbl_runs.proofs.ClockLaws.{leads_there}
 
 -- one entry stands at a place
 pub one_entry : (entries : List Entry) (p : ℕ) (a b : Entry) → slice_get entries p ≡ Some a → slice_get entries p ≡ Some b → a ≡ b
 one_entry entries p a b at_a at_b = (let both : Some a ≡ Some b = sym at_a ∙ at_b in cc)
-
--- at one position
-pub one_position : (entries : List Entry) (p : ℕ) (i j : Position) → StandsAt entries p i → StandsAt entries p j → i ≡ j
-one_position entries p i j at_i at_j =
-    let member : i.member ≡ j.member = sym at_i.2 ∙ ap entry_member (one_entry entries p at_i.0 at_j.0 at_i.1 at_j.1) ∙ at_j.2 in
-    same_position i j member (sym at_i.3 ∙ ap (seen entries p) member ∙ at_j.3)
 
 -- and a position is that of one place
 pub one_place : (entries : List Entry) (p q : ℕ) (i j : Position) → StandsAt entries p i → StandsAt entries q j → i ≡ j → p ≡ q

@@ -1,13 +1,13 @@
 -- What the reason of an unsafe receipt is said of.
-use Rattle.fbl_judge.proofs.Common.{ℕ, true, ◌≡◌, ◌-◌, ◌<◌, ◌≤◌, ◌+◌, ◌++◌, ◌∷◌, ◌∙◌, [], inl, inr, List, length, take, arith, cases_eq, cases_lt, refl, Option, Some, None, sym, ap, subst, false≢true, slice_get_within}
-use Rattle.fbl_judge.proofs.Common.{Determinant, Entry, entry_member, log_of, Position, at, Cut, HasCome, Members, DependsAt, HappenedBefore, IsAt, IsMoment, IsLeastDependent, SameRestarts, StandsAt, AreEntries, cut_of, seen, RunParts}
-use Rattle.std.proofs.Common.{IfOk, Result, Ok, Err, get_or, min}
+use Rattle.fbl_judge.proofs.Common.{ℕ, true, ◌≡◌, ◌<◌, ◌≤◌, ◌+◌, ◌++◌, ◌∷◌, ◌∙◌, [], inl, inr, List, length, take, arith, cases_eq, cases_lt, refl, Option, Some, None, sym, ap, subst, false≢true}
+use Rattle.fbl_judge.proofs.Common.{Determinant, Entry, entry_member, log_of, Position, at, Cut, HasCome, Members, DependsAt, StandsAt, AreEntries, cut_of, seen, RunParts}
+use Rattle.std.proofs.Common.{IfOk, Result, Ok, Err, get_or}
 use Rattle.std.specs.List.{AllZip}
 use Rattle.std.proofs.lemmas.List.{take_more}
 use Rattle.std.specs.FinSet as set
 use Rattle.fbl_trace.specs.MemberSets.{contains-insert_other}
 use Rattle.fbl_runs.specs.Logs.{IsRun}
-use Rattle.fbl_runs.specs.Records.{IsNextRecord, IsRecordAt}
+use Rattle.fbl_runs.specs.Records.{IsRecordAt}
 use Rattle.fbl_runs.specs.declared.judged.Judged.{Judged}
 use Rattle.fbl_runs.specs.declared.judged.Judged.TheVariants.{AtEachMoment, AtItsEnd}
 use Rattle.fbl_runs.proofs.Listing.{locate_all, some_entry}
@@ -16,7 +16,7 @@ use Rattle.std.proofs.lemmas.List.{get_or_past}
 use Rattle.fbl_judge.specs.Unsafe.{IsSaidAt, IsSaidOf}
 use Rattle.fbl_judge.specs.declared.check.UnsafeReceipt.{UnsafeReceipt}
 use Rattle.fbl_judge.specs.declared.reason.Reason.{Reason}
-use Rattle.fbl_judge.proofs.FromRuns.{last_there, leads_there}
+use Rattle.fbl_judge.proofs.DependLaws.{least_within}
 use Rattle.fbl_judge.proofs.PathLaws.{same_paths}
 
 -- two that are so of a result
@@ -33,52 +33,14 @@ same_reason run i a b P Q reason cut same is = subst (λ (b : Cut). IsReasonAt r
   paths = same_paths run i a P Q same 0 reason.paths.items is.paths;
 })
 
--- the moments with these restarts have no more entries than there are, if they are least
-module _ (entries : List Entry) (i : Position) (q : ℕ) (cut : Cut) (least : IsLeastDependent (log_of entries) i q cut) where
-  abbrev within : Cut
-  within p = min (cut p) (length (log_of entries p))
-
-  there : (k : Position) (e : Entry) → IsAt (log_of entries) k e → HasCome cut k → HasCome within k
-  there k e here come = (let room = slice_get_within (log_of entries k.member) k.number e here in omega (arith, come, room))
-
-  come_before : (k : Position) → HasCome within k → HasCome cut k
-  come_before k come = omega (arith, come)
-
-  moment : IsMoment (log_of entries) within
-  moment = record {
-    consistent = λ a b leads come. (let ends = leads_there HappenedBefore (log_of entries) a b leads in there a ends.0.0 ends.0.1 (least.moment.consistent a b leads (come_before b come)));
-    whole = λ a b step come. (
-        let last = step.3 b.number step.2 (omega arith) in
-        there b last.0 (subst (λ (m : ℕ). IsAt (log_of entries) (at m b.number) last.0) step.1 last.1) (least.moment.whole a b step (come_before a come)));
-  }
-
-  restarts : SameRestarts (log_of entries) cut within
-  restarts k = (
-    λ come. (come.0, come.1, there k _ come.1 come.2),
-    λ come. (come.0, come.1, come_before k come.2),
-  )
-
-  depends : DependsAt (log_of entries) within i q
-  depends =
-      let k = least.depends.0 in
-      let end = last_there least.depends.1 in
-      let standing = least.depends.2 in (
-        k,
-        least.depends.1,
-        (there (at q k) end.0 end.1 standing.0, λ number r past below here. standing.1 number r past (come_before (at q number) below) here),
-      )
-
-  pub least_within : (p : ℕ) → cut p ≤ length (log_of entries p)
-  least_within p = (let less = least.least within moment restarts depends p in omega (arith, less))
-
--- nor has the moment of what is said
+-- the moment of what is said has no more entries than there are
 pub said_within : (run : RunParts) (i : Position) (said : UnsafeReceipt) (is : IsSaidOf run i said) → (q : ℕ) → cut_of said.moment q ≤ length (log_of run.entries q)
 said_within run i said is q = by_judged run.judged said.at is.moment where
   by_judged : (j : Judged) (o : Option ℕ) → IsSaidAt run i said j o → cut_of said.moment q ≤ length (log_of run.entries q)
   by_judged AtItsEnd None end = (let same = ap (λ (cut : Cut). cut q) end.0 in omega (arith, same))
   by_judged AtItsEnd (Some p) no' = absurd no'
   by_judged AtEachMoment None no' = absurd no'
-  by_judged AtEachMoment (Some p) moment = least_within run.entries i moment.0 (cut_of said.moment) moment.1.candidate.moment q
+  by_judged AtEachMoment (Some p) moment = least_within (log_of run.entries) i moment.0 (cut_of said.moment) moment.1.candidate.moment q
 
 -- those shown depend on the receipt there
 pub shown_depends : (run : RunParts) (i : Position) (said : UnsafeReceipt) (is : IsSaidOf run i said) → (q : ℕ) → set.contains said.shown q ≡ true → DependsAt (log_of run.entries) (cut_of said.moment) i q
@@ -104,46 +66,9 @@ reasons_more {X} {R} IsReason xs i x reasons r below is told reason = rw (take_m
 
 -- ---- the next hold or store
 
--- it is the first hold or store of the determinant that may not have come
-abbrev pub IsNextToCome : List Entry → Cut → Determinant → Option ℕ → Type 0
-IsNextToCome entries cut d None = (place : ℕ) → ¬ (IsToCome entries cut d place)
-IsNextToCome entries cut d (Some next) = IsRecordAt entries d next × ((place : ℕ) → place < next → ¬ (IsToCome entries cut d place))
-
--- how many entries stand from there on
-abbrev pub left : List Entry → Option ℕ → ℕ
-left entries None = 0
-left entries (Some place) = length entries - place
-
--- the first hold or store is it
-pub first_to_come : (entries : List Entry) (cut : Cut) (d : Determinant) (o : Option ℕ) → IsNextRecord entries d 0 o → IsNextToCome entries cut d o
-first_to_come entries cut d None none = λ place to_come. none place (omega arith) to_come.0
-first_to_come entries cut d (Some next) first = (first.1, λ place below to_come. first.2 place (omega arith) below to_come.0)
-
--- where it has come, the next one is
-pub next_to_come : (entries : List Entry) (cut : Cut) (d : Determinant) (p : ℕ) (o : Option ℕ) → ((place : ℕ) → place < p → ¬ (IsToCome entries cut d place))
-    → ((i : Position) → StandsAt entries p i → HasCome cut i) → IsNextRecord entries d (p + 1) o → IsNextToCome entries cut d o
-next_to_come entries cut d p None before come none = λ place to_come. elim (cases_lt place p) [
-  | inl below ↦ before place below to_come
-  | inr past ↦ elim (cases_eq place p) [
-    | inl same ↦ to_come.1.2 (come to_come.1.0 (subst (λ (p : ℕ). StandsAt entries p to_come.1.0) same to_come.1.1))
-    | inr ne ↦ none place (omega (arith, past, ne)) to_come.0
-  ]
-]
-next_to_come entries cut d p (Some next) before come first = (
-  first.1,
-  λ place earlier to_come. elim (cases_lt place p) [
-    | inl below ↦ before place below to_come
-    | inr past ↦ elim (cases_eq place p) [
-      | inl same ↦ to_come.1.2 (come to_come.1.0 (subst (λ (p : ℕ). StandsAt entries p to_come.1.0) same to_come.1.1))
-      | inr ne ↦ first.2 place (omega (arith, past, ne)) earlier to_come.0
-    ]
-  ],
-)
-
--- and fewer are left
-pub fewer_left : (entries : List Entry) (d : Determinant) (p : ℕ) (o : Option ℕ) → p < length entries → IsNextRecord entries d (p + 1) o → left entries o < length entries - p
-fewer_left entries d p None below none = omega (arith, below)
-fewer_left entries d p (Some next) below first = (let past = first.0 in omega (arith, below, past))
+-- the entry at the place has not come
+abbrev pub HasNotCome : List Entry → Cut → ℕ → Type 0
+HasNotCome entries cut place = (i : Position) × StandsAt entries place i × ¬ (HasCome cut i)
 
 -- the hold or store at the place has not come
 pub is_to_come : (entries : List Entry) (cut : Cut) (d : Determinant) (p : ℕ) → IsRecordAt entries d p → ((i : Position) → StandsAt entries p i → ¬ (HasCome cut i)) → IsToCome entries cut d p

@@ -5,11 +5,12 @@ use Rattle.fbl_runs.specs.declared.entry.Restart as restart
 use Rattle.fbl_runs.specs.Rules.{AreLawful}
 use Rattle.fbl_runs.proofs.Listing.{placed, stands_at}
 use Rattle.std.proofs.Common.{IfSome}
+use Rattle.fbl_runs.proofs.ClockLaws.{Precedes-joined}
+use Rattle.fbl_runs.proofs.LeadsLaws.{one_position}
 use Rattle.fbl_judge.specs.Dependents.{HasRestart, IsLastPlace, IsLater, IsLesser}
 use Rattle.fbl_judge.specs.Pasts.{AreRestartPlaces, IsRestartPlace}
 use Rattle.fbl_judge.specs.Unsafe.{IsLastRestart}
-use Rattle.fbl_judge.proofs.FromRuns.{Precedes-joined}
-use Rattle.fbl_judge.proofs.Places.{one_entry, one_position, place_of, placed_at, place_within, precedes_later}
+use Rattle.fbl_judge.proofs.Places.{one_entry, place_of, placed_at, place_within, precedes_later}
 
 -- the restart at the place is in its member's log
 pub restart_at : (entries : List Entry) (p : ℕ) (i : Position) → IsRestartPlace entries p → StandsAt entries p i → (r : restart.Restart) × IsAt (log_of entries) i (Restart r)

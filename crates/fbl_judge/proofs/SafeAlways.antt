@@ -7,7 +7,8 @@ use Rattle.fbl_trace.specs.MemberSets.{contains-insert_same, contains-insert_oth
 use Rattle.std.proofs.Common.{min, nat_cmp}
 use Rattle.std.specs.FinSet as set
 use Rattle.fbl_runs.proofs.Listing.{locate_all, some_entry}
-use Rattle.fbl_judge.proofs.MomentLaws.{happened, holds_later, last_there, meet, meet_moment, moment_closed, stands_earlier, stands_less, stored_later, within_moment}
+use Rattle.fbl_runs.proofs.ClockLaws.{last_there}
+use Rattle.fbl_judge.proofs.MomentLaws.{happened, holds_later, meet, meet_moment, moment_closed, stands_earlier, stands_less, stored_later, within_moment}
 
 -- ---- sets of members
 

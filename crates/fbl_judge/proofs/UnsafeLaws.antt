@@ -7,6 +7,7 @@ use Rattle.fbl_trace.specs.MemberSets.{same_from_contains}
 use Rattle.std.specs.FinSet as set
 use Rattle.std.proofs.Common.{slice_index}
 use Rattle.std.proofs.lemmas.Bool.{cases_order}
+use Rattle.fbl_runs.proofs.ClockLaws.{last_there}
 use Rattle.fbl_judge.specs.declared.check.Candidate.{Candidate}
 use Rattle.fbl_judge.specs.declared.check.UnsafeReceipt.{UnsafeReceipt}
 use Rattle.fbl_judge.specs.declared.view.View.{View}
@@ -22,7 +23,7 @@ use Rattle.fbl_trace.proofs.Gets.{At-push, take-more}
 use Rattle.fbl_trace.proofs.Sets.{len-remove_one}
 use Rattle.fbl_runs.proofs.LeadsLaws.{stands_somewhere}
 use Rattle.fbl_runs.proofs.Listing.{stands_at}
-use Rattle.fbl_judge.proofs.MomentLaws.{holds_later, last_there, stands_earlier, stored_later}
+use Rattle.fbl_judge.proofs.MomentLaws.{holds_later, stands_earlier, stored_later}
 use Rattle.fbl_judge.proofs.SafeAlways.{come_there, loses, lost_contains, may_be_lost, none_beyond, of_group, some_least_dependent, some_struck_or_hold}
 use Rattle.fbl_judge.proofs.ViewLaws.{count_same, sum_same}
 

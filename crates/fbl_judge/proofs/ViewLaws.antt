@@ -8,13 +8,11 @@ use Rattle.fbl_runs.specs.declared.entry.Restart as restart
 use Rattle.fbl_runs.specs.Clocks.{StandsAt, cut_of, seen}
 use Rattle.fbl_runs.specs.Rules.{is_restart, restarts}
 use Rattle.fbl_runs.proofs.Listing.{locate_all, seen-all, seen-later, seen-other, seen-own, seen_mono, some_entry, stands_at}
-use Rattle.fbl_runs.proofs.ClockLaws.{one_place_of}
-use Rattle.fbl_runs.proofs.LeadsLaws.{here_stands, places_order, precedes_before}
+use Rattle.fbl_runs.proofs.LeadsLaws.{here_stands, one_place_of, places_order, precedes_before, same_position}
 use Rattle.fbl_judge.specs.declared.view.View.{View}
 use Rattle.fbl_judge.specs.declared.views.Back.{Back}
 use Rattle.fbl_judge.specs.Unsafe.{restarts_at, restarts_below}
 use Rattle.fbl_judge.specs.Views.{AreViews, AreViewsOf, AreWith, IsAmong, IsBack, IsBase, IsLifeAt, IsNextRestart, IsPastAndStep, IsView, IsWith, MayHave}
-use Rattle.fbl_judge.proofs.MomentLaws.{same_position}
 use Rattle.fbl_judge.proofs.PastLaws.{joined_moment, joined_parts, joined_within, past_has, past_length, past_restart, past_within}
 
 -- ---- counts of restarts

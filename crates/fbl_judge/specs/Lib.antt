@@ -6,5 +6,6 @@ pub mod Dependents
 pub mod Audits
 pub mod Paths
 pub mod Reasons
+pub mod Recorded
 pub mod Undone
 pub mod Laws

@@ -10,6 +10,7 @@ ghost use Rattle.fbl_judge.specs.Audits.{AreNamed, IsAudit, IsNamedBy, IsFirstCa
 
 use crate::named::first_dependent_place;
 use crate::pasts::Pasts;
+use crate::recorded::recorded_at;
 use fbl_runs::Clock;
 use fbl_trace::{Determinant, Member, MemberSet};
 use std::alloc::{AllocError, Global};
@@ -35,19 +36,15 @@ pub struct Audit {
 
 /// Whether the loss of the strike set loses the receipt at the clock's cut.
 fn loses(pasts: &Pasts<'_>, receipt: &LostReceipt, moment: &Clock) -> bool
-    requires named { (i : Position) × IsNamedBy pasts.now i receipt.now }
-    requires within { (q : ℕ) → cut_of moment.now q ≤ length (log_of pasts.now.entries q) }
+    requires { (i : Position) × IsNamedBy pasts.now i receipt.now }
     ensures { (i : Position) → StandsAt pasts.now.entries receipt.now.place i
         → (result ≡ true) ↔ LosesReceiptAt (run_of pasts.now) (cut_of moment.now) pasts.now.strike i }
 {
-    let index = pasts.index();
-    let determinant = &receipt.determinant;
-    pasts.stands(receipt.place, moment)
-        && !index.is_stored(determinant, moment)
-        && index
-            .holders(determinant, moment)
-            .without(pasts.run().strike())
-            .is_empty()
+    if !pasts.stands(receipt.place, moment) {
+        return false;
+    }
+    let recorded = recorded_at(pasts, &receipt.determinant, moment);
+    !recorded.is_stored && recorded.holders.without(pasts.run().strike()).is_empty()
 }
 
 /// The audit of the run's last moment. The time taken is that of the entries times the members. `Err` comes only where there is no memory

@@ -13,6 +13,7 @@ ghost use Rattle.fbl_judge.specs.Views.{IsView};
 
 use crate::named::named_place;
 use crate::pasts::Pasts;
+use crate::recorded::recorded_at;
 use crate::view::View;
 use fbl_runs::{Clock, Judged};
 use fbl_trace::{Determinant, Member, MemberSet};
@@ -54,17 +55,16 @@ struct Candidate {
 
 /// The least members whose loss at the clock's cut loses the receipt with the determinant, if they may be lost.
 fn least_strike(pasts: &Pasts<'_>, determinant: &Determinant, moment: &Clock) -> Option<MemberSet>
-    requires { (q : ℕ) → cut_of moment.now q ≤ length (log_of pasts.now.entries q) }
     ensures { MatchOption result
         ((strike : _) → ¬ (IsLeastStrike (run_of pasts.now) (cut_of moment.now) determinant.now strike))
         (IsLeastStrike (run_of pasts.now) (cut_of moment.now) determinant.now) }
 {
-    let index = pasts.index();
-    if index.is_stored(determinant, moment) {
+    let recorded = recorded_at(pasts, determinant, moment);
+    if recorded.is_stored {
         return None;
     }
     let run = pasts.run();
-    let strike = run.strike().union(index.holders(determinant, moment));
+    let strike = run.strike().union(recorded.holders);
     let most = u32::from(run.f()).max(run.strike().count());
     if strike.count() > most {
         return None;

@@ -15,6 +15,7 @@ use crate::check::UnsafeReceipt;
 use crate::named::has_come;
 use crate::pasts::Pasts;
 use crate::paths::{OrphanPath, paths_to};
+use crate::recorded::recorded_at;
 use fbl_runs::Clock;
 use fbl_trace::{Determinant, Member, MemberSet};
 use std::alloc::{AllocError, Global};
@@ -96,7 +97,7 @@ fn reason_at(
         at,
         strike,
         cut: counts(moment),
-        holders: pasts.index().holders(&determinant, moment),
+        holders: recorded_at(pasts, &determinant, moment).holders,
         next: next_place(pasts, &determinant, moment),
         paths: paths_to(alloc, pasts, place, receipt.shown, moment)?,
     })

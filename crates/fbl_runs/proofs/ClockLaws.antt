@@ -1,19 +1,19 @@
 -- Vector clocks: what precedes an entry, by the clocks of what leads to it at once.
 use Rattle.fbl_runs.proofs.Common.{ℕ, zero, suc, cond, ◌≡◌, ◌≢◌, ◌==◌, ◌<◌, ◌≤◌, ◌+◌, ◌⊎◌, ◌↔◌, inl, inr, List, max, Option, Some, None, slice_get, refl, sym, ap, subst, ◌∙◌, arith}
-use Rattle.fbl_runs.proofs.Common.{nat_tests, cases_eq, cases_order, slice_get_within, Determinant, Mark, Send, Receipt, Told, mark_in, receipt_in, send_of}
+use Rattle.fbl_runs.proofs.Common.{nat_tests, cases_eq, slice_get_within, Determinant, Mark, Send, Receipt, Told, mark_in, receipt_in, send_of}
 use Rattle.std.specs.Prelude.{option_and_then}
 use Rattle.fbl_trace.specs.Events.{determinant_of}
 use Rattle.fbl_runs.proofs.Common.{Event, Hold, LaterReceipt, Restart, Store, Tell, ControlMessage, receipt_of, [], ◌∷◌}
 use Rattle.fbl_runs.specs.declared.entry.Restart as restart
-use Rattle.fbl_runs.proofs.Common.{Begins, Carries, Causality, Cut, Dependence, Entry, HappenedBefore, IsAt, IsEarlier, Leads, Logs, Position, Precedes, StandsBehind, StoodBefore, Tells, at, entry_member, itself, log_of, step}
+use Rattle.fbl_runs.proofs.Common.{Begins, Carries, Causality, Cut, Dependence, Entry, HappenedBefore, IsAt, IsEarlier, Leads, Logs, Position, Precedes, StandsBehind, StoodBefore, Tells, at, itself, log_of, step}
 use Rattle.fbl_runs.specs.declared.links.Link.{Link}
 use Rattle.fbl_runs.specs.Clocks.{StandsAt, seen}
 use Rattle.fbl_runs.specs.Links.{AreLinks, AreOfOneLife, IsLastPlace, IsLink, IsMessageOf, IsPlaceOf}
 use Rattle.fbl_runs.specs.Precedence.{AreBelow, HasColumn, IsAmong, IsBelow, IsClock, IsJoined, IsPast, IsSourceClock, message_taken, reached_cut, sources_of}
 use Rattle.fbl_runs.specs.Rules.{AreLawful}
 use Rattle.fbl_runs.proofs.ControlLaws.{told_before}
-use Rattle.fbl_runs.proofs.LeadsLaws.{are_told, begins_before, begins_one, carried, carries_one, earlier_before, here_stands, leads_before, same_position, stands_somewhere, tells_one}
-use Rattle.fbl_runs.proofs.Listing.{seen-later, some_entry, stands_at}
+use Rattle.fbl_runs.proofs.LeadsLaws.{are_told, begins_before, begins_one, carried, carries_one, earlier_before, here_stands, leads_before, one_place_of, one_position, same_position, stands_somewhere, tells_one, there_at}
+use Rattle.fbl_runs.proofs.Listing.{some_entry, stands_at}
 
 pub Precedes-joined : {c : Causality} {logs : Logs} {i j k : Position} → Precedes c logs i j → Precedes c logs j k → Precedes c logs i k
 Precedes-joined p (itself h) = p
@@ -52,30 +52,6 @@ there_before logs m k l b at_l before = (let within = slice_get_within (logs m) 
 pub last_step : {c : Causality} {logs : Logs} {i j : Position} → Precedes c logs i j → (i ≡ j) ⊎ ((k : Position) × Precedes c logs i k × Leads c logs k j)
 last_step (itself h) = inl refl
 last_step (step {j} p s) = inr (j, p, s)
-
--- ---- where positions are
-
--- one position stands at a place
-pub one_position : (entries : List Entry) (p : ℕ) (i j : Position) → StandsAt entries p i → StandsAt entries p j → i ≡ j
-one_position entries p i j at_i at_j =
-    let same : at_i.0 ≡ at_j.0 = (let s : Some at_i.0 ≡ Some at_j.0 = sym at_i.1 ∙ at_j.1 in cc) in
-    let member : i.member ≡ j.member = sym at_i.2 ∙ ap entry_member same ∙ at_j.2 in
-    same_position i j member (sym at_i.3 ∙ ap (seen entries p) member ∙ at_j.3)
-
-not_later : (entries : List Entry) (p q : ℕ) (i : Position) → StandsAt entries p i → StandsAt entries q i → p < q → ⊥
-not_later entries p q i at_p at_q before = (let more = seen-later entries p q i.member at_p.0 at_p.1 at_p.2 before in omega (arith, more, at_p.3, at_q.3))
-
--- and a position at one place
-pub one_place_of : (entries : List Entry) (p q : ℕ) (i : Position) → StandsAt entries p i → StandsAt entries q i → p ≡ q
-one_place_of entries p q i at_p at_q = elim (cases_order p q) [
-  | inl same ↦ same
-  | inr (inl below) ↦ absurd (not_later entries p q i at_p at_q below)
-  | inr (inr above) ↦ absurd (not_later entries q p i at_q at_p above)
-]
-
--- the entry of a position that stands at a place is there
-pub there_at : (entries : List Entry) (p : ℕ) (i : Position) → StandsAt entries p i → (e : Entry) × IsAt (log_of entries) i e
-there_at entries p i stands = (stands.0, stands_at entries p i stands.0 stands stands.1)
 
 -- ---- the clock of an entry
 

@@ -9,7 +9,8 @@ use Rattle.fbl_runs.specs.declared.links.Link.{Link}
 use Rattle.fbl_runs.specs.Clocks.{StandsAt, cut_of, seen}
 use Rattle.fbl_runs.specs.Links.{AreLinks}
 use Rattle.fbl_runs.specs.Precedence.{AreBelow, AreClocks, HasColumn, HasSeen, IsAmong, IsBelow, IsClock, IsEntryClock, IsJoined, IsPast, IsSourceClock, Shares, arrival_at, arrival_in, column, cut_in, kept_cut, reached_cut, sources_of}
-use Rattle.fbl_runs.proofs.ClockLaws.{before_among, clock_joined, one_position}
+use Rattle.fbl_runs.proofs.ClockLaws.{before_among, clock_joined}
+use Rattle.fbl_runs.proofs.LeadsLaws.{one_position}
 use Rattle.fbl_runs.proofs.Listing.{stands_at}
 
 -- no more entries of a member are seen than there are

@@ -1,7 +1,7 @@
 -- What a pass over the entries of a log with restarts finds of the receipts that stand.
-use Rattle.fbl_runs.proofs.Common.{ℕ, zero, suc, Bool, cond, ◌≡◌, ◌<◌, ◌≤◌, ◌+◌, ◌↔◌, inl, inr, List, [], ◌∷◌, length, Option, Some, slice_get, refl, sym, ap, subst, ◌∙◌, arith, cases_lt, slice_get_within, receipt_of, send_of}
+use Rattle.fbl_runs.proofs.Common.{ℕ, zero, suc, Bool, cond, ◌≡◌, ◌<◌, ◌≤◌, ◌+◌, ◌↔◌, inl, inr, List, [], ◌∷◌, length, Option, Some, slice_get, refl, sym, ap, subst, ◌∙◌, arith, cases_lt, nat_tests, slice_get_within, receipt_of, send_of, true}
 use Rattle.fbl_runs.proofs.Common.{Determinant, Mark, Send, Receipt, Entry, Event, Hold, LaterReceipt, Restart, Store, Tell, Told, Carries, IsAt, Logs, at, log_of, mark_in, receipt_in, standing}
-use Rattle.std.proofs.Common.{count_by, map}
+use Rattle.std.proofs.Common.{count_by, map, nat_eq}
 use Rattle.std.specs.Option.{option_and_then}
 use Rattle.fbl_trace.specs.Events.{determinant_of}
 use Rattle.std.proofs.lemmas.List.Sums.{sum_by-cons}
@@ -13,6 +13,10 @@ use Rattle.fbl_runs.specs.LifeRules.{TakesSend}
 use Rattle.fbl_runs.specs.Rules.{IsDue, IsReached, IsSentInLife, IsTaken, entries_at}
 use Rattle.fbl_runs.proofs.LifeLaws.{contains_from_in, in_from_contains}
 use Rattle.fbl_runs.proofs.LeadsLaws.{sent_once}
+
+-- the test of equal numbers
+pub same_iff : (a b : ℕ) → (nat_eq a b ≡ true) ↔ (a ≡ b)
+same_iff a b = (λ h. grind (arith, nat_tests), λ h. grind (arith, nat_tests))
 
 -- ---- the events that stand
 

@@ -22,6 +22,28 @@ same_position i j member number = λ t. record { member = member t; number = num
 pub here_stands : (entries : List Entry) (p : ℕ) (e : Entry) → slice_get entries p ≡ Some e → StandsAt entries p (at (entry_member e) (seen entries p (entry_member e)))
 here_stands entries p e here = (e, here, refl, refl)
 
+-- and at one
+pub one_position : (entries : List Entry) (p : ℕ) (i j : Position) → StandsAt entries p i → StandsAt entries p j → i ≡ j
+one_position entries p i j at_i at_j =
+    let same : at_i.0 ≡ at_j.0 = (let s : Some at_i.0 ≡ Some at_j.0 = sym at_i.1 ∙ at_j.1 in cc) in
+    let member : i.member ≡ j.member = sym at_i.2 ∙ ap entry_member same ∙ at_j.2 in
+    same_position i j member (sym at_i.3 ∙ ap (seen entries p) member ∙ at_j.3)
+
+not_later : (entries : List Entry) (p q : ℕ) (i : Position) → StandsAt entries p i → StandsAt entries q i → p < q → ⊥
+not_later entries p q i at_p at_q before = (let more = seen-later entries p q i.member at_p.0 at_p.1 at_p.2 before in omega (arith, more, at_p.3, at_q.3))
+
+-- and a position is that of one place
+pub one_place_of : (entries : List Entry) (p q : ℕ) (i : Position) → StandsAt entries p i → StandsAt entries q i → p ≡ q
+one_place_of entries p q i at_p at_q = elim (cases_order p q) [
+  | inl same ↦ same
+  | inr (inl below) ↦ absurd (not_later entries p q i at_p at_q below)
+  | inr (inr above) ↦ absurd (not_later entries q p i at_q at_p above)
+]
+
+-- the entry of a position that stands at a place is there
+pub there_at : (entries : List Entry) (p : ℕ) (i : Position) → StandsAt entries p i → (e : Entry) × IsAt (log_of entries) i e
+there_at entries p i stands = (stands.0, stands_at entries p i stands.0 stands stands.1)
+
 -- and what stands at a position, at a place
 pub stands_somewhere : (entries : List Entry) (i : Position) (e : Entry) → IsAt (log_of entries) i e → (p : ℕ) × (slice_get entries p ≡ Some e) × StandsAt entries p i
 stands_somewhere entries i e is = (let r = locate_all entries i.member i.number e is in (r.0, r.2, (e, r.2, r.3, r.4)))
@@ -180,13 +202,6 @@ module _ (n : ℕ) (entries : List Entry) (lawful : AreLawful n entries) where
 
   -- ---- what leads to an entry stands before it
 
-  pub place_once : (p q : ℕ) (i : Position) → StandsAt entries p i → StandsAt entries q i → p ≡ q
-  place_once p q i a b = elim (cases_order p q) [
-    | inl same ↦ same
-    | inr (inl below) ↦ absurd (let more = seen-later entries p q i.member a.0 a.1 a.2 below in let x = a.3 in let y = b.3 in omega (arith, more, x, y))
-    | inr (inr above) ↦ absurd (let more = seen-later entries q p i.member b.0 b.1 b.2 above in let x = a.3 in let y = b.3 in omega (arith, more, x, y))
-  ]
-
   pub earlier_before : (p q : ℕ) (i j : Position) → StandsAt entries p i → StandsAt entries q j → IsEarlier (log_of entries) i j → p < q
   earlier_before p q i j at_p at_q earlier = places_order entries p q i j at_p at_q earlier.4 earlier.5
 
@@ -195,7 +210,7 @@ module _ (n : ℕ) (entries : List Entry) (lawful : AreLawful n entries) where
       let here : slice_get entries q ≡ Some c.2 = at_q.1 ∙ ap Some (let some : Some at_q.0 ≡ Some c.2 = sym (stands_at entries q j at_q.0 at_q at_q.1) ∙ c.4 in cc) in
       let w = carried q j c.2 c.1 c.0 at_q here c.5 c.6 in
       let same : w.0 ≡ i = carries_one w.0 i j w.4 c in
-      let place : w.1 ≡ p = place_once w.1 p i (subst (λ (i : Position). StandsAt entries w.1 i) same w.3) at_p in
+      let place : w.1 ≡ p = one_place_of entries w.1 p i (subst (λ (i : Position). StandsAt entries w.1 i) same w.3) at_p in
       (let before = w.2 in omega (arith, before, place))
 
   -- a member is told what was told before
@@ -293,5 +308,5 @@ module _ (n : ℕ) (entries : List Entry) (lawful : AreLawful n entries) where
       let front = precedes_before c i k path in
       let last = leads_at c k j leads in
       let more = leads_before c last.0.0 last.1.0 k j last.0.1 last.1.1 leads in
-      let same = place_once front.1 last.0.0 k front.3 last.0.1 in
+      let same = one_place_of entries front.1 last.0.0 k front.3 last.0.1 in
       (front.0, last.1.0, front.2, last.1.1, (let le = front.4 in omega (arith, le, more, same)))

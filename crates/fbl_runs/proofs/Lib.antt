@@ -10,7 +10,6 @@ pub mod ClockPasses
 pub mod KnownLaws
 pub mod LivedLaws
 pub mod TableLaws
-pub mod IndexLaws
 pub mod DueLaws
 pub mod FewLaws
 pub mod PlainLaws

@@ -18,11 +18,8 @@ use Rattle.fbl_runs.proofs.LivedLaws.{set_elsewhere, set_here}
 use Rattle.fbl_runs.specs.declared.lives.Lives.{Lives}
 use Rattle.fbl_runs.specs.KnownLives.{HasLived, IsLifeAt}
 use Rattle.fbl_runs.proofs.KnownLaws.{life_still}
-use Rattle.fbl_runs.proofs.Listing.{placed, seen-other, seen-own, stands_at}
-use Rattle.fbl_runs.proofs.LeadsLaws.{begins_one, carries_one, lives_rise, same_position, tells_one}
-
-entry_at : (entries : List Entry) (p : ℕ) (i : Position) → StandsAt entries p i → (e : Entry) × IsAt (log_of entries) i e
-entry_at entries p i stands = (stands.0, stands_at entries p i stands.0 stands stands.1)
+use Rattle.fbl_runs.proofs.Listing.{placed, seen-other, seen-own}
+use Rattle.fbl_runs.proofs.LeadsLaws.{begins_one, carries_one, lives_rise, same_position, tells_one, there_at}
 
 module _ (entries : List Entry) (j : Position) (e : Entry) (here : IsAt (log_of entries) j e) where
   -- ---- the entry before
@@ -38,7 +35,7 @@ module _ (entries : List Entry) (j : Position) (e : Entry) (here : IsAt (log_of 
 
   pub previous_entry : (place k : ℕ) → j.number ≡ suc k → StandsAt entries place (at j.member k) → IsLastPlace entries (λ i. IsEarlier (log_of entries) i j) (IsEarlier (log_of entries)) (Some place)
   previous_entry place k number stands =
-      let before = entry_at entries place (at j.member k) stands in (
+      let before = there_at entries place (at j.member k) stands in (
         at j.member k,
         stands,
         (before.0, e, before.1, here, refl, omega (arith, number)),
@@ -56,7 +53,7 @@ module _ (entries : List Entry) (j : Position) (e : Entry) (here : IsAt (log_of 
   pub previous_stood : (place k : ℕ) → restart_in e ≡ None → j.number ≡ suc k → StandsAt entries place (at j.member k) → IsLastPlace entries (λ i. StoodBefore (log_of entries) i j) (StoodBefore (log_of entries)) (Some place)
   previous_stood place k none number stands =
       let log = log_of entries j.member in
-      let before = entry_at entries place (at j.member k) stands in
+      let before = there_at entries place (at j.member k) stands in
       let free : (m : ℕ) (r : restart.Restart) → k + 1 ≤ m → m < j.number + 1 → slice_get log m ≢ Some (Restart r) = λ m r after below is. (
       let same : m ≡ j.number = omega (arith, after, below, number) in
       let there : slice_get log j.number ≡ Some (Restart r) = subst (λ (m : ℕ). slice_get log m ≡ Some (Restart r)) same is in
@@ -96,7 +93,7 @@ module _ (entries : List Entry) (j : Position) (e : Entry) (here : IsAt (log_of 
     last_kept place k last at_last size stands =
         let log = log_of entries j.member in
         let s = standing (take (j.number + 1) log) in
-        let before = entry_at entries place (at j.member k) stands in
+        let before = there_at entries place (at j.member k) stands in
         let behind = standing_stands log (j.number + 1) k (contains_from_in s k (last, at_last)) in
         let apart : k ≢ j.number = λ same. (
         let event = behind.0 in

@@ -16,7 +16,7 @@ use Rattle.fbl_runs.specs.KnownLives.{HasLived, IsKnownLog, IsLifeAt, IsNewLink}
 use Rattle.fbl_runs.specs.Links.{AreChanged, AreLinks, IsPlaceOfEvent, kept, undone_at}
 use Rattle.fbl_runs.specs.Lives.{StandsBehind, standing}
 use Rattle.fbl_runs.specs.Rules.{AreLawful}
-use Rattle.fbl_runs.proofs.LeadsLaws.{here_stands, log_of_front, place_once}
+use Rattle.fbl_runs.proofs.LeadsLaws.{here_stands, log_of_front, one_place_of}
 use Rattle.fbl_runs.proofs.LifeLaws.{IsIn, contains_from_in, in_from_contains, length-front, standing_stands}
 use Rattle.fbl_runs.proofs.LinkLaws.{IsUndoneSoFar, one_life, undone_all, undone_new, undone_next, undone_now, undone_other}
 use Rattle.fbl_runs.proofs.Listing.{seen-all, seen-own, some_entry, stands_at}
@@ -113,7 +113,7 @@ module _ (n : ℕ) (entries : List Entry) (lawful : AreLawful n entries) (place 
         let found = some_item log.places.items j.number (omega (arith, number, size)) in
         let there : StandsAt entries found.0 (at (entry_member e) j.number) = stands_whole entries (place + 1) found.0 (at (entry_member e) j.number) (known.places.each j.number found.0 found.1) in
         let there' : StandsAt entries found.0 (at j.member j.number) = subst (λ (q : ℕ). StandsAt entries found.0 (at q j.number)) own there in
-        found.1 ∙ ap Some (place_once n entries lawful found.0 p j there' stands)
+        found.1 ∙ ap Some (one_place_of entries found.0 p j there' stands)
 
     front_now : (j : Position) → entry_member e ≡ j.member → standing (log_of before (entry_member e)) ≡ standing (take (seen entries place j.member + 1) (log_of entries j.member))
     front_now j own =

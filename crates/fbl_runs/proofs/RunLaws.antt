@@ -20,10 +20,11 @@ use Rattle.fbl_runs.specs.declared.fault.RecordFault.{RecordFault}
 use Rattle.fbl_runs.specs.Lawful.{IsFirstBad}
 use Rattle.fbl_runs.specs.Logs.{FollowRules, IsBreachBy, IsLog, IsLogBreach, IsRun, RefusesBy, RefusesLog, RunParts, hold_of, run_of_dump}
 use Rattle.fbl_runs.specs.Rules.{AreLawful, FollowsAt, IsLawful, MayFollow, has_life, have_lives}
-use Rattle.fbl_runs.proofs.Common.{Causality, Logs, IsAt, IsReceiptAt, Position, Precedes, itself, step, receipt_in, cases_eq}
+use Rattle.fbl_runs.proofs.Common.{IsAt, IsReceiptAt, Position, Precedes, itself, step, receipt_in, cases_eq}
 use Rattle.fbl_runs.specs.Clocks.{StandsAt}
 use Rattle.fbl_runs.specs.Indexes.{IsFirstReceipt, IsReceiptPlace}
-use Rattle.fbl_runs.proofs.IndexLaws.{one_entry, one_position, position_at}
+use Rattle.fbl_runs.proofs.ClockLaws.{Precedes-joined}
+use Rattle.fbl_runs.proofs.LeadsLaws.{here_stands, one_position}
 use Rattle.fbl_runs.proofs.Listing.{locate_all, seen-later, stands_at}
 pub use Rattle.fbl_runs.proofs.PlainLaws.{lawful_plain}
 
@@ -65,9 +66,9 @@ is_log log size f strike rules good = record {
 
 -- ---- what is known
 
-joined : {c : Causality} {logs : Logs} {i j k : Position} → Precedes c logs i j → Precedes c logs j k → Precedes c logs i k
-joined p (itself here) = p
-joined p (step q s) = step (joined p q) s
+-- the entry at a place is of the member whose position it stands at
+own_entry : (entries : List Entry) (p : ℕ) (i : Position) (e : Entry) → StandsAt entries p i → slice_get entries p ≡ Some e → entry_member e ≡ i.member
+own_entry entries p i e stands here = (let same : stands.0 ≡ e = (let some : Some stands.0 ≡ Some e = sym stands.1 ∙ here in cc) in ap entry_member (sym same) ∙ stands.2)
 
 -- a receipt stands in its receiver's log
 receipt_own : (e : Entry) (d : Determinant) → receipt_in e ≡ Some d → entry_member e ≡ d.to
@@ -104,10 +105,10 @@ first_precedes entries d first p i j at_first at_p before stands_i stands_j = el
   here_j = stands_at entries p j at_p.0 stands_j at_p.1
 
   own_j : j.member ≡ d.to
-  own_j = sym (one_entry entries p j at_p.0 stands_j at_p.1) ∙ receipt_own at_p.0 d at_p.2
+  own_j = sym (own_entry entries p j at_p.0 stands_j at_p.1) ∙ receipt_own at_p.0 d at_p.2
 
   own_i : i.member ≡ d.to
-  own_i = sym (one_entry entries first i at_first.0 stands_i at_first.1) ∙ receipt_own at_first.0 d at_first.2
+  own_i = sym (own_entry entries first i at_first.0 stands_i at_first.1) ∙ receipt_own at_first.0 d at_first.2
 
   same_member : i.member ≡ j.member
   same_member = own_i ∙ sym own_j
@@ -123,13 +124,13 @@ known_first entries place first d j stands is b precedes = (
   λ known.
       let w = receipt_place_of entries d known.0 known.1 in
       let after : first ≤ w.0 = elim (cases_lt w.0 first) [ inl early ↦ absurd (is.1 w.0 early w.1) | inr late ↦ late ] in
-      (precedes i stands_i).1 (joined (first_precedes entries d first w.0 i known.0 is.0 w.1 after stands_i w.2) known.2),
+      (precedes i stands_i).1 (Precedes-joined (first_precedes entries d first w.0 i known.0 is.0 w.1 after stands_i w.2) known.2),
 ) where
   i : Position
   i = at (entry_member is.0.0) (seen entries first (entry_member is.0.0))
 
   stands_i : StandsAt entries first i
-  stands_i = position_at entries first is.0.0 is.0.1
+  stands_i = here_stands entries first is.0.0 is.0.1
 
 pub known_none : (entries : List Entry) (d : Determinant) (j : Position) → IsFirstReceipt entries d None → ¬ (IsKnownTo (log_of entries) d j)
 known_none entries d j none known = (let w = receipt_place_of entries d known.0 known.1 in none w.0 w.1)

@@ -5,16 +5,13 @@ use Rattle.std.specs.HashMap as hash_map
 use Rattle.fbl_trace.specs.declared.trace.Determinant.{Determinant}
 use Rattle.fbl_trace.specs.Events.{same_determinant}
 use Rattle.fbl_runs.specs.declared.entry.Entry.{Entry}
-use Rattle.fbl_runs.specs.declared.entry.Entry.TheVariants.{Hold, Restart, Store}
-use Rattle.fbl_runs.specs.declared.entry.Restart as restart
 use Rattle.fbl_runs.specs.declared.index.Tables.{Tables}
 use Rattle.fbl_runs.specs.declared.links.Link.{Link}
 use Rattle.fbl_runs.specs.declared.records.RecordPlaces.{RecordPlaces}
 use Rattle.fbl_runs.specs.Clocks.{StandsAt}
-use Rattle.fbl_runs.specs.Entries.{IsRecord, Logs, log_of, receipt_in}
-use Rattle.fbl_runs.specs.HappenedBefore.{IsAt, Position, at}
+use Rattle.fbl_runs.specs.Entries.{IsRecord, log_of, receipt_in}
+use Rattle.fbl_runs.specs.HappenedBefore.{at}
 use Rattle.fbl_runs.specs.Links.{AreLinks}
-use Rattle.fbl_runs.specs.Moments.{Cut, HasCome}
 use Rattle.fbl_runs.specs.Records.{AreRecordPlaces}
 
 -- the entry at the place is a receipt that the determinant names
@@ -52,19 +49,6 @@ pub record IsIndex (entries : List Entry) (kept : Tables) (places : RecordPlaces
   pub tables : AreTables entries entries kept
   pub records : AreRecordPlaces entries 0 places
   pub links : AreLinks entries leading
-
--- the entry is a hold, or a store
-abbrev pub IsHold : Entry → Type 0
-IsHold (Hold q d) = Unit {0}
-IsHold e = ⊥
-
-abbrev pub IsStore : Entry → Type 0
-IsStore (Store q d) = Unit {0}
-IsStore e = ⊥
-
--- at the cut the entry has come, and its member has not restarted since then
-abbrev pub IsOfLife : Logs → Cut → Position → Type 0
-IsOfLife logs cut i = HasCome cut i × ((k : ℕ) (r : restart.Restart) → i.number < k → k < cut i.member → ¬ (IsAt logs (at i.member k) (Restart r)))
 
 -- behind the entry at l stand holds and stores up to the end, and there is none at the end
 pub record EndsStep (log : List Entry) (l end : ℕ) : Type 0 where

@@ -1,13 +1,11 @@
 //! The members' logs, what leads to each entry at once, and where each determinant is held and stored.
 
-ghost use Rattle.std.specs.Prelude.{◌≡◌, ◌<◌, ◌≤◌, ◌+◌, ◌↔◌, ℕ, true, IfOk, OnOk, Some, [], ◌∷◌, ◌++◌, length, slice_get, take};
-ghost use Rattle.std.specs.FinSet as set;
+ghost use Rattle.std.specs.Prelude.{◌≡◌, ◌<◌, ◌+◌, ℕ, IfOk, OnOk, [], ◌∷◌, ◌++◌, length, take};
 ghost use Rattle.fbl_runs.specs.Clocks.{StandsAt, cut_of};
 ghost use Rattle.fbl_runs.specs.Entries.{log_of, receipt_in};
 ghost use Rattle.fbl_runs.specs.HappenedBefore.{IsAt, Position, at};
-ghost use Rattle.fbl_runs.specs.Indexes.{AreTables, EndsStep, IsFirstReceipt, IsHold, IsOfLife, IsStore, first_with, receipt_place};
+ghost use Rattle.fbl_runs.specs.Indexes.{AreTables, EndsStep, IsFirstReceipt, first_with, receipt_place};
 ghost use Rattle.fbl_runs.specs.Links.{AreLinks, IsLink};
-ghost use Rattle.fbl_runs.specs.Moments.{HasCome, HoldsAt, IsStoredAt};
 ghost use Rattle.fbl_runs.specs.Records.{IsNextRecord, IsRecordAt};
 ghost use Rattle.fbl_runs.specs.Rules.{AreLawful};
 
@@ -15,7 +13,7 @@ use crate::clock::Clock;
 use crate::entry::Entry;
 use crate::links::{Link, Links};
 use crate::records::RecordPlaces;
-use fbl_trace::{Determinant, Member, MemberSet};
+use fbl_trace::{Determinant, Member};
 use std::alloc::{AllocError, Global};
 use std::collections::HashMap;
 use std::hash::{BuildHasherDefault, FoldHasher};
@@ -106,20 +104,6 @@ impl Tables {
         self.logs[at].push(place)?;
         Ok(())
     }
-}
-
-/// Whether the entry is a hold.
-fn is_hold(entry: &Entry) -> bool
-    ensures { (result ≡ true) ↔ IsHold entry.now }
-{
-    matches!(*entry, Entry::Hold { .. })
-}
-
-/// Whether the entry is a store.
-fn is_store(entry: &Entry) -> bool
-    ensures { (result ≡ true) ↔ IsStore entry.now }
-{
-    matches!(*entry, Entry::Store { .. })
 }
 
 /// The entries of a run, with the members' logs, what leads to each entry at once, and where each determinant is held and stored. Contracts
@@ -258,80 +242,5 @@ impl<'a> Index<'a> {
         ensures { (d : _) → IsRecordAt self.now d place → IsNextRecord self.now d (place + 1) result }
     {
         self.records.next(place)
-    }
-
-    /// Whether the entry at the place has come at the clock's cut.
-    fn has_come(&self, place: usize, clock: &Clock) -> bool
-        requires { place < length self.now }
-        ensures { (i : Position) → StandsAt self.now place i → (result ≡ true) ↔ HasCome (cut_of clock.now) i }
-    {
-        let member = self.entries()[place].member();
-        self.link(place).number < clock.count(member)
-    }
-
-    /// Whether at the clock's cut the entry at the place has come, and its member is still in its life.
-    fn is_of_life(&self, place: usize, clock: &Clock) -> bool
-        requires within { place < length self.now }
-        requires cut { (q : ℕ) → cut_of clock.now q ≤ length (log_of self.now q) }
-        ensures { (i : Position) → StandsAt self.now place i → (result ≡ true) ↔ IsOfLife (log_of self.now) (cut_of clock.now) i }
-    {
-        let links = self.links();
-        let member = self.entries()[place].member();
-        let count = clock.count(member);
-        if links[place].number >= count {
-            return false;
-        }
-        let last = self.place(member, count - 1);
-        links[last].life == links[place].life
-    }
-
-    /// Whether the entry at the place is a store that has come at the clock's cut.
-    fn is_stored_by(&self, place: usize, clock: &Clock) -> bool
-        requires { place < length self.now }
-        ensures { (e : _) (i : Position) → slice_get self.now place ≡ Some e → StandsAt self.now place i
-            → (result ≡ true) ↔ IsStore e × HasCome (cut_of clock.now) i }
-    {
-        is_store(&self.entries()[place]) && self.has_come(place, clock)
-    }
-
-    /// Whether the entry at the place is a hold that has come at the clock's cut, in its member's life then.
-    fn is_held_by(&self, place: usize, clock: &Clock) -> bool
-        requires within { place < length self.now }
-        requires cut { (q : ℕ) → cut_of clock.now q ≤ length (log_of self.now q) }
-        ensures { (e : _) (i : Position) → slice_get self.now place ≡ Some e → StandsAt self.now place i
-            → (result ≡ true) ↔ IsHold e × IsOfLife (log_of self.now) (cut_of clock.now) i }
-    {
-        is_hold(&self.entries()[place]) && self.is_of_life(place, clock)
-    }
-
-    /// Whether at the clock's cut the determinant is on stable storage.
-    pub fn is_stored(&self, determinant: &Determinant, clock: &Clock) -> bool
-        ensures { (result ≡ true) ↔ IsStoredAt (log_of self.now) (cut_of clock.now) determinant.now }
-    {
-        let mut next = self.first_record(determinant);
-        while let Some(place) = next {
-            if self.is_stored_by(place, clock) {
-                return true;
-            }
-            next = self.next_record(place);
-        }
-        false
-    }
-
-    /// The members that hold the determinant at the clock's cut.
-    pub fn holders(&self, determinant: &Determinant, clock: &Clock) -> MemberSet
-        requires { (q : ℕ) → cut_of clock.now q ≤ length (log_of self.now q) }
-        ensures { (q : ℕ)
-            → (set.contains result q ≡ true) ↔ HoldsAt (log_of self.now) (cut_of clock.now) determinant.now q }
-    {
-        let mut holders = MemberSet::empty();
-        let mut next = self.first_record(determinant);
-        while let Some(place) = next {
-            if self.is_held_by(place, clock) {
-                holders = holders.with(self.entries()[place].member());
-            }
-            next = self.next_record(place);
-        }
-        holders
     }
 }

@@ -26,10 +26,10 @@ loop-place-init c = record {
   dependents = none_dependents c.args.pasts.now c.empty-dependents.result c.empty-dependents.ensures;
 }
 
-pub loses-requires-clause-named : goal.loses-requires-clause-named
-loses-requires-clause-named c =
+pub loses-requires : goal.loses-requires
+loses-requires c =
     let run = c.args.pasts.now in
-    let e = here (goal.at.loses-requires-clause-named c).After-entry-item in
+    let e = here (goal.at.loses-requires c).After-entry-item in
     let i = position_at run.entries c.loop-place.place (slice_get_within run.entries c.loop-place.place c.entry-item.result e) in
     (i.0, record { place = i.1; determinant = receipt_at run.entries c.loop-place.place i.0 c.entry-item.result c.in-Some.determinant e c.in-Some.ensures i.1 })
 

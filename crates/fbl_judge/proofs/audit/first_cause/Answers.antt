@@ -1,10 +1,11 @@
 use Rattle.fbl_judge.proofs.Common.{arith, ℕ, ◌≡◌, ◌∙◌, inl, inr, cases_eq, true, false, ap, sym, subst, refl, Option, Some, None, DependsAt, length, log_of, cut_of, Cut, slice_get, slice_get_read, slice_get_within, Position, StandsAt}
 use Rattle.std.proofs.Common.{MatchOption}
 use Rattle.std.specs.Option.{is_some}
+use Rattle.fbl_runs.proofs.LeadsLaws.{one_position}
 use Rattle.fbl_judge.specs.declared.audit.LostReceipt.{LostReceipt}
 use Rattle.fbl_judge.specs.Paths.{IsDependentPlace}
 use Rattle.fbl_judge.proofs.Audits.{named_at}
-use Rattle.fbl_judge.proofs.Places.{one_position, place_within}
+use Rattle.fbl_judge.proofs.Places.{place_within}
 use Rattle.fbl_runs.specs.Logs.{RunParts}
 use Rattle.fbl_judge.proofs.audit.first_cause.Goals as goal
 use Rattle.fbl_judge.proofs.audit.first_cause.Goals.{After-receipt-item}

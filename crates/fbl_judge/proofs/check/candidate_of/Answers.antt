@@ -1,7 +1,6 @@
-use Rattle.fbl_judge.proofs.Common.{arith, at, entry_member, false, false≢true, log_of, nat_tests, refl, slice_get_within, sym, true, ◌≡◌, ◌∙◌}
-use Rattle.fbl_runs.specs.Clocks.{cut_of, seen}
-use Rattle.fbl_runs.proofs.LeadsLaws.{here_stands}
-use Rattle.fbl_judge.proofs.DependLaws.{least_within, receipt_at}
+use Rattle.fbl_judge.proofs.Common.{arith, false, false≢true, nat_tests, refl, slice_get_within, sym, true, ◌≡◌, ◌∙◌}
+use Rattle.fbl_runs.specs.Clocks.{cut_of}
+use Rattle.fbl_judge.proofs.DependLaws.{receipt_at}
 use Rattle.fbl_judge.proofs.UnsafeLaws.{none_if_many, none_if_none, none_if_struck, none_if_undone, one_if_left}
 use Rattle.fbl_judge.proofs.check.candidate_of.Goals as goal
 
@@ -23,13 +22,6 @@ returns-then-not-stands c i stands =
     let undone : c.stands.result ≡ false = grind (arith, nat_tests, c.if-not-stands.true) in
     none_if_undone run c.requires.run.lawful c.requires.run.strike i d receipt c.args.member (cut_of c.args.view.now.base) (cut_of c.in_ok-moment.moment) (c.in_ok-moment.ensures i stands)
     (λ s. false≢true (sym undone ∙ (c.stands.ensures i stands).1 s))
-
-pub least_strike-requires : goal.least_strike-requires
-least_strike-requires c q =
-    let es = c.args.pasts.now.entries in
-    let e = c.requires.receipt.0 in
-    let i = at (entry_member e) (seen es c.args.place (entry_member e)) in
-    least_within (log_of es) i c.args.member (cut_of c.in_ok-moment.moment) (c.in_ok-moment.ensures i (here_stands es c.args.place e c.requires.receipt.1)).1 q
 
 pub returns-in_err-strike : goal.returns-in_err-strike
 returns-in_err-strike c i stands =

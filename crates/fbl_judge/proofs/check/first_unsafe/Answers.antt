@@ -2,8 +2,8 @@ use Rattle.fbl_judge.proofs.Common.{arith, ap, at, cases_eq, entry_member, inl, 
 use Rattle.fbl_runs.specs.Clocks.{seen}
 use Rattle.fbl_runs.proofs.LeadsLaws.{here_stands}
 use Rattle.fbl_judge.specs.Unsafe.{IsReceiptPlace}
-use Rattle.fbl_judge.proofs.PlaceLaws.{read_at}
 use Rattle.fbl_judge.proofs.UnsafeLaws.{no_receipt_place, none_unsafe}
+use Rattle.fbl_judge.proofs.Places.{read_at}
 use Rattle.fbl_judge.proofs.check.first_unsafe.Goals as goal
 
 pub returns-in-Some-unsafe_receipt : goal.returns-in-Some-unsafe_receipt

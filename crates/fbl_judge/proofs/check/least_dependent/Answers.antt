@@ -1,9 +1,9 @@
 use Rattle.fbl_judge.proofs.Common.{Entry, List, arith, at, entry_member, false≢true, slice_get_within, length, log_of, subst, sym, ◌<◌, ◌∙◌}
 use Rattle.fbl_runs.specs.Clocks.{StandsAt, cut_of, seen}
 use Rattle.fbl_runs.proofs.LeadsLaws.{here_stands}
-use Rattle.fbl_judge.proofs.MomentLaws.{last_there}
+use Rattle.fbl_runs.proofs.ClockLaws.{last_there}
 use Rattle.fbl_judge.proofs.DependLaws.{least_if_within, none_if_more, none_in_life, receipt_at, view_life}
-use Rattle.fbl_judge.proofs.PlaceLaws.{place_within}
+use Rattle.fbl_judge.proofs.Places.{place_within}
 use Rattle.fbl_judge.proofs.check.least_dependent.Goals as goal
 
 pub first_in_life-requires-clause-receipt : goal.first_in_life-requires-clause-receipt

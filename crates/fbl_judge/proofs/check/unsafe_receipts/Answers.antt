@@ -3,8 +3,8 @@ use Rattle.std.proofs.lemmas.List.{drop_all}
 use Rattle.fbl_trace.proofs.Gets.{drop_next}
 use Rattle.fbl_runs.specs.Clocks.{seen}
 use Rattle.fbl_runs.proofs.LeadsLaws.{here_stands}
-use Rattle.fbl_judge.proofs.PlaceLaws.{read_at}
 use Rattle.fbl_judge.proofs.UnsafeLaws.{no_receipt_place, says_safe}
+use Rattle.fbl_judge.proofs.Places.{read_at}
 use Rattle.fbl_judge.proofs.check.unsafe_receipts.Goals as goal
 
 pub loop-place-preserved : goal.loop-place-preserved

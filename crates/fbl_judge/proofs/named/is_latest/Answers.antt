@@ -1,6 +1,7 @@
 use Rattle.fbl_judge.proofs.Common.{arith, ℕ, ◌≡◌, ◌∙◌, inl, inr, Some, cases_eq, sym, ap, subst, false≢true, refl, slice_get, slice_get_within, StandsAt}
 use Rattle.std.proofs.lemmas.Option.{slice_get-get_or}
-use Rattle.fbl_judge.proofs.Places.{one_place, one_position, position_at}
+use Rattle.fbl_runs.proofs.LeadsLaws.{one_position}
+use Rattle.fbl_judge.proofs.Places.{one_place, position_at}
 use Rattle.fbl_judge.proofs.Restarts.{restart_at, restart_place}
 use Rattle.fbl_judge.proofs.named.is_latest.Goals as goal
 use Rattle.fbl_judge.proofs.named.is_latest.Goals.{else-other-restart-via-then-other-restart+then-has_come+else-precedes, else-other-restart-via-then-other-restart+else-has_come, else-other-restart-via-else-other-restart}

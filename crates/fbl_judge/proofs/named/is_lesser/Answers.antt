@@ -1,6 +1,7 @@
 use Rattle.fbl_judge.proofs.Common.{◌≡◌, ◌<◌, ◌↔◌, ◌∙◌, true, arith, ap, nat_tests, sym, subst, Option, Some, Position, StandsAt, List, Entry}
+use Rattle.fbl_runs.proofs.LeadsLaws.{one_position}
 use Rattle.fbl_judge.specs.Dependents.{IsLesser}
-use Rattle.fbl_judge.proofs.Places.{member_is, one_position, position_at, read_at}
+use Rattle.fbl_judge.proofs.Places.{member_is, position_at, read_at}
 use Rattle.std.proofs.Common.{ℕ, IfSome, length, nat_lt}
 use Rattle.fbl_judge.proofs.named.is_lesser.Goals as goal
 

@@ -1,5 +1,6 @@
 use Rattle.fbl_runs.specs.Clocks.{cut_of}
-use Rattle.fbl_judge.proofs.PlaceLaws.{number_within, past_and_step_at, read_at}
+use Rattle.fbl_judge.proofs.PlaceLaws.{number_within, past_and_step_at}
+use Rattle.fbl_judge.proofs.Places.{read_at}
 use Rattle.fbl_judge.proofs.views.past_and_step.Goals as goal
 
 pub step_end-end-requires : goal.step_end-end-requires

@@ -1,7 +1,7 @@
 use Rattle.fbl_judge.proofs.Common.{Some, ap, arith, length, ◌<◌, ◌∙◌}
-use Rattle.fbl_judge.proofs.PlaceLaws.{read_at}
 use Rattle.fbl_judge.proofs.RestartLaws.{is_restart, none_in}
 use Rattle.fbl_judge.proofs.ViewLaws.{views_all, views_skip}
+use Rattle.fbl_judge.proofs.Places.{read_at}
 use Rattle.fbl_judge.proofs.views.views_of.Goals as goal
 use Rattle.fbl_judge.proofs.views.views_of.Goals.{then-is_some+in_ok-views-2, else-is_some}
 

@@ -1,7 +1,7 @@
 use Rattle.fbl_runs.proofs.Common.{◌≡◌, ◌∙◌, List, Entry, Option, ℕ, Some, at, ap, refl, sym, subst, arith, entry_member, false≢true, length, slice_get, slice_get_read}
 use Rattle.fbl_runs.specs.Clocks.{seen}
 use Rattle.fbl_runs.specs.Indexes.{IsFirstReceipt}
-use Rattle.fbl_runs.proofs.IndexLaws.{position_at}
+use Rattle.fbl_runs.proofs.LeadsLaws.{here_stands}
 use Rattle.fbl_runs.proofs.RunLaws.{is_known, known_first, known_none}
 use Rattle.fbl_runs.proofs.lawful.is_known.Goals as goal
 use Rattle.fbl_runs.proofs.lawful.is_known.Goals.{After-recorded}
@@ -20,7 +20,7 @@ returns-in-Some-receipt_place c clocks =
     let e = c.index-entries-place.result in
     let d = c.in-Some.determinant in
     let j = at (entry_member e) (seen es c.args.place (entry_member e)) in
-    let stands = position_at es c.args.place e at_place in
+    let stands = here_stands es c.args.place e at_place in
     let first = subst (λ (o : Option ℕ). IsFirstReceipt es d o) c.in-Some-receipt_place.is c.receipt_place.ensures in
     is_known es c.args.place e d (c.precedes.result ≡ _) at_place (sym c.recorded.ensures ∙ c.in-Some.is) (known_first es c.args.place c.in-Some-receipt_place.first d j stands first c.precedes.result (λ i stands_i. c.precedes.ensures _ i j clocks stands_i stands))
 

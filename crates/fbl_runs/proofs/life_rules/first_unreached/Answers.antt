@@ -2,8 +2,7 @@ use Rattle.fbl_runs.proofs.Common.{ℕ, ◌≡◌, ◌<◌, ◌≤◌, ◌+◌, 
 use Rattle.std.proofs.Common.{nat_cmp}
 use Rattle.std.specs.Ordering.{ord_max}
 use Rattle.fbl_runs.specs.declared.lives.StandingEvent.{StandingEvent}
-use Rattle.fbl_runs.proofs.DueLaws.{ReachesAmong, reached_iff}
-use Rattle.fbl_runs.proofs.IndexLaws.{same_iff}
+use Rattle.fbl_runs.proofs.DueLaws.{ReachesAmong, reached_iff, same_iff}
 use Rattle.fbl_runs.proofs.life_rules.first_unreached.Goals as goal
 use Rattle.fbl_runs.proofs.life_rules.first_unreached.Goals.{in-Some+then-eq, in-Some+else-eq, in_default}
 

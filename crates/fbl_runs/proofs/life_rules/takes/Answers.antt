@@ -1,8 +1,7 @@
 use Rattle.fbl_runs.proofs.Common.{ℕ, Bool, true, false, ◌≡◌, ◌∙◌, Determinant, Send, Some, StandsInLife, log_of, named_life, receipt_in, receipt_of, refl, send_of, subst, sym}
 use Rattle.std.proofs.Common.{nat_eq, not}
 use Rattle.fbl_runs.specs.Rules.{IsSentInLife}
-use Rattle.fbl_runs.proofs.DueLaws.{mark_of_receipt, one_sent}
-use Rattle.fbl_runs.proofs.IndexLaws.{same_iff}
+use Rattle.fbl_runs.proofs.DueLaws.{mark_of_receipt, one_sent, same_iff}
 use Rattle.fbl_runs.proofs.life_rules.takes.Goals as goal
 
 no_other : (a b : ℕ) → false ≡ not (nat_eq a b) → a ≡ b

@@ -2,7 +2,7 @@ use Rattle.fbl_judge.proofs.Common.{Dependence, Entry, List, Precedes, ap, arith
 use Rattle.std.proofs.Common.{◌+◌, ◌-◌, ◌/◌}
 use Rattle.fbl_runs.specs.Clocks.{StandsAt}
 use Rattle.fbl_runs.specs.Logs.{RunParts}
-use Rattle.fbl_runs.proofs.ClockLaws.{there_at}
+use Rattle.fbl_runs.proofs.LeadsLaws.{there_at}
 use Rattle.fbl_judge.proofs.LifeLaws.{depends_on}
 use Rattle.fbl_judge.proofs.pasts.Pasts.first_in_life.Goals as goal
 

@@ -2,10 +2,9 @@ use Rattle.fbl_judge.proofs.Common.{Entry, List, Option, Position, Stands, ap, a
 use Rattle.fbl_runs.specs.Clocks.{StandsAt, cut_of, seen}
 use Rattle.fbl_runs.specs.Links.{IsPlaceOf}
 use Rattle.fbl_runs.specs.Logs.{RunParts}
-use Rattle.fbl_runs.proofs.ClockLaws.{one_position}
-use Rattle.fbl_runs.proofs.LeadsLaws.{here_stands}
-use Rattle.fbl_judge.proofs.PlaceLaws.{place_within, read_at}
+use Rattle.fbl_runs.proofs.LeadsLaws.{here_stands, one_position}
 use Rattle.fbl_judge.proofs.StandLaws.{IsUndoerOf, stands_never, stands_until}
+use Rattle.fbl_judge.proofs.Places.{place_within, read_at}
 use Rattle.fbl_judge.proofs.pasts.Pasts.stands.Goals as goal
 
 pub number-requires : goal.number-requires
