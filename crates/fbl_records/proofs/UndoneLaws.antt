@@ -20,11 +20,6 @@ happened_later logs r m k l order within path = elim (cases_eq k l) [
       step path (inl (a.0, b.0, a.1, b.1, refl, omega (arith, order, ne)))
 ]
 
--- no more have come than there are
-pub count_within : (logs : Logs) (r : Position) (m count : ℕ) → r.number < length (logs r.member) → IsCountAt logs r m count → count ≤ length (logs m)
-count_within logs r m count there (inl own) = (let log = ap (λ (m : ℕ). length (logs m)) own.0 in let is = own.1 in omega (arith, log, is, there))
-count_within logs r m count there (inr other) = other.1.within
-
 -- a member that has no entries
 pub none_of : (logs : Logs) (r : Position) (m count : ℕ) → r.number < length (logs r.member) → length (logs m) ≡ 0 → count ≡ 0 → IsCountAt logs r m count
 none_of logs r m count there none is = inr (

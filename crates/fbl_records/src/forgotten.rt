@@ -7,7 +7,7 @@ ghost use Rattle.fbl_runs.specs.Entries.{log_of};
 ghost use Rattle.fbl_runs.specs.HappenedBefore.{Position};
 ghost use Rattle.fbl_records.specs.Forgotten.{AreForgotten, HeldBefore, IsForgottenIn};
 
-use fbl_judge::{Pasts, Reason};
+use fbl_judge::{Pasts, Reason, recorded_at};
 use fbl_runs::Clock;
 use fbl_trace::Determinant;
 use std::alloc::{AllocError, Global};
@@ -27,7 +27,7 @@ fn held_before(pasts: &Pasts<'_>, determinant: &Determinant, restart: usize) -> 
 {
     let member = pasts.entries()[restart].member();
     let before = Clock::none().reaching(member, pasts.number(restart));
-    pasts.index().holders(determinant, &before).has(member)
+    recorded_at(pasts, determinant, &before).holders.has(member)
 }
 
 /// Whether the restart at the place has come at the moment of the reason, and its member forgot the receipt in it, and does not hold it

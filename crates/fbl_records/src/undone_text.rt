@@ -9,7 +9,7 @@ ghost use Rattle.fbl_records.specs.UndoneReasons.{AreUndoneReasons, IsCountAt, I
 
 use crate::reason_text::write_path;
 use fbl_input::Sources;
-use fbl_judge::{OrphanPath, Pasts, UndoneReceipt, paths_to};
+use fbl_judge::{OrphanPath, Pasts, UndoneReceipt, paths_to, recorded_at};
 use fbl_runs::{Causality, Clock, Run};
 use fbl_trace::{Determinant, Member, MemberSet};
 use std::alloc::{AllocError, Global};
@@ -90,14 +90,12 @@ fn undone_reason(
 {
     let moment = moment_of(pasts, receipt.at);
     let last = pasts.last();
-    let determinant = &receipt.determinant;
-    let is_stored = pasts.index().is_stored(determinant, &moment);
-    let holders = pasts.index().holders(determinant, &moment);
+    let recorded = recorded_at(pasts, &receipt.determinant, &moment);
     let paths = paths_to(alloc, pasts, receipt.place, receipt.orphans, &last)?;
     Ok(UndoneReason {
         receipt: *receipt,
-        is_stored,
-        holders,
+        is_stored: recorded.is_stored,
+        holders: recorded.holders,
         paths,
     })
 }

@@ -9,7 +9,7 @@ ghost use Rattle.fbl_pictures.specs.RunShapes.{AreGlyphs, IsEventKind, IsGlyphOf
 use crate::run::members::Lines;
 use crate::run::standing::is_undone;
 use fbl_history::{Glyph, GlyphKind, ReceiptKind};
-use fbl_judge::Pasts;
+use fbl_judge::{Pasts, recorded_at};
 use fbl_runs::{Clock, ControlMessage, Entry, Restart};
 use fbl_trace::{Determinant, Mark, MemberSet};
 use std::alloc::{AllocError, Global};
@@ -25,7 +25,6 @@ pub(crate) struct Receipts<'a> {
     pub(crate) standing: &'a [bool],
     /// Who is struck, and where the moment is, if one is drawn: what is right of it is not judged.
     pub(crate) lines: &'a Lines,
-    ghost within: { (q : ℕ) → cut_of clock.now q ≤ length (log_of pasts.now.entries q) },
 }
 
 /// The kind of a receipt that these members hold.
@@ -49,13 +48,11 @@ impl Receipts<'_> {
         ensures { IsHeld self.now.pasts.now (cut_of self.now.clock.now) self.now.lines.now.struck determinant result }
     {
         let f = self.pasts.run().f();
-        let index = self.pasts.index();
-        let is_stored = index.is_stored(&determinant, self.clock);
-        let holders = index.holders(&determinant, self.clock);
+        let recorded = recorded_at(self.pasts, &determinant, self.clock);
         GlyphKind::Held {
             determinant,
-            kind: judged_kind(f, self.lines.struck, is_stored, holders),
-            holders,
+            kind: judged_kind(f, self.lines.struck, recorded.is_stored, recorded.holders),
+            holders: recorded.holders,
         }
     }
 

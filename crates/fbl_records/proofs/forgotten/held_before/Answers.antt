@@ -8,7 +8,7 @@ use Rattle.fbl_runs.specs.Moments.{Cut, HoldsAt}
 use Rattle.fbl_runs.specs.declared.entry.Entry.{Entry}
 use Rattle.fbl_judge.proofs.Places.{member_is, number_within, position_at, read_at}
 use Rattle.fbl_records.specs.Forgotten.{HeldBefore}
-use Rattle.fbl_records.proofs.Cuts.{reached_own, reached_within}
+use Rattle.fbl_records.proofs.Cuts.{reached_own}
 use Rattle.fbl_records.proofs.forgotten.held_before.Goals as goal
 use Rattle.fbl_records.proofs.forgotten.held_before.Goals.{After-index}
 
@@ -27,19 +27,6 @@ own c r at_r =
     let es = c.args.pasts.now.entries in
     c.member-member.ensures ∙ member_is es c.args.restart c.index-entries-restart.result r (read_at es c.entries.result.now c.args.restart c.index-entries-restart.result c.entries.ensures.entries c.requires c.index-entries-restart.is) at_r
 
-pub holders-requires : goal.holders-requires
-holders-requires c q =
-    let es = c.args.pasts.now.entries in
-    let r = position_at es c.args.restart c.requires in
-    let number = c.number.ensures r.0 r.1 in
-    let within = number_within es c.args.restart r.0 r.1 in
-    let log = ap (λ (m : ℕ). length (log_of es m)) (own (goal.at.holders-requires c).After-index r.0 r.1) in
-    let room : c.number.result ≤ length (log_of es c.member-member.result) = omega (arith, number, within, log) in
-    let below = reached_within (cut_of c.none.result) (cut_of c.reaching-before.result) c.member-member.result c.number.result c.reaching-before.ensures (log_of es)
-    (λ q. (let none = c.none.ensures q in omega (arith, none))) room q in
-    let same = ap (λ (es : List Entry). length (log_of es q)) c.index.ensures in
-    omega (arith, below, same)
-
 pub returns : goal.returns
 returns c r at_r =
     let es = c.args.pasts.now.entries in
@@ -48,6 +35,6 @@ returns c r at_r =
     let none = c.none.ensures m in
     let reached = reached_own (cut_of c.none.result) cut m c.number.result c.reaching-before.ensures in
     let count : cut m ≡ c.number.result = omega (arith, none, reached) in
-    let holds = subst (λ (es : List Entry). (set.contains c.holders.result m ≡ true) ↔ HoldsAt (log_of es) cut c.args.determinant.now m) c.index.ensures (c.holders.ensures m) in
+    let holds = c.recorded_at.ensures.holders m in
     let before = held (log_of es) cut c.args.determinant.now m c.number.result r (own (goal.at.returns c).After-index r at_r) count (c.number.ensures r at_r) in
     (λ h. before.0 (holds.0 (sym c.has.ensures ∙ h)), λ h. c.has.ensures ∙ holds.1 (before.1 h))

@@ -7,19 +7,10 @@ use Rattle.fbl_runs.specs.Moments.{Cut, HoldsAt, IsStoredAt, last_cut}
 use Rattle.fbl_judge.specs.Paths.{ArePathsFrom, DependsIn}
 use Rattle.fbl_judge.proofs.Places.{number_within, place_within}
 use Rattle.fbl_judge.proofs.PathLaws.{same_paths}
-use Rattle.fbl_records.proofs.UndoneLaws.{count_within}
 use Rattle.fbl_records.proofs.undone_text.undone_reason.Goals as goal
 
 pub moment_of-moment-requires : goal.moment_of-moment-requires
 moment_of-moment-requires c = (let r = c.requires.1.restart in place_within c.args.pasts.now.entries c.args.receipt.now.at r.0 r.1)
-
-pub holders-holders-requires : goal.holders-holders-requires
-holders-holders-requires c q =
-    let es = c.args.pasts.now.entries in
-    let r = c.requires.1.restart in
-    let below = count_within (log_of es) r.0 q (cut_of c.moment_of-moment.result q) (number_within es c.args.receipt.now.at r.0 r.1) (c.moment_of-moment.ensures r.0 r.1 q) in
-    let same = ap (λ (es : List Entry). length (log_of es q)) c.index-2.ensures in
-    omega (arith, below, same)
 
 pub paths_to-requires : goal.paths_to-requires
 paths_to-requires c = place_within c.args.pasts.now.entries c.args.receipt.now.place c.requires.0 c.requires.1.place
@@ -43,8 +34,8 @@ returns c =
       at = r.1;
       cut = cut;
       moment = c.moment_of-moment.ensures r.0 r.1;
-      stored = subst (λ (es : List Entry). (c.is_stored-is_stored.result ≡ true) ↔ IsStoredAt (log_of es) cut said.determinant) c.index.ensures c.is_stored-is_stored.ensures;
-      holders = subst (λ (es : List Entry). (q : ℕ) → (set.contains c.holders-holders.result q ≡ true) ↔ HoldsAt (log_of es) cut said.determinant q) c.index-2.ensures c.holders-holders.ensures;
+      stored = c.recorded_at-recorded.ensures.stored;
+      holders = c.recorded_at-recorded.ensures.holders;
       paths = same_paths run i (last_cut logs) (DependsIn run i (last_cut logs) said.orphans) (λ q. set.contains said.orphans q ≡ true)
           (λ q. (λ h. h.0, λ h. (h, ((says.orphans q).0 h).1))) 0 c.in_ok-paths.paths.items paths;
     }
