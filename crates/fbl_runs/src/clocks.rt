@@ -1,6 +1,6 @@
 //! What precedes each entry of a run, by vector clocks that one pass finds.
 
-ghost use Rattle.std.specs.Prelude.{◌≡◌, ◌<◌, ◌+◌, ◌++◌, ◌↔◌, ℕ, List, Some, true, IfOk, MatchOption, OnOk, length, slice_get};
+ghost use Rattle.std.specs.Prelude.{◌≡◌, ◌<◌, ◌+◌, ◌++◌, ◌↔◌, ℕ, List, Some, true, IfOk, MatchOption, OnOk, length, max, slice_get};
 ghost use Rattle.fbl_runs.specs.Clocks.{StandsAt, cut_of};
 ghost use Rattle.fbl_runs.specs.Entries.{log_of};
 ghost use Rattle.fbl_runs.specs.HappenedBefore.{Position, Precedes};
@@ -141,6 +141,21 @@ impl Clocks {
         }
     }
 
+    /// The clock joined with that of the entry at the place, if there is one.
+    fn with_source(&self, clock: Clock, links: &[Link], place: Option<usize>) -> Clock
+        requires { (entries : _) × (p : ℕ) × AreLinks entries links.now
+            × HasSeen self.now.causality entries links.now p self.now × IsBelow p place }
+        ensures { (entries : _) (p : ℕ) → AreLinks entries links.now → HasSeen self.now.causality entries links.now p self.now
+            → IsBelow p place
+            → (cut : Cut) × IsSourceClock self.now.causality entries links.now place cut
+            × ((q : ℕ) → cut_of result q ≡ max (cut_of clock q) (cut q)) }
+    {
+        match place {
+            Some(_) => clock.joined(self.source(links, place)),
+            None => clock,
+        }
+    }
+
     /// The clock of what leads to an entry at once.
     fn joined(&self, links: &[Link], sources: &Sources) -> Clock
         requires { (entries : _) × (p : ℕ) × AreLinks entries links.now
@@ -149,9 +164,8 @@ impl Clocks {
             → AreBelow p sources.now → IsJoined self.now.causality entries links.now sources.now (cut_of result) }
     {
         let before = self.source(links, sources.before);
-        let message = self.source(links, sources.message);
-        let begins = self.source(links, sources.begins);
-        before.joined(message).joined(begins)
+        let message = self.with_source(before, links, sources.message);
+        self.with_source(message, links, sources.begins)
     }
 
     /// Keeps the clock of what leads to an entry that is counted with the number, if it does not have that of the one before it, and
@@ -211,8 +225,8 @@ impl Clocks {
         let links = index.links();
         let mut clocks = Clocks {
             causality,
-            columns: Vec::new(alloc),
-            arrivals: Vec::new(alloc),
+            columns: Vec::with_capacity(alloc, entries.len())?,
+            arrivals: Vec::with_capacity(alloc, entries.len())?,
             kept: Vec::new(alloc),
         };
         for place in 0..entries.len() {

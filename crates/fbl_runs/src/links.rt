@@ -125,7 +125,7 @@ impl Links {
     {
         let mut lives = Lives::new(alloc)?;
         let mut links = Links {
-            links: Vec::new(alloc),
+            links: Vec::with_capacity(alloc, entries.len())?,
         };
         for (place, entry) in entries.iter().enumerate() {
             lives.add(entry, place)?;

@@ -58,7 +58,8 @@ fn entries_of(
 ) -> Result<Vec<Entry>, AllocError>
     ensures { IfOk result (λ v. v.items ≡ map Event events.now ++ map hold_of held.now) }
 {
-    let mut entries = Vec::new(alloc);
+    let count = events.len().saturating_add(held.len());
+    let mut entries = Vec::with_capacity(alloc, count)?;
     for event in events {
         entries.push(Entry::Event(*event))?;
     }

@@ -12,7 +12,7 @@ read : {X : Type 0} (xs : List X) (i j : ℕ) (x : X) → i ≡ j → i < length
 read {X} xs i j x same within is = subst (λ (k : ℕ). slice_get xs k ≡ Some x) same (slice_get_read xs (length xs) i x refl within is)
 
 pub loop-place-init : goal.loop-place-init
-loop-place-init c = no_links c.args.entries.now c.in_ok-lives.lives c.new-2.result.items c.in_ok-lives.ensures c.new-2.ensures.items
+loop-place-init c = no_links c.args.entries.now c.in_ok-lives.lives c.in_ok-with_capacity.field-0.items c.in_ok-lives.ensures c.in_ok-with_capacity.ensures.items
 
 pub link_to-requires : goal.link_to-requires
 link_to-requires c =
