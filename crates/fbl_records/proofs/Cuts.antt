@@ -1,9 +1,8 @@
 -- Cuts that have so many of a member's first entries more.
-use Rattle.fbl_records.proofs.Common.{ℕ, false, cond, ◌≡◌, ◌≤◌, ◌==◌, ◌∙◌, inl, inr, length, ap, sym, arith, cases_eq}
+use Rattle.fbl_records.proofs.Common.{ℕ, false, cond, ◌≡◌, ◌==◌, ◌∙◌, ap, arith}
 use Rattle.std.proofs.Common.{max}
 use Rattle.fbl_trace.proofs.Common.{nat_tests, ◌≢◌}
 use Rattle.fbl_trace.proofs.RulesLaws.{eqb-self}
-use Rattle.fbl_runs.specs.Entries.{Logs}
 use Rattle.fbl_runs.specs.Moments.{Cut}
 
 module _ (old new : Cut) (member count : ℕ) (is : (q : ℕ) → new q ≡ max (old q) (cond (q == member) count 0)) where

@@ -9,7 +9,7 @@ ghost use Rattle.fbl_pictures.specs.RunShapes.{AreGlyphs, IsEventKind, IsGlyphOf
 use crate::run::members::Lines;
 use crate::run::standing::is_undone;
 use fbl_history::{Glyph, GlyphKind, ReceiptKind};
-use fbl_judge::{Pasts, RecordedAt, recorded_at};
+use fbl_judge::{Pasts, recorded_at};
 use fbl_runs::{Clock, ControlMessage, Entry, Restart};
 use fbl_trace::{Determinant, Mark, MemberSet};
 use std::alloc::{AllocError, Global};
@@ -48,11 +48,11 @@ impl Receipts<'_> {
         ensures { IsHeld self.now.pasts.now (cut_of self.now.clock.now) self.now.lines.now.struck determinant result }
     {
         let f = self.pasts.run().f();
-        let RecordedAt { holders, is_stored } = recorded_at(self.pasts, &determinant, self.clock);
+        let recorded = recorded_at(self.pasts, &determinant, self.clock);
         GlyphKind::Held {
             determinant,
-            kind: judged_kind(f, self.lines.struck, is_stored, holders),
-            holders,
+            kind: judged_kind(f, self.lines.struck, recorded.is_stored, recorded.holders),
+            holders: recorded.holders,
         }
     }
 

@@ -1,11 +1,10 @@
-use Rattle.fbl_records.proofs.Common.{ℕ, true, ◌≡◌, ◌↔◌, List, length, arith, ap, refl, subst}
+use Rattle.fbl_records.proofs.Common.{true, ◌≡◌, refl, subst}
 use Rattle.std.specs.FinSet as set
-use Rattle.fbl_runs.specs.declared.entry.Entry.{Entry}
 use Rattle.fbl_runs.specs.Clocks.{cut_of}
 use Rattle.fbl_runs.specs.Entries.{log_of}
-use Rattle.fbl_runs.specs.Moments.{Cut, HoldsAt, IsStoredAt, last_cut}
+use Rattle.fbl_runs.specs.Moments.{Cut, last_cut}
 use Rattle.fbl_judge.specs.Paths.{ArePathsFrom, DependsIn}
-use Rattle.fbl_judge.proofs.Places.{number_within, place_within}
+use Rattle.fbl_judge.proofs.Places.{place_within}
 use Rattle.fbl_judge.proofs.PathLaws.{same_paths}
 use Rattle.fbl_records.proofs.undone_text.undone_reason.Goals as goal
 

@@ -1,8 +1,6 @@
-use Rattle.fbl_pictures.proofs.Common.{ℕ, List, Entry, ◌∙◌, ◌≤◌, ◌↔◌, ◌≡◌, ap, cut_of, length, log_of, subst, sym, true}
-use Rattle.std.specs.FinSet as set
+use Rattle.fbl_pictures.proofs.Common.{◌∙◌, ap, cut_of}
 use Rattle.fbl_history.specs.declared.shape.GlyphKind.TheVariants.{Held}
 use Rattle.fbl_runs.specs.Logs.{RunParts}
-use Rattle.fbl_runs.specs.Moments.{HoldsAt, IsStoredAt}
 use Rattle.fbl_pictures.specs.RunShapes.{judged_kind}
 use Rattle.fbl_pictures.proofs.run.marks.Receipts.held_kind.Goals as goal
 
@@ -11,12 +9,12 @@ returns c =
     let run = c.args.self.now.pasts.now in
     let cut = cut_of c.args.self.now.clock.now in
     let d = c.args.determinant in
-    let holders = c.recorded_at.result.holders in
-    let stored = c.recorded_at.result.is_stored in
+    let holders = c.recorded_at-recorded.result.holders in
+    let stored = c.recorded_at-recorded.result.is_stored in
     let f = c.f-f.ensures ∙ ap (λ (r : RunParts). r.f) c.run.ensures.run in record {
       holders = holders;
-      hold = c.recorded_at.ensures.holders;
+      hold = c.recorded_at-recorded.ensures.holders;
       stored = stored;
-      store = c.recorded_at.ensures.stored;
+      store = c.recorded_at-recorded.ensures.stored;
       is = λ i. Held d ((c.judged_kind.ensures ∙ (λ j. judged_kind (f j) c.args.self.now.lines.now.struck stored holders)) i) holders;
     }
