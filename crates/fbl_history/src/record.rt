@@ -1,6 +1,6 @@
 //! The record of a history, as a log: what the members of its group would have written of it.
 
-ghost use Rattle.std.specs.Prelude.{◌≡◌, ◌<◌, ◌≤◌, ◌↔◌, IfErr, IfOk, length, sum_by, true};
+ghost use Rattle.std.specs.Prelude.{◌≡◌, ◌≤◌, ◌↔◌, IfErr, IfOk, sum_by, true};
 ghost use Rattle.fbl_runs.specs.Logs.{IsLog, parts_of_log};
 ghost use Rattle.fbl_history.specs.Records.{IsLogFault, IsRecord, IsRoomFault, is_mark, restarts_of};
 
