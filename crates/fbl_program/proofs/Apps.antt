@@ -1,5 +1,5 @@
 -- What arguments and subcommands make of a command.
-use Rattle.fbl_program.proofs.Common.{◌≡◌, ◌∙◌, ◌||◌, ap, false}
+use Rattle.fbl_program.proofs.Common.{◌≡◌, ◌∙◌, ◌||◌, false}
 use Rattle.clap.specs.Words.{AddsArg, AddsSubcommand, App, Rule, app_of, rule_of, with_rule, with_subcommand}
 use Rattle.clap.specs.declared.builder.arg.Arg.{Arg}
 use Rattle.clap.specs.declared.builder.command.Command.{Command}

@@ -1,13 +1,13 @@
 //! What is told of files that record no run together: the line of the fault, and its explanation.
 
-ghost use Rattle.std.specs.Prelude.{◌≡◌, [], IfOk};
+ghost use Rattle.std.specs.Prelude.{◌≡◌, [], IfOk, length, map};
 ghost use Rattle.fbl_program.specs.Merges.{lengths_of};
 
 use crate::merge::{MergeFault, Together};
-use fbl_dumps::DumpRefusal;
+use fbl_dumps::{DumpRefusal, RawDump};
 use fbl_input::{InFile, Sources, Spot};
 use fbl_order::{FilesDiffer, Obstacle, OrderFault, Stuck, first_outsider};
-use fbl_runs::LogBreach;
+use fbl_runs::{LogBreach, RawLog};
 use fbl_trace::{Breach, MemberSet, PairFault};
 use std::alloc::{AllocError, Global};
 use std::fmt;
@@ -50,6 +50,41 @@ impl<'a> InputFiles<'a> {
         }
     }
 
+    /// Files with these names, or with none where there is one, that record these dumps.
+    fn of_dumps(
+        alloc: Global,
+        names: &'a [&'a str],
+        dumps: &[RawDump],
+    ) -> Result<InputFiles<'a>, AllocError>
+        ensures names { IfOk result (λ files. files.names.now ≡ names.now) }
+        ensures lengths { IfOk result (λ files. files.events.items ≡ map (λ dump. length dump.events.items) dumps.now) }
+    {
+        let mut files = InputFiles::named(alloc, names);
+        for dump in dumps.iter() {
+            files.events.push(dump.events.len())?;
+            files.held.push(dump.held.len())?;
+            files.strikes.push(dump.strike)?;
+        }
+        Ok(files)
+    }
+
+    /// Files with these names, or with none where there is one, that record these logs.
+    fn of_logs(
+        alloc: Global,
+        names: &'a [&'a str],
+        logs: &[RawLog],
+    ) -> Result<InputFiles<'a>, AllocError>
+        ensures names { IfOk result (λ files. files.names.now ≡ names.now) }
+        ensures lengths { IfOk result (λ files. files.events.items ≡ map (λ log. length log.entries.items) logs.now) }
+    {
+        let mut files = InputFiles::named(alloc, names);
+        for log in logs.iter() {
+            files.events.push(log.entries.len())?;
+            files.strikes.push(log.strike)?;
+        }
+        Ok(files)
+    }
+
     /// Files with these names, or with none where there is one, that record this.
     pub(crate) fn of(
         alloc: Global,
@@ -59,23 +94,10 @@ impl<'a> InputFiles<'a> {
         ensures names { IfOk result (λ files. files.names.now ≡ names.now) }
         ensures lengths { IfOk result (λ files. files.events.items ≡ lengths_of together.now) }
     {
-        let mut files = InputFiles::named(alloc, names);
         match together {
-            Together::Dumps(dumps) => {
-                for dump in dumps.iter() {
-                    files.events.push(dump.events.len())?;
-                    files.held.push(dump.held.len())?;
-                    files.strikes.push(dump.strike)?;
-                }
-            }
-            Together::Logs(logs) => {
-                for log in logs.iter() {
-                    files.events.push(log.entries.len())?;
-                    files.strikes.push(log.strike)?;
-                }
-            }
+            Together::Dumps(dumps) => InputFiles::of_dumps(alloc, names, dumps.as_slice()),
+            Together::Logs(logs) => InputFiles::of_logs(alloc, names, logs.as_slice()),
         }
-        Ok(files)
     }
 
     /// The files of a run whose events were given at these places.
