@@ -27,7 +27,8 @@ use Rattle.fbl_runs.specs.Clocks.{StandsAt, seen}
 use Rattle.fbl_runs.proofs.Listing.{locate_all, placed, seen-later, stands_at}
 use Rattle.fbl_judge.specs.declared.audit.LostReceipt.{LostReceipt}
 use Rattle.fbl_judge.proofs.Audits.{one_determinant}
-use Rattle.fbl_judge.proofs.Places.{one_entry, one_position, placed_at}
+use Rattle.fbl_judge.proofs.Places.{one_entry, placed_at}
+use Rattle.fbl_runs.proofs.LeadsLaws.{one_position}
 use Rattle.fbl_base.proofs.EventLaws.{IsPlain, carries, is_mark, mark_at, one_event, sent_before, stands}
 use Rattle.fbl_judge.specs.Audits.{AreLost, end_of}
 use Rattle.fbl_base.specs.DumpRuns.{DumpLaw, determinants, struck_by}
