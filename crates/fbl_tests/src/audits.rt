@@ -1,6 +1,6 @@
 //! Audits of dumps.
 
-use crate::members::first_receipt;
+use crate::members::{first_receipt, set};
 use crate::texts::{LOST, dump};
 use fbl_base::audit::{Dump, check_dump, lost, orphans};
 use fbl_base::{DumpRefusal, RawDump};
@@ -14,16 +14,11 @@ fn is_answered(
     alloc: Global,
     dump: &Dump,
     expected: Option<Determinant>,
-    left: &[u8],
+    left: MemberSet,
 ) -> Result<bool, AllocError> {
-    let orphans = orphans(alloc, dump)?.members(alloc)?;
     let lost = lost(alloc, dump)?;
-    let are_left = orphans
-        .iter()
-        .zip(left)
-        .all(|(orphan, number)| orphan.number() == *number);
     let is_lost = lost.len() == usize::from(expected.is_some()) && lost.get(0).copied() == expected;
-    Ok(is_lost && are_left && orphans.len() == left.len())
+    Ok(is_lost && orphans(alloc, dump)? == left)
 }
 
 /// The message went once round, and member 2 holds its first receipt or does not, with members struck: whether that receipt is lost then,
@@ -51,6 +46,7 @@ fn is_audited(
     let dump = check_dump(alloc, raw).ok().ok_or(AllocError)?;
     let first = first_receipt(Member::at(0), Member::at(1));
     let expected = if is_lost { Some(first) } else { None };
+    let left = set(left).ok().ok_or(AllocError)?;
     is_answered(alloc, &dump, expected, left)
 }
 
