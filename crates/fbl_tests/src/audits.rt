@@ -40,35 +40,34 @@ const AUDITED: &[(&str, bool, &[u8])] = &[
 /// Whether the dump of the text is audited so.
 fn is_audited(
     alloc: Global,
-    (text, is_lost, left): (&str, bool, &[u8]),
+    text: &str,
+    is_lost: bool,
+    left: MemberSet,
 ) -> Result<bool, AllocError> {
     let raw = dump(alloc, text)?;
     let dump = check_dump(alloc, raw).ok().ok_or(AllocError)?;
     let first = first_receipt(Member::at(0), Member::at(1));
     let expected = if is_lost { Some(first) } else { None };
-    let left = set(left).ok().ok_or(AllocError)?;
     is_answered(alloc, &dump, expected, left)
 }
 
 #[test]
-fn audits(rt: HostRuntime) {
-    for &audited in AUDITED {
-        assert!(rt;
-            is_audited(rt.alloc(), audited).unwrap_or(false),
-            "{audited:?}"
-        );
+fn audits(rt: HostRuntime) -> Result<(), Fail> {
+    for &(text, is_lost, left) in AUDITED {
+        let is_well = is_audited(rt.alloc(), text, is_lost, set(left)?).unwrap_or(false);
+        assert!(rt; is_well, "{text}");
     }
+    Ok(())
 }
 
 /// It holds where any one request for memory is refused, too. The gate refuses each in turn.
 #[test]
-fn without_memory(rt: HostRuntime) {
-    for &audited in AUDITED {
-        assert!(rt;
-            is_audited(rt.alloc(), audited).unwrap_or(true),
-            "{audited:?}"
-        );
+fn without_memory(rt: HostRuntime) -> Result<(), Fail> {
+    for &(text, is_lost, left) in AUDITED {
+        let is_well = is_audited(rt.alloc(), text, is_lost, set(left)?).unwrap_or(true);
+        assert!(rt; is_well, "{text}");
     }
+    Ok(())
 }
 
 /// A message and its receipt, whose determinant the sender holds, by so many equal pairs.
