@@ -10,13 +10,10 @@ mod entries;
 use crate::column::Column;
 use crate::record::columns::raw_record_of;
 use fbl_dumps::DumpRefusal;
-use fbl_runs::{LogBreach, RawLog, Run, checked_log};
+use fbl_runs::{LogBreach, MOST_RESTARTS, RawLog, Run, checked_log};
 use fbl_trace::{Behaviour, Config, MOST_EVENTS, Note};
 use std::alloc::{AllocError, Global};
 use thiserror::Error;
-
-/// How many restarts a log may have.
-const MOST_RESTARTS: usize = 8;
 
 /// Why a history has no record.
 #[derive(Clone, Copy, Debug, Error)]
@@ -73,7 +70,7 @@ fn has_few_restarts(columns: &[Column]) -> bool
     let mut restarts = 0;
     for column in columns {
         let more = restarts_in(column);
-        if more > MOST_RESTARTS - restarts {
+        if more > MOST_RESTARTS as usize - restarts {
             return false;
         }
         restarts += more;

@@ -3,18 +3,18 @@ use Rattle.fbl_judge.proofs.Common.{ℕ, zero, suc, false, ◌≡◌, ◌+◌, �
 use Rattle.fbl_runs.specs.declared.entry.Restart as restart
 use Rattle.std.specs.List.{list_any}
 use Rattle.fbl_runs.proofs.Listing.{locate_all}
-use Rattle.fbl_judge.specs.Pasts.{is_told_or_back}
+use Rattle.fbl_judge.specs.Pasts.{is_told_or_restart}
 use Rattle.fbl_judge.proofs.MomentLaws.{happened, stands_on}
 
-module _ (entries : List Entry) (none : list_any is_told_or_back entries ≡ false) where
-  untold : (es : List Entry) → list_any is_told_or_back es ≡ false → (i : ℕ) (m : ControlMessage) → ¬ (slice_get es i ≡ Some (Told m))
+module _ (entries : List Entry) (none : list_any is_told_or_restart entries ≡ false) where
+  untold : (es : List Entry) → list_any is_told_or_restart es ≡ false → (i : ℕ) (m : ControlMessage) → ¬ (slice_get es i ≡ Some (Told m))
   untold [] none i m there = absurd cc
-  untold (e ∷ es) none zero m there = (let is : e ≡ Told m = cc in let told = ap is_told_or_back is in absurd (grind (arith, none, told)))
+  untold (e ∷ es) none zero m there = (let is : e ≡ Told m = cc in let told = ap is_told_or_restart is in absurd (grind (arith, none, told)))
   untold (e ∷ es) none (suc i) m there = untold es (grind (arith, none)) i m there
 
-  unstarted : (es : List Entry) → list_any is_told_or_back es ≡ false → (i : ℕ) (r : restart.Restart) → ¬ (slice_get es i ≡ Some (Restart r))
+  unstarted : (es : List Entry) → list_any is_told_or_restart es ≡ false → (i : ℕ) (r : restart.Restart) → ¬ (slice_get es i ≡ Some (Restart r))
   unstarted [] none i r there = absurd cc
-  unstarted (e ∷ es) none zero r there = (let is : e ≡ Restart r = cc in let back = ap is_told_or_back is in absurd (grind (arith, none, back)))
+  unstarted (e ∷ es) none zero r there = (let is : e ≡ Restart r = cc in let back = ap is_told_or_restart is in absurd (grind (arith, none, back)))
   unstarted (e ∷ es) none (suc i) r there = unstarted es (grind (arith, none)) i r there
 
   no_restart : (q k : ℕ) (r : restart.Restart) → ¬ (slice_get (log_of entries q) k ≡ Some (Restart r))

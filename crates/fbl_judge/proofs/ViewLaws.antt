@@ -10,9 +10,9 @@ use Rattle.fbl_runs.specs.Rules.{is_restart, restarts}
 use Rattle.fbl_runs.proofs.Listing.{locate_all, seen-all, seen-later, seen-other, seen-own, seen_mono, some_entry, stands_at}
 use Rattle.fbl_runs.proofs.LeadsLaws.{here_stands, one_place_of, places_order, precedes_before, same_position}
 use Rattle.fbl_judge.specs.declared.view.View.{View}
-use Rattle.fbl_judge.specs.declared.views.Back.{Back}
+use Rattle.fbl_judge.specs.declared.views.RestartPast.{RestartPast}
 use Rattle.fbl_judge.specs.Unsafe.{restarts_at, restarts_below}
-use Rattle.fbl_judge.specs.Views.{AreViews, AreViewsOf, AreWith, IsAmong, IsBack, IsBase, IsLifeAt, IsNextRestart, IsPastAndStep, IsView, IsWith, MayHave}
+use Rattle.fbl_judge.specs.Views.{AreViews, AreViewsOf, AreWith, IsAmong, IsRestartPast, IsBase, IsLifeAt, IsNextRestart, IsPastAndStep, IsView, IsWith, MayHave}
 use Rattle.fbl_judge.proofs.PastLaws.{joined_moment, joined_parts, joined_within, past_has, past_length, past_restart, past_within}
 
 -- ---- counts of restarts
@@ -256,7 +256,7 @@ module _ (n : ℕ) (entries : List Entry) (are : AreEntries n entries) where
 
   -- ---- one restart more
 
-  module _ (place : ℕ) (r : restart.Restart) (here : slice_get entries place ≡ Some (Restart r)) (back : Back) (is_back : IsBack entries place back) where
+  module _ (place : ℕ) (r : restart.Restart) (here : slice_get entries place ≡ Some (Restart r)) (back : RestartPast) (is_back : IsRestartPast entries place back) where
     at_j : IsAt logs (at back.member back.number) (Restart r)
     at_j = stands_at entries place (at back.member back.number) (Restart r) is_back.stands here
 
@@ -563,11 +563,11 @@ index_zeros (suc n) (suc q) = index_zeros n q
 pub zeros_16 : (q : ℕ) → slice_index (replicate 16 0) q ≡ 0
 zeros_16 q = index_zeros 16 q
 
-pub with_none : (back : Back) → AreWith [] back []
+pub with_none : (back : RestartPast) → AreWith [] back []
 with_none back = record { from = λ k w here. absurd cc; kept = λ j v here. absurd cc; added = λ j v here may. absurd cc }
 
 -- a view that may not have it
-pub with_kept : (views more : List View) (back : Back) (k : ℕ) (v : View) → slice_get views k ≡ Some v → ¬ (MayHave v back) → AreWith (take k views) back more → AreWith (take (k + 1) views) back (more ++ v ∷ [])
+pub with_kept : (views more : List View) (back : RestartPast) (k : ℕ) (v : View) → slice_get views k ≡ Some v → ¬ (MayHave v back) → AreWith (take k views) back more → AreWith (take (k + 1) views) back (more ++ v ∷ [])
 with_kept views more back k v here may' are = (let s : k + 1 ≡ suc k = omega arith in rw (s, take-more views k v here) (record {
   from = λ i w at_i. elim (At-push more v i w at_i) [
     | inl old ↦ (let x = are.from i w old in (x.0, x.1, At-front (take k views) (v ∷ []) x.0 x.1 x.2, x.3))
@@ -584,7 +584,7 @@ with_kept views more back k v here may' are = (let s : k + 1 ≡ suc k = omega a
 }))
 
 -- and one that may
-pub with_added : (views more : List View) (back : Back) (k : ℕ) (v w : View) → slice_get views k ≡ Some v → MayHave v back → IsWith v back w → AreWith (take k views) back more
+pub with_added : (views more : List View) (back : RestartPast) (k : ℕ) (v w : View) → slice_get views k ≡ Some v → MayHave v back → IsWith v back w → AreWith (take k views) back more
     → AreWith (take (k + 1) views) back ((more ++ v ∷ []) ++ w ∷ [])
 with_added views more back k v w here may with' are = (let s : k + 1 ≡ suc k = omega arith in rw (s, take-more views k v here) (record {
   from = λ i x at_i. elim (At-push (more ++ v ∷ []) w i x at_i) [

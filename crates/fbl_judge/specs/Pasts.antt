@@ -23,16 +23,16 @@ pub record IsFirstInLife (logs : Logs) (i : Position) (member start top k : ℕ)
   pub first : (l : ℕ) → start ≤ l → l < k → ¬ (Precedes Dependence logs i (at member l))
 
 -- whether the entry's member is told a control message, or is back after a crash
-abbrev pub is_told_or_back : Entry → Bool
-is_told_or_back (Told m) = true
-is_told_or_back (Restart r) = true
-is_told_or_back e = false
+abbrev pub is_told_or_restart : Entry → Bool
+is_told_or_restart (Told m) = true
+is_told_or_restart (Restart r) = true
+is_told_or_restart e = false
 
 -- the clocks are those of the entries' dependences, or those are what happened before them, since no member is told a control message and
 -- none restarts
 abbrev pub AreDependences : List Entry → Option Clocks → Type 0
 AreDependences entries (Some clocks) = AreClocks Dependence entries clocks
-AreDependences entries None = list_any is_told_or_back entries ≡ false
+AreDependences entries None = list_any is_told_or_restart entries ≡ false
 
 -- the entry at the place is a restart
 abbrev pub IsRestartPlace : List Entry → ℕ → Type 0

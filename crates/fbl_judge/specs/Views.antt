@@ -1,6 +1,6 @@
 -- The sets of restarts that the moments of a run have, each with the least moment that has them.
 use Rattle.std.specs.Prelude.{ℕ, ◌≡◌, ◌≢◌, ◌<◌, ◌≤◌, ◌+◌, ◌⊎◌, ◌↔◌, List, Some, length, max, slice_get, slice_index, slice_set}
-use Rattle.fbl_judge.specs.declared.views.Back.{Back}
+use Rattle.fbl_judge.specs.declared.views.RestartPast.{RestartPast}
 use Rattle.fbl_judge.specs.declared.view.View.{View}
 use Rattle.fbl_runs.specs.declared.causality.Causality.TheVariants.{HappenedBefore}
 use Rattle.fbl_runs.specs.declared.entry.Entry.{Entry}
@@ -62,33 +62,33 @@ pub record IsOneLife (log : List Entry) (start top : ℕ) : Type 0 where
   pub none : (k : ℕ) (r : restart.Restart) → start < k → k < top → ¬ (slice_get log k ≡ Some (Restart r))
 
 -- it is the restart at the place, and the next one of its member, and what happened before it, and its step
-pub record IsBack (entries : List Entry) (place : ℕ) (back : Back) : Type 0 where
-  pub stands : StandsAt entries place (at back.member back.number)
-  pub top : IsNextRestart (log_of entries back.member) (back.number + 1) back.top
-  pub moment : IsPastAndStepAt entries place (cut_of back.moment)
+pub record IsRestartPast (entries : List Entry) (place : ℕ) (past : RestartPast) : Type 0 where
+  pub stands : StandsAt entries place (at past.member past.number)
+  pub top : IsNextRestart (log_of entries past.member) (past.number + 1) past.top
+  pub moment : IsPastAndStepAt entries place (cut_of past.moment)
 
 -- of this member no other restart happened before it but the view's
-abbrev pub MayHaveOf : View → Back → ℕ → Type 0
-MayHaveOf view back q = ((q ≡ back.member) → (slice_index view.tops q ≡ back.number)) × ((q ≢ back.member) → (cut_of back.moment q ≤ slice_index view.tops q))
+abbrev pub MayHaveOf : View → RestartPast → ℕ → Type 0
+MayHaveOf view past q = ((q ≡ past.member) → (slice_index view.tops q ≡ past.number)) × ((q ≢ past.member) → (cut_of past.moment q ≤ slice_index view.tops q))
 
 -- it is its member's next restart, and no others happened before it
-abbrev pub MayHave : View → Back → Type 0
-MayHave view back = (q : ℕ) → q < 16 → MayHaveOf view back q
+abbrev pub MayHave : View → RestartPast → Type 0
+MayHave view past = (q : ℕ) → q < 16 → MayHaveOf view past q
 
 -- the second view has the restart too
-pub record IsWith (view : View) (back : Back) (more : View) : Type 0 where
-  pub base : (q : ℕ) → cut_of more.base q ≡ max (cut_of view.base q) (cut_of back.moment q)
-  pub starts : more.starts ≡ slice_set view.starts back.member back.number
-  pub tops : more.tops ≡ slice_set view.tops back.member back.top
-  pub restarts : more.restarts ≡ slice_set view.restarts back.member (slice_index view.restarts back.member + 1)
+pub record IsWith (view : View) (past : RestartPast) (more : View) : Type 0 where
+  pub base : (q : ℕ) → cut_of more.base q ≡ max (cut_of view.base q) (cut_of past.moment q)
+  pub starts : more.starts ≡ slice_set view.starts past.member past.number
+  pub tops : more.tops ≡ slice_set view.tops past.member past.top
+  pub restarts : more.restarts ≡ slice_set view.restarts past.member (slice_index view.restarts past.member + 1)
   pub count : more.count ≡ view.count + 1
 
 -- they are these views, and those with the restart that may have it
-pub record AreWith (views : List View) (back : Back) (more : List View) : Type 0 where
+pub record AreWith (views : List View) (past : RestartPast) (more : List View) : Type 0 where
   pub from : (k : ℕ) (w : View) → slice_get more k ≡ Some w
-      → (j : ℕ) × (v : View) × (slice_get views j ≡ Some v) × ((w ≡ v) ⊎ (MayHave v back × IsWith v back w))
+      → (j : ℕ) × (v : View) × (slice_get views j ≡ Some v) × ((w ≡ v) ⊎ (MayHave v past × IsWith v past w))
   pub kept : (j : ℕ) (v : View) → slice_get views j ≡ Some v → (k : ℕ) × (slice_get more k ≡ Some v)
-  pub added : (j : ℕ) (v : View) → slice_get views j ≡ Some v → MayHave v back → (k : ℕ) × (w : View) × (slice_get more k ≡ Some w) × IsWith v back w
+  pub added : (j : ℕ) (v : View) → slice_get views j ≡ Some v → MayHave v past → (k : ℕ) × (w : View) × (slice_get more k ≡ Some w) × IsWith v past w
 
 -- the restart is one of those among the first p entries of the list
 abbrev pub IsAmong : List Entry → ℕ → Position → Type 0

@@ -10,7 +10,7 @@ ghost use Rattle.fbl_runs.specs.Logs.{IsRun};
 ghost use Rattle.fbl_runs.specs.Moments.{DependsAt, Stands};
 ghost use Rattle.fbl_runs.specs.Rules.{AreLawful};
 ghost use Rattle.fbl_runs.specs.declared.causality.Causality.TheVariants.{Dependence};
-ghost use Rattle.fbl_judge.specs.Pasts.{AreDependences, AreRestartPlaces, IsFirstInLife, is_told_or_back};
+ghost use Rattle.fbl_judge.specs.Pasts.{AreDependences, AreRestartPlaces, IsFirstInLife, is_told_or_restart};
 ghost use Rattle.fbl_judge.specs.Views.{AreViews, IsOneLife, IsPastAndStepAt};
 
 use crate::view::View;
@@ -58,8 +58,8 @@ impl<'a> Model for Pasts<'a> {
 }
 
 /// Whether the entry's member is told a control message, or is back after a crash.
-fn is_told_or_back(entry: &Entry) -> bool
-    ensures { result ≡ is_told_or_back entry.now }
+fn is_told_or_restart(entry: &Entry) -> bool
+    ensures { result ≡ is_told_or_restart entry.now }
 {
     match *entry {
         Entry::Told(_) | Entry::Restart(_) => true,
@@ -68,10 +68,10 @@ fn is_told_or_back(entry: &Entry) -> bool
 }
 
 /// Whether some member is told a control message, or restarts.
-fn is_any_told_or_back(entries: &[Entry]) -> bool
-    ensures { result ≡ list_any is_told_or_back entries.now }
+fn has_told_or_restart(entries: &[Entry]) -> bool
+    ensures { result ≡ list_any is_told_or_restart entries.now }
 {
-    entries.iter().any(|entry| is_told_or_back(entry))
+    entries.iter().any(|entry| is_told_or_restart(entry))
 }
 
 /// On what each of the entries depends, unless that is what happened before it, since no member is told a control message and none
@@ -80,7 +80,7 @@ fn dependences_of(alloc: Global, index: &Index<'_>) -> Result<Option<Clocks>, Al
     requires { (n : ℕ) × AreLawful n index.now }
     ensures { IfOk result (AreDependences index.now) }
 {
-    if !is_any_told_or_back(index.entries()) {
+    if !has_told_or_restart(index.entries()) {
         return Ok(None);
     }
     Ok(Some(Clocks::of(alloc, Causality::Dependence, index)?))

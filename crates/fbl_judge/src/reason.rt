@@ -42,7 +42,7 @@ pub struct Reason {
 }
 
 /// How many of its first entries each member has at the clock's cut.
-fn counts(moment: &Clock) -> [usize; 16]
+fn counts_at(moment: &Clock) -> [usize; 16]
     ensures room { length result ≡ 16 }
     ensures counts { (q : ℕ) → q < 16 → slice_index result q ≡ cut_of moment.now q }
 {
@@ -96,7 +96,7 @@ fn reason_at(
         determinant,
         at,
         strike,
-        cut: counts(moment),
+        cut: counts_at(moment),
         holders: recorded_at(pasts, &determinant, moment).holders,
         next: next_place(pasts, &determinant, moment),
         paths: paths_to(alloc, pasts, place, receipt.shown, moment)?,

@@ -7,16 +7,16 @@ ghost use Rattle.fbl_runs.specs.Precedence.{AreClocks};
 ghost use Rattle.fbl_runs.specs.Runs.{AreEntries};
 ghost use Rattle.fbl_runs.specs.declared.causality.Causality.TheVariants.{HappenedBefore};
 ghost use Rattle.fbl_runs.specs.declared.entry.Entry.TheVariants.{Restart};
-ghost use Rattle.fbl_judge.specs.Views.{AreViews, AreViewsOf, IsBack, IsNextRestart, IsPastAndStepAt, IsWith, MayHave, MayHaveOf};
+ghost use Rattle.fbl_judge.specs.Views.{AreViews, AreViewsOf, IsRestartPast, IsNextRestart, IsPastAndStepAt, IsWith, MayHave, MayHaveOf};
 
 use crate::view::View;
 use fbl_runs::{Clock, Clocks, Index};
 use fbl_trace::Member;
 use std::alloc::{AllocError, Global};
 
-/// A restart.
+/// A restart, with what happened before it.
 #[derive(Clone, Copy)]
-struct Back {
+struct RestartPast {
     /// Whose it is.
     member: Member,
     /// How many entries stand before it in its member's log.
@@ -73,26 +73,26 @@ fn first_view(index: &Index<'_>) -> View
 }
 
 /// Whether of the member with the number no other restart happened before this one but the view's.
-fn may_have_of(view: &View, back: &Back, number: u8) -> bool
+fn may_have_of(view: &View, restart: &RestartPast, number: u8) -> bool
     requires { number < 16 }
-    ensures { (result ≡ true) ↔ MayHaveOf view.now back.now number }
+    ensures { (result ≡ true) ↔ MayHaveOf view.now restart.now number }
 {
     let top = view.tops[number as usize];
     let member = Member::at(number);
-    if member == back.member {
-        top == back.number
+    if member == restart.member {
+        top == restart.number
     } else {
-        back.moment.count(member) <= top
+        restart.moment.count(member) <= top
     }
 }
 
 /// Whether the view's restarts and this one are just those that some moment has: this is its member's next one, and no others happened
 /// before it.
-fn may_have(view: &View, back: &Back) -> bool
-    ensures { (result ≡ true) ↔ MayHave view.now back.now }
+fn may_have(view: &View, restart: &RestartPast) -> bool
+    ensures { (result ≡ true) ↔ MayHave view.now restart.now }
 {
     for number in 0..16u8 {
-        if !may_have_of(view, back, number) {
+        if !may_have_of(view, restart, number) {
             return false;
         }
     }
@@ -100,20 +100,20 @@ fn may_have(view: &View, back: &Back) -> bool
 }
 
 /// The view with the restart too.
-fn with_restart(view: &View, back: &Back) -> View
-    requires restarts { slice_index view.now.restarts back.now.member < usize.MAX }
+fn with_restart(view: &View, restart: &RestartPast) -> View
+    requires restarts { slice_index view.now.restarts restart.now.member < usize.MAX }
     requires count { view.now.count < usize.MAX }
-    ensures { IsWith view.now back.now result }
+    ensures { IsWith view.now restart.now result }
 {
     let mut starts = view.starts;
     let mut tops = view.tops;
     let mut restarts = view.restarts;
-    let at = back.member.number() as usize;
-    starts[at] = back.number;
-    tops[at] = back.top;
+    let at = restart.member.number() as usize;
+    starts[at] = restart.number;
+    tops[at] = restart.top;
     restarts[at] += 1;
     View {
-        base: view.base.joined(back.moment),
+        base: view.base.joined(restart.moment),
         starts,
         tops,
         restarts,
@@ -122,15 +122,15 @@ fn with_restart(view: &View, back: &Back) -> View
 }
 
 /// The restart at the place.
-fn back_at(index: &Index<'_>, before: &Clocks, place: usize) -> Back
+fn restart_at(index: &Index<'_>, before: &Clocks, place: usize) -> RestartPast
     requires place { place < length index.now }
     requires before { AreClocks HappenedBefore index.now before.now }
-    ensures { IsBack index.now place result }
+    ensures { IsRestartPast index.now place result }
 {
     let member = index.entries()[place].member();
     let number = index.link(place).number;
     let _count = index.count(member);
-    Back {
+    RestartPast {
         member,
         number,
         top: next_restart(index, member, number + 1),
@@ -153,13 +153,13 @@ fn with_next(
     requires views { AreViewsOf index.now place views.now }
     ensures { IfOk result (λ more. AreViewsOf index.now (place + 1) more.items) }
 {
-    let back = back_at(index, before, place);
-    let _count = index.count(back.member);
+    let restart = restart_at(index, before, place);
+    let _count = index.count(restart.member);
     let mut more = Vec::new(alloc);
     for view in views {
         more.push(*view)?;
-        if may_have(view, &back) {
-            more.push(with_restart(view, &back))?;
+        if may_have(view, &restart) {
+            more.push(with_restart(view, &restart))?;
         }
     }
     Ok(more)

@@ -11,7 +11,7 @@ ghost use Rattle.fbl_order.specs.Orders.{items_at};
 use crate::fault::OrderFault;
 use crate::merge::{Merge, have_lives};
 use fbl_dumps::DumpRefusal;
-use fbl_runs::{Entry, LifeFault, LifeRule, LogBreach};
+use fbl_runs::{Entry, LifeFault, LifeRule, LogBreach, MOST_RESTARTS};
 use fbl_trace::{Breach, EventFault, EventRule, GroupRule, MOST_EVENTS, group_breach};
 use std::alloc::{AllocError, Global};
 
@@ -66,9 +66,6 @@ fn one_too_many(entries: &[Entry]) -> Option<EventFault>
     }
     None
 }
-
-/// How many restarts a log may have.
-const MOST_RESTARTS: u32 = 8;
 
 /// The first restart that is one too many.
 fn one_restart_too_many(entries: &[Entry]) -> Option<LifeFault>

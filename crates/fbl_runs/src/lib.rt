@@ -28,6 +28,6 @@ pub use fault::{
 pub use index::Index;
 pub use judged::Judged;
 pub use lawful::{event_place, marks_of};
-pub use life_rules::LifeRules;
+pub use life_rules::{LifeRules, MOST_RESTARTS};
 pub use links::Link;
 pub use run::{RawLog, Run, checked_log};

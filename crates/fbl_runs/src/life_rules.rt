@@ -15,8 +15,14 @@ use crate::control::{ControlMessages, end_outside};
 use crate::entry::{Entry, Restart};
 use crate::fault::{LifeFault, LifeRule};
 use crate::lives::{Lives, StandingEvent};
-use fbl_trace::{Determinant, MOST_EVENTS, Mark, Member, Outsider};
+use fbl_trace::{Determinant, MOST_EVENTS, MOST_MEMBERS, Mark, Member, Outsider};
 use std::alloc::{AllocError, Global};
+
+/// The most restarts that a log may have.
+pub const MOST_RESTARTS: u32 = 8;
+
+/// The most lives that members have in a log: the first one of each, and one for each restart.
+const MOST_LIVES: usize = MOST_MEMBERS as usize + MOST_RESTARTS as usize;
 
 /// What a pass over the entries of a log with restarts knows of those that it has seen.
 #[derive(Drop)]
@@ -236,7 +242,7 @@ impl LifeRules {
             → MatchOption result (MayRestart n before restart) (BreaksRestart n before restart) }
     {
         let member = restart.member;
-        if self.lives.lives.len() >= 24 {
+        if self.lives.lives.len() >= MOST_LIVES {
             return Some(LifeRule::TooManyRestarts);
         }
         if member.number() >= n {

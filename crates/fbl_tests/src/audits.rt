@@ -1,6 +1,6 @@
 //! Audits of dumps.
 
-use crate::members::first_receipt;
+use crate::members::{first_receipt, set};
 use crate::texts::{LOST, dump};
 use fbl_base::audit::{Dump, check_dump, lost, orphans};
 use fbl_base::{DumpRefusal, RawDump};
@@ -14,16 +14,11 @@ fn is_answered(
     alloc: Global,
     dump: &Dump,
     expected: Option<Determinant>,
-    left: &[u8],
+    left: MemberSet,
 ) -> Result<bool, AllocError> {
-    let orphans = orphans(alloc, dump)?.members(alloc)?;
     let lost = lost(alloc, dump)?;
-    let are_left = orphans
-        .iter()
-        .zip(left)
-        .all(|(orphan, number)| orphan.number() == *number);
     let is_lost = lost.len() == usize::from(expected.is_some()) && lost.get(0).copied() == expected;
-    Ok(is_lost && are_left && orphans.len() == left.len())
+    Ok(is_lost && orphans(alloc, dump)? == left)
 }
 
 /// The message went once round, and member 2 holds its first receipt or does not, with members struck: whether that receipt is lost then,
@@ -45,7 +40,9 @@ const AUDITED: &[(&str, bool, &[u8])] = &[
 /// Whether the dump of the text is audited so.
 fn is_audited(
     alloc: Global,
-    (text, is_lost, left): (&str, bool, &[u8]),
+    text: &str,
+    is_lost: bool,
+    left: MemberSet,
 ) -> Result<bool, AllocError> {
     let raw = dump(alloc, text)?;
     let dump = check_dump(alloc, raw).ok().ok_or(AllocError)?;
@@ -55,24 +52,22 @@ fn is_audited(
 }
 
 #[test]
-fn audits(rt: HostRuntime) {
-    for &audited in AUDITED {
-        assert!(rt;
-            is_audited(rt.alloc(), audited).unwrap_or(false),
-            "{audited:?}"
-        );
+fn audits(rt: HostRuntime) -> Result<(), Fail> {
+    for &(text, is_lost, left) in AUDITED {
+        let is_well = is_audited(rt.alloc(), text, is_lost, set(left)?).unwrap_or(false);
+        assert!(rt; is_well, "{text}");
     }
+    Ok(())
 }
 
 /// It holds where any one request for memory is refused, too. The gate refuses each in turn.
 #[test]
-fn without_memory(rt: HostRuntime) {
-    for &audited in AUDITED {
-        assert!(rt;
-            is_audited(rt.alloc(), audited).unwrap_or(true),
-            "{audited:?}"
-        );
+fn without_memory(rt: HostRuntime) -> Result<(), Fail> {
+    for &(text, is_lost, left) in AUDITED {
+        let is_well = is_audited(rt.alloc(), text, is_lost, set(left)?).unwrap_or(true);
+        assert!(rt; is_well, "{text}");
     }
+    Ok(())
 }
 
 /// A message and its receipt, whose determinant the sender holds, by so many equal pairs.

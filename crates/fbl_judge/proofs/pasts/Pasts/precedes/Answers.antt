@@ -3,7 +3,7 @@ use Rattle.fbl_runs.specs.declared.clocks.Clocks.{Clocks}
 use Rattle.fbl_runs.specs.Clocks.{StandsAt}
 use Rattle.fbl_runs.specs.Logs.{RunParts}
 use Rattle.fbl_runs.specs.Precedence.{AreClocks}
-use Rattle.fbl_judge.specs.Pasts.{AreDependences, is_told_or_back}
+use Rattle.fbl_judge.specs.Pasts.{AreDependences, is_told_or_restart}
 use Rattle.fbl_judge.proofs.Untold.{same_paths}
 use Rattle.fbl_judge.proofs.pasts.Pasts.precedes.Goals as goal
 
@@ -20,7 +20,7 @@ pub returns-in-None : goal.returns-in-None
 returns-in-None c i j at_i at_j =
     let same : c.self.inside.index ≡ c.args.self.now.entries = c.self.invariant.index ∙ ap (λ (run : RunParts). run.entries) c.self.view_is in
     let kept = subst (λ (o : Option Clocks). AreDependences c.self.inside.run.now.entries o) c.in-None.is c.self.invariant.depends in
-    let none = subst (λ (run : RunParts). list_any is_told_or_back run.entries ≡ false) c.self.view_is kept in
+    let none = subst (λ (run : RunParts). list_any is_told_or_restart run.entries ≡ false) c.self.view_is kept in
     let clocks = subst (λ (es : List Entry). AreClocks HappenedBefore es c.self.inside.before) (sym c.self.invariant.index) c.self.invariant.before in
     let iff = c.precedes-in-None.ensures HappenedBefore i j clocks (subst (λ (es : List Entry). StandsAt es c.args.first i) (sym same) at_i) (subst (λ (es : List Entry). StandsAt es c.args.second j) (sym same) at_j) in
     let iff' = subst (λ (es : List Entry). (c.precedes-in-None.result ≡ true) ↔ Precedes HappenedBefore (log_of es) i j) same iff in

@@ -12,7 +12,7 @@ returns-then-standing-kept c before has =
     let stands = events_count log (standing log) c.standing-standing.result.now (c.standing-standing.ensures before has.lived) in
     let few = standing_few before c.args.restart.member in
     let small = c.small.ensures (omega (arith, stands, few, has.count, has.few)) in (
-      omega (arith, room, c.len.ensures, c.if-len-ge24.false),
+      omega (arith, room, c.len.ensures, c.if-len-ge-MOST_LIVES.false),
       omega (arith, c.number.ensures.value, c.if-number-n.false),
       omega (arith, life, c.if-restart-life.false),
       small ∙ stands,
@@ -29,7 +29,7 @@ returns-then-receipts_among-restart c before has =
     let stands = events_count log (standing log) c.standing-standing.result.now are in
     let kept = count_standing is_receipt log (take (r.receipts + r.sends) (standing log)) (take (r.receipts + r.sends) c.standing-standing.result.now)
     (events_front log (standing log) c.standing-standing.result.now (r.receipts + r.sends) are) in (
-      omega (arith, room, c.len.ensures, c.if-len-ge24.false),
+      omega (arith, room, c.len.ensures, c.if-len-ge-MOST_LIVES.false),
       omega (arith, c.number.ensures.value, c.if-number-n.false),
       omega (arith, life, c.if-restart-life.false),
       omega (arith, stands, c.if-standing-kept.false),
@@ -46,7 +46,7 @@ returns c before has =
     let stands = events_count log (standing log) c.standing-standing.result.now are in
     let kept = count_standing is_receipt log (take (r.receipts + r.sends) (standing log)) (take (r.receipts + r.sends) c.standing-standing.result.now)
     (events_front log (standing log) c.standing-standing.result.now (r.receipts + r.sends) are) in (
-      omega (arith, room, c.len.ensures, c.if-len-ge24.false),
+      omega (arith, room, c.len.ensures, c.if-len-ge-MOST_LIVES.false),
       omega (arith, c.number.ensures.value, c.if-number-n.false),
       omega (arith, life, c.if-restart-life.false),
       omega (arith, stands, c.if-standing-kept.false),

@@ -3,7 +3,7 @@ use Rattle.fbl_runs.specs.Clocks.{StandsAt, seen}
 use Rattle.fbl_runs.proofs.LeadsLaws.{here_stands, same_position}
 use Rattle.fbl_judge.proofs.PlaceLaws.{number_within}
 use Rattle.fbl_judge.proofs.Places.{read_at}
-use Rattle.fbl_judge.proofs.views.back_at.Goals as goal
+use Rattle.fbl_judge.proofs.views.restart_at.Goals as goal
 
 pub overflow_add-number : goal.overflow_add-number
 overflow_add-number c =

@@ -1,6 +1,6 @@
 use Rattle.std.proofs.Common.{◌<◌, ◌≢◌, length, arith, ap, get_or-set_other, get_or-set_same, below_more, length-set, ◌∙◌}
 use Rattle.fbl_judge.proofs.Common.{cut_of}
-use Rattle.fbl_judge.proofs.reason.counts.Goals as goal
+use Rattle.fbl_judge.proofs.reason.counts_at.Goals as goal
 
 pub loop-number-preserved : goal.loop-number-preserved
 loop-number-preserved c = record {

@@ -1,6 +1,6 @@
 use Rattle.std.proofs.Common.{ℕ, ◌≡◌, ◌<◌, get_or, length}
 use Rattle.fbl_judge.proofs.Common.{cut_of}
-use Rattle.fbl_judge.proofs.reason.counts.Given as goal
+use Rattle.fbl_judge.proofs.reason.counts_at.Given as goal
 
 abbrev pub invariant-loop-number : goal.invariant-loop-number
 invariant-loop-number l = record {
