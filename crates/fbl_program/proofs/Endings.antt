@@ -7,8 +7,6 @@ use Rattle.fbl_records.specs.LogLines.{log_line}
 use Rattle.fbl_runs.specs.Logs.{IsLog, RunParts}
 use Rattle.fbl_program.specs.Outcomes.{DoesScript, EndsTask, IsRecorded, TriesScript}
 use Rattle.fbl_program.specs.declared.job.ScriptTask.{ScriptTask}
-use Rattle.fbl_program.specs.declared.scripts.ScriptFault.{ScriptFault}
-use Rattle.fbl_program.specs.declared.scripts.ScriptFault.TheVariants as scripts
 use Rattle.fbl_program.proofs.Common.{Answer, AnswerFault, Answers, Output, is_refusal, Command, GroupRecord, Observes, PlaysScript, Ran, Transcript, Outline, PlaysWell, next_of, status_after, text, unobserved}
 
 -- what is known of what was done over an input is known of the status that it ends with
@@ -38,7 +36,7 @@ cut_answer IsRight IsSeen Missing f right before after e (Ok x) same puts = absu
 cut_answer IsRight IsSeen Missing f right before after e (Err x) same puts = rw same (puts_as IsRight IsSeen f right before after e puts)
 
 -- the same of a script, which may have no record
-pub tries_err : (task : ScriptTask) (s : Outline) (before after : Option (List ℕ)) (e : OutputFault) (r : Result Bool ScriptFault) → IsErrAnd r (λ x. x ≡ scripts.Output e)
+pub tries_err : (task : ScriptTask) (s : Outline) (before after : Option (List ℕ)) (e : OutputFault) (r : Result Bool AnswerFault) → IsErrAnd r (λ x. x ≡ Output e)
     → DoesScript task s before after (Err e) → TriesScript task s before after r
 tries_err task s before after e (Ok x) same does = absurd same
 tries_err task s before after e (Err x) same does = rw same does
