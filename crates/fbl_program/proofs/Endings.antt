@@ -45,7 +45,7 @@ tries_err task s before after e (Err x) same does = rw same does
 module _ {O : Type 0} (seen_before : GroupRecord ℕ Note → Transcript → O → Command → O → Type 0) (seen_after : GroupRecord ℕ Note → Transcript → O → Command → Answer → O → Type 0) where
   module _ (workers : ℕ) (s : Outline) (old new : O) where
     pub recorded : (run : RunParts) (told : List ℕ) → IsRecordPlay seen_before seen_after workers s old new (Ok run) → told ≡ log_line run → IsRecorded workers s told
-    recorded run told (columns, raw, plays, made, same, log) is = (columns, raw, plays.0, made, subst IsLog same log, is ∙ ap log_line same)
+    recorded run told (columns, plays, (raw, made, same, log)) is = (columns, raw, plays.0, made, subst IsLog same log, is ∙ ap log_line same)
 
 -- an observer that keeps whether some command was refused
 module _ {O : Type 0} (has : O → Bool) where
