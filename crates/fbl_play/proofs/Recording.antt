@@ -12,9 +12,5 @@ use Rattle.fbl_play.specs.Transcripts.{history}
 pub record_play : {O : Type 0} (before : GroupRecord ℕ Note → Transcript → O → Command → O → Type 0) (after : GroupRecord ℕ Note → Transcript → O → Command → Answer → O → Type 0)
     (workers : ℕ) (s : Outline) (old new : O) (columns : List Column) → PlaysScript before after workers s (history None) (history (Some columns)) old new (Ok tt)
     → (r : Result RunParts RecordFault) → IsRecord (next_of s.behaviour) s.config columns r → IsRecordPlay before after workers s old new r
-record_play before after workers s old new columns plays (Ok run) is = (columns, is.0, plays, is.1, is.2, is.3)
 record_play before after workers s old new columns plays (Err faults.Memory) is = tt
-record_play before after workers s old new columns plays (Err faults.OtherHistory) is = (columns, plays, is)
-record_play before after workers s old new columns plays (Err faults.Restarts) is = (columns, plays, is)
-record_play before after workers s old new columns plays (Err faults.Marks) is = (columns, plays, is)
-record_play before after workers s old new columns plays (Err (faults.Refused breach)) is = (columns, plays, is)
+record_play before after workers s old new columns plays r is = (columns, plays, is)

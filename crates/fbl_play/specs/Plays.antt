@@ -14,12 +14,11 @@ use Rattle.fbl_scripts.specs.declared.script.BehaviourName.{BehaviourName}
 use Rattle.fbl_scripts.specs.declared.script.BehaviourName.TheVariants.{Relay, Mix}
 use Rattle.fbl_scripts.specs.declared.script.Command.{Command}
 use Rattle.fbl_scripts.specs.Scripts.{Outline, IsScriptOf, IsScriptFault}
-use Rattle.fbl_history.specs.Records.{HasNoRecord, IsRecordOf}
+use Rattle.fbl_history.specs.Records.{IsRecord}
 use Rattle.fbl_history.specs.declared.column.Column.{Column}
 use Rattle.fbl_history.specs.declared.record.RecordFault.{RecordFault}
 use Rattle.fbl_history.specs.declared.record.RecordFault.TheVariants as faults
-use Rattle.fbl_runs.specs.Logs.{IsLog, RunParts, parts_of_log}
-use Rattle.fbl_runs.specs.declared.run.RawLog.{RawLog}
+use Rattle.fbl_runs.specs.Logs.{RunParts}
 use Rattle.fbl_play.specs.declared.answer.Answer.{Answer}
 use Rattle.fbl_play.specs.Steps.{Step}
 use Rattle.fbl_play.specs.Transcripts.{Transcript, IsAdded, IsBegun, IsCut, IsOfGroup, history, text}
@@ -124,15 +123,12 @@ module _ {O : Type 0} (before : GroupRecord ℕ Note → Transcript → O → Co
   IsHistoryPlay workers s old new (Ok columns) = PlaysScript workers s (history None) (history (Some columns)) old new (Ok tt)
   IsHistoryPlay workers s old new (Err e) = (has : Transcript) × PlaysScript workers s (history None) has old new (Err outputs.Memory)
 
-  -- the answer is the record of a history of the script, which is a log; or that history has none; or there was no memory
+  -- the answer is the record of a history of a run of the script, or that history has none; or there was no memory
   abbrev pub IsRecordPlay : ℕ → Outline → O → O → Result RunParts RecordFault → Type 0
-  IsRecordPlay workers s old new (Ok run) =
-      (columns : List Column) × (raw : RawLog) × PlaysScript workers s (history None) (history (Some columns)) old new (Ok tt)
-      × IsRecordOf (next_of s.behaviour) s.config columns raw × (run ≡ parts_of_log raw) × IsLog run
   IsRecordPlay workers s old new (Err faults.Memory) = Unit {0}
-  IsRecordPlay workers s old new (Err fault) =
+  IsRecordPlay workers s old new result =
       (columns : List Column) × PlaysScript workers s (history None) (history (Some columns)) old new (Ok tt)
-      × HasNoRecord (next_of s.behaviour) s.config columns fault
+      × IsRecord (next_of s.behaviour) s.config columns result
 
 -- what a play of an input leaves in the writer
 abbrev pub ReadsAndPlays : ℕ → List ℕ → Option (List ℕ) → Option (List ℕ) → Result (Unit {0}) RunFault → Type 0

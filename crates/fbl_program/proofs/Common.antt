@@ -46,8 +46,8 @@ pub use Rattle.fbl_scripts.specs.Scripts.{IsScriptFault, IsScriptOf, Outline, be
 pub use Rattle.fbl_scripts.specs.declared.script.Command.{Command}
 pub use Rattle.fbl_program.specs.Merges.{RefusesMerge, merge_status}
 pub use Rattle.fbl_program.specs.Outcomes.{Answers, DoesScript, EndsMerged, IsAnswer, IsAnswerTo, IsPlaceMissing, IsPlaceMissingOf, IsShown, PlaysWell}
-pub use Rattle.fbl_program.specs.declared.around.AnswerFault.{AnswerFault}
-pub use Rattle.fbl_program.specs.declared.around.AnswerFault.TheVariants.{Output}
+pub use Rattle.fbl_program.specs.declared.fault.AnswerFault.{AnswerFault}
+pub use Rattle.fbl_program.specs.declared.fault.AnswerFault.TheVariants.{Output}
 pub use Rattle.fbl_program.specs.declared.merge.MergeFault.{MergeFault}
 pub use Rattle.fbl_program.specs.declared.job.RunTask.{RunTask}
 pub use Rattle.fbl_program.specs.declared.job.Question.TheVariants.{Audit, Check, Draw}

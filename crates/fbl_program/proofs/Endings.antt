@@ -7,8 +7,6 @@ use Rattle.fbl_records.specs.LogLines.{log_line}
 use Rattle.fbl_runs.specs.Logs.{IsLog, RunParts}
 use Rattle.fbl_program.specs.Outcomes.{DoesScript, EndsTask, IsRecorded, TriesScript}
 use Rattle.fbl_program.specs.declared.job.ScriptTask.{ScriptTask}
-use Rattle.fbl_program.specs.declared.scripts.ScriptFault.{ScriptFault}
-use Rattle.fbl_program.specs.declared.scripts.ScriptFault.TheVariants as scripts
 use Rattle.fbl_program.proofs.Common.{Answer, AnswerFault, Answers, Output, is_refusal, Command, GroupRecord, Observes, PlaysScript, Ran, Transcript, Outline, PlaysWell, next_of, status_after, text, unobserved}
 
 -- what is known of what was done over an input is known of the status that it ends with
@@ -38,7 +36,7 @@ cut_answer IsRight IsSeen Missing f right before after e (Ok x) same puts = absu
 cut_answer IsRight IsSeen Missing f right before after e (Err x) same puts = rw same (puts_as IsRight IsSeen f right before after e puts)
 
 -- the same of a script, which may have no record
-pub tries_err : (task : ScriptTask) (s : Outline) (before after : Option (List ℕ)) (e : OutputFault) (r : Result Bool ScriptFault) → IsErrAnd r (λ x. x ≡ scripts.Output e)
+pub tries_err : (task : ScriptTask) (s : Outline) (before after : Option (List ℕ)) (e : OutputFault) (r : Result Bool AnswerFault) → IsErrAnd r (λ x. x ≡ Output e)
     → DoesScript task s before after (Err e) → TriesScript task s before after r
 tries_err task s before after e (Ok x) same does = absurd same
 tries_err task s before after e (Err x) same does = rw same does
@@ -47,7 +45,7 @@ tries_err task s before after e (Err x) same does = rw same does
 module _ {O : Type 0} (seen_before : GroupRecord ℕ Note → Transcript → O → Command → O → Type 0) (seen_after : GroupRecord ℕ Note → Transcript → O → Command → Answer → O → Type 0) where
   module _ (workers : ℕ) (s : Outline) (old new : O) where
     pub recorded : (run : RunParts) (told : List ℕ) → IsRecordPlay seen_before seen_after workers s old new (Ok run) → told ≡ log_line run → IsRecorded workers s told
-    recorded run told (columns, raw, plays, made, same, log) is = (columns, raw, plays.0, made, subst IsLog same log, is ∙ ap log_line same)
+    recorded run told (columns, plays, (raw, made, same, log)) is = (columns, raw, plays.0, made, subst IsLog same log, is ∙ ap log_line same)
 
 -- an observer that keeps whether some command was refused
 module _ {O : Type 0} (has : O → Bool) where

@@ -4,8 +4,8 @@ use Rattle.std.specs.Borrow.{Bor}
 use Rattle.fbl_input.specs.Sources.{IsSpotText}
 use Rattle.fbl_input.specs.declared.output.OutputFault.TheVariants.{Memory}
 use Rattle.fbl_input.specs.declared.sources.Sources.{Sources}
-use Rattle.fbl_program.specs.declared.around.AnswerFault.{AnswerFault}
-use Rattle.fbl_program.specs.declared.around.AnswerFault.TheVariants.{NoEntry, Output}
+use Rattle.fbl_program.specs.declared.fault.AnswerFault.{AnswerFault}
+use Rattle.fbl_program.specs.declared.fault.AnswerFault.TheVariants.{Output, Refused}
 
 -- of so many entries the one at the place stands where the words say; or none does
 abbrev pub IsPlaceNamed : Sources → ℕ → List ℕ → Option ℕ → Type 0
@@ -26,5 +26,5 @@ IsMissing sources count (Some words) = IsPlaceNamed sources count words.now None
 -- one of the two is so, or memory ran out
 abbrev pub IsAsked : Sources → ℕ → Option (Bor (List ℕ)) → Result (Option ℕ) AnswerFault → Type 0
 IsAsked sources count words (Ok around) = IsAround sources count words around
-IsAsked sources count words (Err NoEntry) = IsMissing sources count words
+IsAsked sources count words (Err Refused) = IsMissing sources count words
 IsAsked sources count words (Err (Output fault)) = fault ≡ Memory

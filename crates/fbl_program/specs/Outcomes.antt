@@ -31,16 +31,14 @@ use Rattle.fbl_records.specs.declared.reader.RawRecording.{RawRecording}
 use Rattle.fbl_runs.specs.Logs.{IsLog, RunParts, parts_of_log, run_of_dump}
 use Rattle.fbl_runs.specs.declared.run.RawLog.{RawLog}
 use Rattle.fbl_scripts.specs.Scripts.{Outline, IsScriptFault, IsScriptOf, behaviour_word}
-use Rattle.fbl_program.specs.declared.around.AnswerFault.{AnswerFault}
-use Rattle.fbl_program.specs.declared.around.AnswerFault.TheVariants.{NoEntry, Output}
+use Rattle.fbl_program.specs.declared.fault.AnswerFault.{AnswerFault}
+use Rattle.fbl_program.specs.declared.fault.AnswerFault.TheVariants.{Output, Refused}
 use Rattle.fbl_program.specs.declared.job.Question.{Question}
 use Rattle.fbl_program.specs.declared.job.Question.TheVariants.{Audit, Check, Draw}
 use Rattle.fbl_program.specs.declared.job.RunTask.{RunTask}
 use Rattle.fbl_program.specs.declared.job.RunTask.TheVariants.{Judge, Merge}
 use Rattle.fbl_program.specs.declared.job.ScriptTask.{ScriptTask}
 use Rattle.fbl_program.specs.declared.job.ScriptTask.TheVariants.{Play, Record, Show}
-use Rattle.fbl_program.specs.declared.scripts.ScriptFault.{ScriptFault}
-use Rattle.fbl_program.specs.declared.scripts.ScriptFault.TheVariants as scripts
 use Rattle.fbl_program.specs.declared.job.Task.{Task}
 use Rattle.fbl_program.specs.declared.job.Task.TheVariants.{Script, Run}
 use Rattle.fbl_program.specs.declared.merge.MergeFault.{MergeFault}
@@ -84,10 +82,10 @@ IsUnrecordable (Record workers) s = HasNoLog workers s
 IsUnrecordable task s = ⊥
 
 -- the same, or nothing is written, as no log has the record
-abbrev pub TriesScript : ScriptTask → Outline → Option (List ℕ) → Option (List ℕ) → Result Bool ScriptFault → Type 0
+abbrev pub TriesScript : ScriptTask → Outline → Option (List ℕ) → Option (List ℕ) → Result Bool AnswerFault → Type 0
 TriesScript task s before after (Ok is_well) = DoesScript task s before after (Ok is_well)
-TriesScript task s before after (Err (scripts.Output fault)) = DoesScript task s before after (Err fault)
-TriesScript task s before after (Err scripts.NoLog) = IsUnrecordable task s × Keeps before after
+TriesScript task s before after (Err (Output fault)) = DoesScript task s before after (Err fault)
+TriesScript task s before after (Err Refused) = IsUnrecordable task s × Keeps before after
 
 -- what is told of the run, whose entries stand in these files, and whether all is well
 abbrev pub IsAnswerTo : Question → RunParts → Sources → Bool → List ℕ → Type 0
@@ -125,7 +123,7 @@ IsPlaceMissingOf Merge found sources = ⊥
 abbrev pub Answers : (Bool → List ℕ → Type 0) → Type 0 → Option (List ℕ) → Option (List ℕ) → Result Bool AnswerFault → Type 0
 Answers IsRight Missing before after (Ok is_well) = PutsOut IsRight before after (Ok is_well)
 Answers IsRight Missing before after (Err (Output fault)) = PutsOut IsRight before after (Err fault)
-Answers IsRight Missing before after (Err NoEntry) = Missing × Keeps before after
+Answers IsRight Missing before after (Err Refused) = Missing × Keeps before after
 
 -- what is left in the writer, and the exit status, where this is done with a dump or a log, whose entries stand in these files
 abbrev pub EndsWith : RunTask → Recording → Sources → Option (List ℕ) → Option (List ℕ) → ℕ → Type 0

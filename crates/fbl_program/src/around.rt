@@ -3,41 +3,9 @@
 ghost use Rattle.std.specs.Prelude.{IfOk};
 ghost use Rattle.fbl_program.specs.Arounds.{IsAsked, IsPlaceNamed};
 
-use fbl_input::{OutputFault, Sources, spot_text};
+use crate::fault::AnswerFault;
+use fbl_input::{Sources, spot_text};
 use std::alloc::{AllocError, Global};
-use std::convert::From;
-
-/// Why a question of a run has no whole answer.
-#[derive(Clone, Copy)]
-pub(crate) enum AnswerFault {
-    /// Memory ran out, or a write failed.
-    Output(OutputFault),
-    /// A picture is asked for around an entry, and none stands there.
-    NoEntry,
-}
-
-impl From<OutputFault> for AnswerFault {
-    ghost use Rattle.std.specs.Prelude.{◌≡◌};
-    ghost use Rattle.fbl_program.specs.declared.around.AnswerFault.TheVariants.{Output};
-
-    ghost from_gives = { λ fault e. e ≡ Output fault };
-
-    fn from(fault: OutputFault) -> AnswerFault {
-        AnswerFault::Output(fault)
-    }
-}
-
-impl From<AllocError> for AnswerFault {
-    ghost use Rattle.std.specs.Prelude.{◌≡◌};
-    ghost use Rattle.fbl_input.specs.declared.output.OutputFault.TheVariants.{Memory};
-    ghost use Rattle.fbl_program.specs.declared.around.AnswerFault.TheVariants.{Output};
-
-    ghost from_gives = { λ _ e. e ≡ Output Memory };
-
-    fn from(_: AllocError) -> AnswerFault {
-        AnswerFault::Output(OutputFault::Memory)
-    }
-}
 
 /// The place of the first of so many entries that stands where these words say, if one does.
 fn place_named(
@@ -73,7 +41,7 @@ pub(crate) fn place_asked<R: Eprint>(
     let place = place_named(alloc, sources, count, words)?;
     if place.is_none() {
         let _ = eprintln!(rt; "error: --around names {words:?}, and no entry stands there");
-        return Err(AnswerFault::NoEntry);
+        return Err(AnswerFault::Refused);
     }
     Ok(place)
 }

@@ -188,7 +188,7 @@ fn option<'a>(alloc: Global, name: &'a str, value: &'a str, help: &'a str) -> Ar
 }
 
 /// The numbers of workers that may make a run.
-fn counts<'a>() -> ValueParser<'a>
+fn worker_numbers<'a>() -> ValueParser<'a>
     ensures { result ≡ Signed (pos 1) (pos 8) }
 {
     clap::value_parser!(u8).range(1..=8)
@@ -200,7 +200,7 @@ fn workers<'a>(alloc: Global) -> Arg<'a>
     ensures local { result.global ≡ false }
 {
     option(alloc, "workers", "N", "How many workers make a run, 1 to 8")
-        .value_parser(counts())
+        .value_parser(worker_numbers())
         .default_value("2")
 }
 

@@ -5,11 +5,12 @@ ghost use Rattle.fbl_program.specs.Jobs.{EndsJob, EndsOne, EndsSeveral, IsUnreco
 ghost use Rattle.fbl_program.specs.Outcomes.{EndsTask};
 ghost use Rattle.fbl_program.specs.declared.job.Task.TheVariants.{Run, Script};
 
+use crate::fault::AnswerFault;
 use crate::job::{Job, RunTask, ScriptTask, Task};
 use crate::merge::{Together, in_one_version};
 use crate::merge_words::InputFiles;
 use crate::runs::{end_merged, end_recorded, end_run, one_file};
-use crate::scripts::{ScriptFault, do_script};
+use crate::scripts::do_script;
 use crate::status::{INPUT_FAULT, end, fail};
 use crate::streams::{Named, Streams};
 use crate::teller::{refuse_input, refuse_merge};
@@ -38,8 +39,8 @@ fn end_script<T: Eprint + Threads + Wait + Sync, R: Read, W: Write>(
         Ok(script) => {
             match do_script(rt, alloc, task, explain, script, writer) {
                 Ok(is_well) => end(rt, Ok(is_well), writer.failure()),
-                Err(ScriptFault::Output(fault)) => end(rt, Err(fault), writer.failure()),
-                Err(ScriptFault::NoLog) => INPUT_FAULT,
+                Err(AnswerFault::Output(fault)) => end(rt, Err(fault), writer.failure()),
+                Err(AnswerFault::Refused) => INPUT_FAULT,
             }
         }
         Err(fault) => refuse_input(rt, alloc, explain, &fault, reader.failure(), None),

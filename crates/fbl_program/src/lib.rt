@@ -3,6 +3,7 @@
 
 mod around;
 mod command_line;
+mod fault;
 mod job;
 mod jobs;
 mod merge;

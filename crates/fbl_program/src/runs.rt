@@ -7,7 +7,8 @@ ghost use Rattle.fbl_records.specs.Texts.{IsChecked};
 ghost use Rattle.fbl_program.specs.Merges.{count_of};
 ghost use Rattle.fbl_program.specs.Outcomes.{Answers, EndsMerged, EndsRecorded, EndsWith, IsAnswer, IsAnswerTo, IsPlaceMissing, IsPlaceMissingOf, run_line, run_of};
 
-use crate::around::{AnswerFault, place_asked};
+use crate::around::place_asked;
+use crate::fault::AnswerFault;
 use crate::job::{Question, RunTask};
 use crate::merge::{Together, merge_of};
 use crate::merge_words::InputFiles;
@@ -260,7 +261,7 @@ pub(crate) fn end_run<T: Eprint, W: Write>(
     match do_run(rt, alloc, task, explain, found, sources, writer) {
         Ok(is_well) => end(rt, Ok(is_well), writer.failure()),
         Err(AnswerFault::Output(fault)) => end(rt, Err(fault), writer.failure()),
-        Err(AnswerFault::NoEntry) => INPUT_FAULT,
+        Err(AnswerFault::Refused) => INPUT_FAULT,
     }
 }
 

@@ -6,6 +6,7 @@ ghost use Rattle.fbl_scripts.specs.Scripts.{outline};
 ghost use Rattle.fbl_program.specs.Outcomes.{IsShown, TriesScript};
 ghost use Rattle.fbl_program.specs.declared.job.ScriptTask.TheVariants.{Record};
 
+use crate::fault::AnswerFault;
 use crate::job::ScriptTask;
 use crate::runs::write_line;
 use crate::teller::Teller;
@@ -15,43 +16,10 @@ use fbl_pictures::write_history_picture;
 use fbl_play::{history_of_script, play_script, record_of_script};
 use fbl_records::log_text;
 use fbl_scripts::Script;
-use std::alloc::{AllocError, Global};
-use std::convert::From;
+use std::alloc::Global;
 use std::io::Write;
 use std::sync::Wait;
 use std::thread::Threads;
-
-/// Why a script has no whole answer.
-#[derive(Clone, Copy)]
-pub(crate) enum ScriptFault {
-    /// Memory ran out, or a write failed.
-    Output(OutputFault),
-    /// A record is asked for, and no log has the run.
-    NoLog,
-}
-
-impl From<OutputFault> for ScriptFault {
-    ghost use Rattle.std.specs.Prelude.{◌≡◌};
-    ghost use Rattle.fbl_program.specs.declared.scripts.ScriptFault.TheVariants.{Output};
-
-    ghost from_gives = { λ fault e. e ≡ Output fault };
-
-    fn from(fault: OutputFault) -> ScriptFault {
-        ScriptFault::Output(fault)
-    }
-}
-
-impl From<AllocError> for ScriptFault {
-    ghost use Rattle.std.specs.Prelude.{◌≡◌};
-    ghost use Rattle.fbl_input.specs.declared.output.OutputFault.TheVariants.{Memory};
-    ghost use Rattle.fbl_program.specs.declared.scripts.ScriptFault.TheVariants.{Output};
-
-    ghost from_gives = { λ _ e. e ≡ Output Memory };
-
-    fn from(_: AllocError) -> ScriptFault {
-        ScriptFault::Output(OutputFault::Memory)
-    }
-}
 
 /// Plays the script, and writes its record as a line. That there is none is told.
 fn record<T: Eprint + Threads + Wait + Sync, W: Write>(
@@ -61,7 +29,7 @@ fn record<T: Eprint + Threads + Wait + Sync, W: Write>(
     workers: u8,
     teller: &mut Teller<'_, T>,
     writer: &mut W,
-) -> Result<bool, ScriptFault>
+) -> Result<bool, AnswerFault>
     ensures { TriesScript (Record workers) (outline script) (W.contents writer.old) (W.contents writer.new) result }
 {
     match record_of_script(rt, alloc, script, workers, teller) {
@@ -70,10 +38,10 @@ fn record<T: Eprint + Threads + Wait + Sync, W: Write>(
             write_line(rt, line.as_str(), writer)?;
             Ok(true)
         }
-        Err(RecordFault::Memory) => Err(ScriptFault::Output(OutputFault::Memory)),
+        Err(RecordFault::Memory) => Err(AnswerFault::Output(OutputFault::Memory)),
         Err(fault) => {
             let _ = eprintln!(rt; "fault: {fault}");
-            Err(ScriptFault::NoLog)
+            Err(AnswerFault::Refused)
         }
     }
 }
@@ -106,7 +74,7 @@ pub(crate) fn do_script<T: Eprint + Threads + Wait + Sync, W: Write>(
     explain: bool,
     script: Script,
     writer: &mut W,
-) -> Result<bool, ScriptFault>
+) -> Result<bool, AnswerFault>
     requires { script.config.members ≤ 16 }
     ensures { TriesScript task (outline script) (W.contents writer.old) (W.contents writer.new) result }
 {
