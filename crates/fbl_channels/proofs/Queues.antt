@@ -1,6 +1,7 @@
 -- Channels as queues: what is seen of them, and the loops over them.
 pub use Rattle.fbl_channels.proofs.Common.{All, Bool, List, Vec, [], ap, append-nil, append_assoc, arith, cond, deque_capacity, deque_items, deque_len, drop, false, get_or, inr, length, map, refl, set, suc, sym, true, vec_capacity, vec_len, ℕ, ◌++◌, ◌+◌, ◌-◌, ◌<◌, ◌||◌, ◌∙◌, ◌∷◌, ◌≡◌, ◌≤◌, ◌⊎◌, nat_tests, get_or-map, get_or-set_other, get_or-set_same, length-map, length-set, map-set, set-get_or, contains, with_item, into_iter_items, VecDeque, Members, Event, HasChannels, channel_in, Message, each, room_in, rooms, rows, send_of_message, with_at, with_sent, Channels}
 use Rattle.std.specs.FinSet as set
+use Rattle.std.specs.declared.alloc.Global.{Global}
 
 -- a channel is read after a channel was written, or a list of as many
 pub ruleset reads = (arith, nat_tests, get_or-set_same, get_or-set_other, length-set)
@@ -8,25 +9,25 @@ pub ruleset reads = (arith, nat_tests, get_or-set_same, get_or-set_other, length
 -- ---- what is seen of channels
 
 -- one channel, and for how many messages more it has room
-abbrev Queue : Type 0 → Type 0 → Type 0
-Queue N A = VecDeque (Message N) A
+abbrev Queue : Type 0 → Type 0
+Queue N = VecDeque (Message N) Global
 
-abbrev spare : {N A : Type 0} → Queue N A → ℕ
+abbrev spare : {N : Type 0} → Queue N → ℕ
 spare queue = deque_capacity queue - deque_len queue
 
 -- a channel that was found from q to p, in the row i at the place j: its messages, how much room is spare there, and what is seen of all channels once it is another
-pub record Found {N A : Type 0} (channels : Channels N A) (i j q p : ℕ) (row : Vec (Queue N A) A) (one : Queue N A) : Type 0 where
+pub record Found {N : Type 0} (channels : Channels N) (i j q p : ℕ) (row : Vec (Queue N) Global) (one : Queue N) : Type 0 where
   pub messages : deque_items one ≡ channel_in (rows channels) q p
   pub room : spare one ≡ room_in channels q p
   pub in_room : (q < length (rooms channels)) × (p < length (get_or (rooms channels) q []))
-  pub changed : (new : Queue N A) {vs : List (Message N)} → deque_items new ≡ vs
+  pub changed : (new : Queue N) {vs : List (Message N)} → deque_items new ≡ vs
       → each deque_items (set channels.rows.items i (with_item row j new)) ≡ with_at (rows channels) q p vs
-  pub kept : (new : Queue N A) → deque_items new ≡ deque_items one → each deque_items (set channels.rows.items i (with_item row j new)) ≡ rows channels
-  pub room_set : (new : Queue N A) → each spare (set channels.rows.items i (with_item row j new)) ≡ with_at (rooms channels) q p (spare new)
+  pub kept : (new : Queue N) → deque_items new ≡ deque_items one → each deque_items (set channels.rows.items i (with_item row j new)) ≡ rows channels
+  pub room_set : (new : Queue N) → each spare (set channels.rows.items i (with_item row j new)) ≡ with_at (rooms channels) q p (spare new)
 
-module _ {N A : Type 0} (channels : Channels N A) {i j q p : ℕ} {row : Vec (Queue N A) A} (is_q : i ≡ q) (is_p : j ≡ p)
+module _ {N : Type 0} (channels : Channels N) {i j q p : ℕ} {row : Vec (Queue N) Global} (is_q : i ≡ q) (is_p : j ≡ p)
     (places : (q < length (rows channels)) × (p < length (get_or (rows channels) q []))) (read_row : row ≡ get_or channels.rows.items i row) where
-  abbrev all : List (Vec (Queue N A) A)
+  abbrev all : List (Vec (Queue N) Global)
   all = channels.rows.items
 
   -- the channel has a place in its row
@@ -34,11 +35,11 @@ module _ {N A : Type 0} (channels : Channels N A) {i j q p : ℕ} {row : Vec (Qu
   within_row = grind (arith, get_or-map, length-map)
 
   -- what is seen of the channel, and of all once it is another
-  module _ {one : Queue N A} (read : one ≡ get_or row.items j one) where
-    seen-at : {X : Type 0} (seen : Queue N A → X) (d : X) → seen one ≡ get_or (get_or (each seen all) q []) p d
+  module _ {one : Queue N} (read : one ≡ get_or row.items j one) where
+    seen-at : {X : Type 0} (seen : Queue N → X) (d : X) → seen one ≡ get_or (get_or (each seen all) q []) p d
     seen-at seen d = grind (arith, get_or-map, length-map)
 
-    seen-set : {X : Type 0} (seen : Queue N A → X) (new : Queue N A) → each seen (set all i (with_item row j new)) ≡ with_at (each seen all) q p (seen new)
+    seen-set : {X : Type 0} (seen : Queue N → X) (new : Queue N) → each seen (set all i (with_item row j new)) ≡ with_at (each seen all) q p (seen new)
     seen-set seen new = grind (arith, map-set, get_or-map, length-map)
 
     pub found : Found channels i j q p row one

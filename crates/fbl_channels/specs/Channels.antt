@@ -15,15 +15,15 @@ abbrev pub each : {A X Y : Type 0} → (X → Y) → List (Vec X A) → List (Li
 each seen rows = map (λ row. map seen row.items) rows
 
 -- the messages of each channel, its front first
-abbrev pub rows : {N A : Type 0} → Channels N A → List (List (List (Message N)))
+abbrev pub rows : {N : Type 0} → Channels N → List (List (List (Message N)))
 rows channels = each deque_items channels.rows.items
 
 -- for how many messages more each channel has room
-abbrev pub rooms : {N A : Type 0} → Channels N A → List (List ℕ)
+abbrev pub rooms : {N : Type 0} → Channels N → List (List ℕ)
 rooms channels = each (λ channel. deque_capacity channel - deque_len channel) channels.rows.items
 
 -- for how many messages more the channel from q to p has room
-abbrev pub room_in : {N A : Type 0} → Channels N A → ℕ → ℕ → ℕ
+abbrev pub room_in : {N : Type 0} → Channels N → ℕ → ℕ → ℕ
 room_in channels q p = slice_index_or (slice_index_or (rooms channels) q []) p 0
 
 -- what there is for each pair, with x in its place from q to p

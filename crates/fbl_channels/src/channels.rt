@@ -9,29 +9,29 @@ ghost use Rattle.fbl_channels.specs.Channels.{AreReplaced, each, rows, room_in, 
 
 use fbl_member::Wire;
 use fbl_trace::{Event, Member, MemberSet, Note};
-use std::alloc::{AllocError, Allocator};
+use std::alloc::{AllocError, Global};
 use std::collections::VecDeque;
 use std::mem;
 
 /// The messages in flight from one member to another, first in, first out.
-pub type Channel<N, A> = VecDeque<Wire<N, A>, A>;
+pub type Channel<N> = VecDeque<Wire<N>>;
 
 /// The channels of a group, one from each member to each.
 #[derive(Drop)]
-pub struct Channels<N, A: Allocator> {
-    rows: Vec<Vec<Channel<N, A>, A>, A>,
+pub struct Channels<N> {
+    rows: Vec<Vec<Channel<N>>>,
 }
 
-impl<N: Copy, A: Allocator> Channels<N, A> {
+impl<N: Copy> Channels<N> {
     /// These channels: for each sender those to each receiver.
-    pub fn of_rows(channels: Vec<Vec<Channel<N, A>, A>, A>) -> Channels<N, A>
+    pub fn of_rows(channels: Vec<Vec<Channel<N>>>) -> Channels<N>
         ensures { rows result ≡ each deque_items channels.items }
     {
         Channels { rows: channels }
     }
 
     /// The channel from one member to the other.
-    pub fn between(&self, from: Member, to: Member) -> &Channel<N, A>
+    pub fn between(&self, from: Member, to: Member) -> &Channel<N>
         requires from { from < length (rows self.now) }
         requires to { to < length (slice_index_or (rows self.now) from []) }
         ensures { result.now.items ≡ channel_in (rows self.now) from to }
@@ -40,7 +40,7 @@ impl<N: Copy, A: Allocator> Channels<N, A> {
     }
 
     /// The front of the channel from one member to the other.
-    pub fn front(&self, from: Member, to: Member) -> Option<&Wire<N, A>>
+    pub fn front(&self, from: Member, to: Member) -> Option<&Wire<N>>
         requires from { from < length (rows self.now) }
         requires to { to < length (slice_index_or (rows self.now) from []) }
         ensures some { IfSome result (λ wire. slice_get (channel_in (rows self.now) from to) 0 ≡ Some wire.now) }
@@ -54,7 +54,7 @@ impl<N: Copy, A: Allocator> Channels<N, A> {
         &mut self,
         from: Member,
         sends: &[(Member, N)],
-        trace: &mut Vec<Event<N>, A>,
+        trace: &mut Vec<Event<N>>,
     ) -> Result<(), AllocError>
         requires from { from < length (rows self.old) }
         requires receivers { All (λ send. send.0 < length (slice_index_or (rows self.old) from [])) sends.now }
@@ -82,7 +82,7 @@ impl<N: Copy, A: Allocator> Channels<N, A> {
     }
 
     /// Puts the message at the end of its channel.
-    pub fn send(&mut self, wire: Wire<N, A>) -> Result<(), AllocError>
+    pub fn send(&mut self, wire: Wire<N>) -> Result<(), AllocError>
         requires from { wire.from < length (rows self.old) }
         requires to { wire.to < length (slice_index_or (rows self.old) wire.from []) }
         ensures { OnOk result
@@ -111,8 +111,8 @@ impl<N: Copy, A: Allocator> Channels<N, A> {
         &mut self,
         from: Member,
         to: Member,
-        wires: Vec<Wire<N, A>, A>,
-        trace: &mut Vec<Event<N>, A>,
+        wires: Vec<Wire<N>>,
+        trace: &mut Vec<Event<N>>,
     )
         requires from { from < length (rows self.old) }
         requires to { to < length (rows self.old) }
@@ -140,7 +140,7 @@ impl<N: Copy, A: Allocator> Channels<N, A> {
 
     /// Puts the messages of a member at the ends of their channels, and their sends onto the trace. There is room for
     /// both.
-    fn send_all(&mut self, from: Member, wires: Vec<Wire<N, A>, A>, trace: &mut Vec<Event<N>, A>)
+    fn send_all(&mut self, from: Member, wires: Vec<Wire<N>>, trace: &mut Vec<Event<N>>)
         requires from { from < length (rows self.old) }
         requires receivers { All (λ wire. wire.to < length (slice_index_or (rows self.old) from [])) wires.items }
         requires room { All (λ wire. length wires.items ≤ room_in self.old from wire.to) wires.items }
@@ -189,7 +189,7 @@ impl<N: Copy, A: Allocator> Channels<N, A> {
     }
 
     /// Puts the channels that were made again in the places of those with an end that is down, of `n` members.
-    pub fn replace(&mut self, again: &mut Channels<N, A>, down: MemberSet, n: u8)
+    pub fn replace(&mut self, again: &mut Channels<N>, down: MemberSet, n: u8)
         requires shape { HasChannels n (rows self.old) }
         requires again { HasChannels n (rows again.old) }
         requires few { n ≤ 16 }
@@ -210,7 +210,7 @@ impl<N: Copy, A: Allocator> Channels<N, A> {
     }
 }
 
-impl<A: Allocator> Channels<Note, A> {
+impl Channels<Note> {
     /// What the messages in these channels hold: the sum of their values.
     pub fn value(&self, n: u8) -> u64
         requires shape { HasChannels n (rows self.now) }
@@ -244,10 +244,7 @@ impl<A: Allocator> Channels<Note, A> {
 }
 
 /// Channels from each of `n` members to each, with no message.
-pub fn empty_channels<N: Copy, A: Allocator + Copy>(
-    alloc: A,
-    n: u8,
-) -> Result<Channels<N, A>, AllocError>
+pub fn empty_channels<N: Copy>(alloc: Global, n: u8) -> Result<Channels<N>, AllocError>
     ensures { IfOk result (λ channels. rows channels ≡ replicate n (replicate n [])) }
 {
     let mut rows = Vec::new(alloc);
@@ -258,10 +255,7 @@ pub fn empty_channels<N: Copy, A: Allocator + Copy>(
 }
 
 /// Channels to each of `n` members, with no message.
-fn empty_row<N: Copy, A: Allocator + Copy>(
-    alloc: A,
-    n: u8,
-) -> Result<Vec<Channel<N, A>, A>, AllocError>
+fn empty_row<N: Copy>(alloc: Global, n: u8) -> Result<Vec<Channel<N>>, AllocError>
     ensures { IfOk result (λ row. map deque_items row.items ≡ replicate n []) }
 {
     let mut row = Vec::new(alloc);
@@ -272,7 +266,7 @@ fn empty_row<N: Copy, A: Allocator + Copy>(
 }
 
 /// The send of the message, with its note.
-fn sent_event<N: Copy, A: Allocator>(wire: &Wire<N, A>) -> Event<N>
+fn sent_event<N: Copy>(wire: &Wire<N>) -> Event<N>
     ensures { result ≡ send_of_message wire.now }
 {
     Event::Send {
@@ -284,7 +278,7 @@ fn sent_event<N: Copy, A: Allocator>(wire: &Wire<N, A>) -> Event<N>
 }
 
 /// The sum of the values of the messages in the channel.
-fn sum_channel<A: Allocator>(channel: &Channel<Note, A>) -> u64
+fn sum_channel(channel: &Channel<Note>) -> u64
     requires { length channel.now.items ≤ 8192 }
     ensures value { result ≡ value_of channel.now.items }
     ensures bound { result ≤ 35184372080640 }

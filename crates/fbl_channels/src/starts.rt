@@ -11,14 +11,14 @@ ghost use Rattle.fbl_channels.specs.Channels.{rows};
 use crate::channels::{Channels, empty_channels};
 use fbl_member::{Carried, Wire};
 use fbl_trace::{Config, Content, Event, Mark, Member, Start};
-use std::alloc::{AllocError, Allocator};
+use std::alloc::{AllocError, Global};
 
 /// The starts' sends in their order, each with its sender's next number, and channels with their messages. These carry
 /// nothing.
-pub fn send_starts<N: Content, A: Allocator + Copy>(
-    alloc: A,
-    config: &Config<N, A>,
-) -> Result<(Vec<Event<N>, A>, Channels<N, A>), AllocError>
+pub fn send_starts<N: Content>(
+    alloc: Global,
+    config: &Config<N>,
+) -> Result<(Vec<Event<N>>, Channels<N>), AllocError>
     ensures trace { IfOk result (λ sent. sent.0.items ≡ start_events [] config.now.starts) }
     ensures shape { IfOk result (λ sent. HasChannels config.now.members (rows sent.1)) }
     ensures channels { IfOk result

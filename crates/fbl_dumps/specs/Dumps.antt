@@ -55,7 +55,7 @@ RefusesDump dump BadStrike = MembersAllowed dump.members × FAllowed dump.member
 RefusesDump dump Memory = MembersAllowed dump.members × FAllowed dump.members dump.f
 
 -- the parts, as contracts see them
-abbrev pub parts_of : {A : Type 0} → RawDump A → Parts
+abbrev pub parts_of : RawDump → Parts
 parts_of raw = record { members = raw.members; f = raw.f; events = raw.events.items; held = raw.held.items; strike = raw.strike }
 
 -- whether some receipt among the events has the determinant

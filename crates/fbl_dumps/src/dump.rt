@@ -16,18 +16,18 @@ use fbl_trace::{
     Breach, Counts, Determinant, EventFault, GroupRule, MOST_PAIRS, Mark, Member, MemberSet,
     Outsider, PairFault, PairRule, group_breach,
 };
-use std::alloc::{AllocError, Allocator, Global};
+use std::alloc::{AllocError, Global};
 use std::collections::HashSet;
 use std::hash::{BuildHasherDefault, FoldHasher};
 use std::marker::Model;
 
 /// A dump that obeys the rules. Contracts see its five parts.
 #[derive(Drop)]
-pub struct Dump<A: Allocator = Global> {
-    raw: RawDump<A>,
+pub struct Dump {
+    raw: RawDump,
 }
 
-impl<A: Allocator> Model for Dump<A> {
+impl Model for Dump {
     ghost use Rattle.fbl_dumps.specs.Dumps.{Parts, IsDump};
 
     ghost Value = { Parts };
@@ -47,9 +47,9 @@ impl<A: Allocator> Model for Dump<A> {
     ghost invariant = { λ d. IsDump (parts_of d.raw) };
 }
 
-impl<A: Allocator> Dump<A> {
+impl Dump {
     /// The dump of these parts, for a caller who has shown that they obey the rules: nothing is tested, and no memory is taken.
-    pub fn lawful(raw: RawDump<A>) -> Dump<A>
+    pub fn lawful(raw: RawDump) -> Dump
         requires { IsDump (parts_of raw) }
         ensures { result ≡ parts_of raw }
     {
@@ -94,14 +94,10 @@ impl<A: Allocator> Dump<A> {
 }
 
 /// Determinants by their hashes.
-type DeterminantSet<A> = HashSet<Determinant, BuildHasherDefault<FoldHasher>, A>;
+type DeterminantSet = HashSet<Determinant, BuildHasherDefault<FoldHasher>>;
 
 /// The first event that breaks a rule, and the first rule that it breaks.
-fn first_bad_event<A: Allocator + Copy>(
-    alloc: A,
-    n: u8,
-    events: &[Mark],
-) -> Result<Option<EventFault>, AllocError>
+fn first_bad_event(alloc: Global, n: u8, events: &[Mark]) -> Result<Option<EventFault>, AllocError>
     requires { n ≤ 16 }
     ensures place { IfOk result
         (λ r. MatchOption r (WellFormed n events.now)
@@ -121,7 +117,7 @@ fn first_bad_event<A: Allocator + Copy>(
 }
 
 /// The determinants of the receipts among the events.
-fn receipts<A: Allocator + Copy>(alloc: A, events: &[Mark]) -> Result<DeterminantSet<A>, AllocError>
+fn receipts(alloc: Global, events: &[Mark]) -> Result<DeterminantSet, AllocError>
     ensures { IfOk result (λ s. (d : _) → hash_set.contains same_determinant s d ≡ is_received events.now d) }
 {
     let mut receipts = HashSet::new(alloc);
@@ -134,9 +130,9 @@ fn receipts<A: Allocator + Copy>(alloc: A, events: &[Mark]) -> Result<Determinan
 }
 
 /// The first rule that the pair at `place` breaks, where these are the determinants of the receipts.
-fn broken_rule<A: Allocator>(
-    raw: &RawDump<A>,
-    receipts: &DeterminantSet<A>,
+fn broken_rule(
+    raw: &RawDump,
+    receipts: &DeterminantSet,
     place: usize,
     pair: &(Member, Determinant),
 ) -> Option<PairRule>
@@ -160,10 +156,7 @@ fn broken_rule<A: Allocator>(
 }
 
 /// The first pair that breaks a rule, and the first rule that it breaks.
-fn first_bad_pair<A: Allocator + Copy>(
-    alloc: A,
-    raw: &RawDump<A>,
-) -> Result<Option<PairFault>, AllocError>
+fn first_bad_pair(alloc: Global, raw: &RawDump) -> Result<Option<PairFault>, AllocError>
     ensures place { IfOk result
         (λ r. MatchOption r ((i : ℕ) → HeldAt (parts_of raw.now) i)
         (λ fault. IsFirstBreach (HeldAt (parts_of raw.now)) fault.place)) }
@@ -187,7 +180,7 @@ fn first_bad_pair<A: Allocator + Copy>(
 /// The dump, if it obeys the rules. A refused one is dropped. Where several refusals hold, the first in the order of
 /// `DumpRefusal` is answered, but for `Memory`, which may come once the members and `f` are allowed: the indexes that the
 /// check builds want it then. The time taken is linear in the events and the held pairs.
-pub fn check_dump<A: Allocator + Copy>(alloc: A, raw: RawDump<A>) -> Result<Dump<A>, DumpRefusal>
+pub fn check_dump(alloc: Global, raw: RawDump) -> Result<Dump, DumpRefusal>
     ensures accepted { IfOk result (λ d. d ≡ parts_of raw) }
     ensures rules { IfOk result IsDump }
     ensures refused { IfErr result (RefusesDump (parts_of raw)) }
@@ -199,10 +192,7 @@ pub fn check_dump<A: Allocator + Copy>(alloc: A, raw: RawDump<A>) -> Result<Dump
 }
 
 /// The dump, as `check_dump` answers it, or its refusal with what it is refused for.
-pub fn checked_dump<A: Allocator + Copy>(
-    alloc: A,
-    raw: RawDump<A>,
-) -> Result<Dump<A>, (DumpRefusal, Breach)>
+pub fn checked_dump(alloc: Global, raw: RawDump) -> Result<Dump, (DumpRefusal, Breach)>
     ensures accepted { IfOk result (λ d. d ≡ parts_of raw) }
     ensures rules { IfOk result IsDump }
     ensures refused { IfErr result (λ e. RefusesDump (parts_of raw) e.0) }
@@ -215,7 +205,7 @@ pub fn checked_dump<A: Allocator + Copy>(
 }
 
 /// What the dump is refused for, if it is: the refusal, and the rule that it breaks.
-fn dump_breach<A: Allocator + Copy>(alloc: A, raw: &RawDump<A>) -> Option<(DumpRefusal, Breach)>
+fn dump_breach(alloc: Global, raw: &RawDump) -> Option<(DumpRefusal, Breach)>
     ensures refused { MatchOption result (IsDump (parts_of raw.now)) (λ e. RefusesDump (parts_of raw.now) e.0) }
     ensures breach { IfSome result (λ e. IsDumpBreach (parts_of raw.now) e.0 e.1) }
 {

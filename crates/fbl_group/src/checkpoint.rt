@@ -13,9 +13,9 @@ ghost use Rattle.fbl_group.specs.Checkpoints.{checkpoint_refusal, IsCheckpointRe
 use crate::group::Group;
 use crate::refusals::CheckpointRefusal;
 use fbl_trace::{Behaviour, Member};
-use std::alloc::{AllocError, Allocator};
+use std::alloc::AllocError;
 
-impl<B: Behaviour, A: Allocator + Copy> Group<B, A> {
+impl<B: Behaviour> Group<B> {
     /// Keeps a copy of the member's record, in the place of its older checkpoint: its state, its counts and its log, which
     /// are the fold of the receipts that it has had, and its table. What the checkpoint has recorded is never lost, and a
     /// recovery of the member replays only the receipts after it. Strikes and recoveries leave it as it is. A member that

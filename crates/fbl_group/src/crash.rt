@@ -9,9 +9,8 @@ use crate::answers::{Recovered, Struck};
 use crate::group::Group;
 use crate::refusals::CrashRefusal;
 use fbl_trace::{Behaviour, MemberSet};
-use std::alloc::Allocator;
 
-impl<B: Behaviour, A: Allocator + Copy> Group<B, A> {
+impl<B: Behaviour> Group<B> {
     /// Strikes the members named, and recovers all that are down then. After a refusal of the strike the group is unchanged;
     /// after `Memory` it is as the strike leaves it, and `recover` may be called.
     pub fn crash(&mut self, set: MemberSet) -> Result<(Struck, Recovered), CrashRefusal>

@@ -13,10 +13,10 @@ use crate::group::Group;
 use crate::refusals::{CommitRefusal, DeliverRefusal};
 use fbl_member::{MemberRec, Wire};
 use fbl_trace::{Behaviour, Event, Member, Outcome};
-use std::alloc::{AllocError, Allocator};
+use std::alloc::AllocError;
 pub use ticket::{Done, run_step};
 
-impl<B: Behaviour, A: Allocator + Copy> Group<B, A> {
+impl<B: Behaviour> Group<B> {
     /// Delivers to one member the front of its channel from another: takes its ticket, makes its step and commits it. The
     /// member takes in what the message carries, notes the receipt's determinant and makes the behaviour's step, whose
     /// messages go to the ends of their channels.
@@ -56,8 +56,7 @@ impl<B: Behaviour, A: Allocator + Copy> Group<B, A> {
         let carried = wire.carried().len() as u32;
         let n = self.config.members();
         let f = self.config.f();
-        let Ok((rsn, made)) = take_in::<B, A>(&mut self.members, to, n, f, wire, &done.outcome)
-        else {
+        let Ok((rsn, made)) = take_in::<B>(&mut self.members, to, n, f, wire, &done.outcome) else {
             return Err(AllocError);
         };
         self.trace
@@ -74,14 +73,14 @@ impl<B: Behaviour, A: Allocator + Copy> Group<B, A> {
 
 /// Lets the receiver take the message in, in a group of `n` members of whom `f` may be lost. Answers the number of the receipt, and the
 /// messages of the step. Where memory runs out nothing changes.
-fn take_in<B: Behaviour, A: Allocator + Copy>(
-    members: &mut Vec<MemberRec<B::State, B::Note, A>, A>,
+fn take_in<B: Behaviour>(
+    members: &mut Vec<MemberRec<B::State, B::Note>>,
     to: Member,
     n: u8,
     f: u8,
-    wire: &Wire<B::Note, A>,
+    wire: &Wire<B::Note>,
     outcome: &Outcome<B::State, B::Note>,
-) -> Result<(u32, Vec<Wire<B::Note, A>, A>), AllocError>
+) -> Result<(u32, Vec<Wire<B::Note>>), AllocError>
     requires place { to < vec_len members.old }
     requires may { MayTakeIn B.next n to outcome.now wire.now (record_at B.next members.old.items to) }
     ensures taken { IfOk result (λ made. TakesIn B.next f to outcome.now wire.now members.old.items

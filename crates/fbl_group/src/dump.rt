@@ -17,13 +17,13 @@ use fbl_dumps::{Dump, RawDump};
 use fbl_member::MemberRec;
 use fbl_table::Table;
 use fbl_trace::{Behaviour, Content, Determinant, Event, Mark, Member, MemberSet};
-use std::alloc::{AllocError, Allocator};
+use std::alloc::{AllocError, Global};
 
-impl<B: Behaviour, A: Allocator + Copy> Group<B, A> {
+impl<B: Behaviour> Group<B> {
     /// The trace without notes, who holds which determinants, and these members as the strike set, for the audit. Nobody is
     /// struck by it. Where the set has those that are down and at most f members in all, the audit finds no orphan. A
     /// member that is down and not in the set is dumped as a survivor that holds nothing.
-    pub fn dump(&self, strike: MemberSet) -> Result<Dump<A>, DumpGroupRefusal>
+    pub fn dump(&self, strike: MemberSet) -> Result<Dump, DumpGroupRefusal>
         ensures dumped { IfOk result (λ dump. AllBelow strike self.now.config.members × (dump ≡ dump_of self.now strike)) }
         ensures refused { IfErr result (IsDumpRefusal self.now strike) }
         ensures no_orphan { ((q : ℕ) → IsDown (knowledge self.now) q → Includes strike q)
@@ -41,7 +41,7 @@ impl<B: Behaviour, A: Allocator + Copy> Group<B, A> {
         }
     }
 
-    fn raw_dump(&self, strike: MemberSet) -> Result<RawDump<A>, AllocError>
+    fn raw_dump(&self, strike: MemberSet) -> Result<RawDump, AllocError>
         ensures { IfOk result (λ raw. parts_of raw ≡ dump_of self.now strike) }
     {
         let alloc = *self.trace.allocator();
@@ -55,16 +55,16 @@ impl<B: Behaviour, A: Allocator + Copy> Group<B, A> {
     }
 }
 
-fn marks<N: Copy, A: Allocator>(alloc: A, trace: &[Event<N>]) -> Result<Vec<Mark, A>, AllocError>
+fn marks<N: Copy>(alloc: Global, trace: &[Event<N>]) -> Result<Vec<Mark>, AllocError>
     ensures { IfOk result (λ marks. marks.items ≡ map mark_of trace.now) }
 {
     trace.iter().map(|event| event.mark()).collect(alloc)
 }
 
-fn held_pairs<S: Copy, N: Content, A: Allocator + Copy>(
-    alloc: A,
-    members: &[MemberRec<S, N, A>],
-) -> Result<Vec<(Member, Determinant), A>, AllocError>
+fn held_pairs<S: Copy, N: Content>(
+    alloc: Global,
+    members: &[MemberRec<S, N>],
+) -> Result<Vec<(Member, Determinant)>, AllocError>
     requires { length members.now ≤ 16 }
     ensures { IfOk result (λ held. held.items ≡ pairs_from 0 members.now) }
 {
@@ -76,10 +76,10 @@ fn held_pairs<S: Copy, N: Content, A: Allocator + Copy>(
     Ok(held)
 }
 
-fn push_pairs<A: Allocator + Copy>(
-    held: &mut Vec<(Member, Determinant), A>,
+fn push_pairs(
+    held: &mut Vec<(Member, Determinant)>,
     holder: Member,
-    table: &Table<A>,
+    table: &Table,
 ) -> Result<(), AllocError>
     ensures { OnOk result (held.new.items ≡ held.old.items ++ pairs_of holder table.now) }
 {

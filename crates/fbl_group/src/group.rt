@@ -5,25 +5,24 @@ ghost use Rattle.std.specs.Prelude.{◌≡◌, ℕ, ◌<◌, length, IfOk, IsTru
 use fbl_channels::Channels;
 use fbl_member::MemberRec;
 use fbl_trace::{Behaviour, Config, Event, MemberSet};
-use std::alloc::{Allocator, Global};
 use std::marker::{Model, PhantomData};
 
 /// A group of deterministic members: its members' volatile records and their checkpoints, the messages in flight on
 /// each channel, and the trace of what happened. Contracts see the record as data; it is sound between any two calls.
 #[derive(Drop)]
-pub struct Group<B: Behaviour, A: Allocator = Global> {
-    pub(crate) config: Config<B::Note, A>,
-    pub(crate) members: Vec<MemberRec<B::State, B::Note, A>, A>,
-    pub(crate) checkpoints: Vec<MemberRec<B::State, B::Note, A>, A>,
-    pub(crate) channels: Channels<B::Note, A>,
-    pub(crate) trace: Vec<Event<B::Note>, A>,
+pub struct Group<B: Behaviour> {
+    pub(crate) config: Config<B::Note>,
+    pub(crate) members: Vec<MemberRec<B::State, B::Note>>,
+    pub(crate) checkpoints: Vec<MemberRec<B::State, B::Note>>,
+    pub(crate) channels: Channels<B::Note>,
+    pub(crate) trace: Vec<Event<B::Note>>,
     pub(crate) down: MemberSet,
     pub(crate) receipts_ever: u64,
     pub(crate) undone_ever: u64,
     pub(crate) behaviour: PhantomData<B>,
 }
 
-impl<B: Behaviour, A: Allocator> Model for Group<B, A> {
+impl<B: Behaviour> Model for Group<B> {
     ghost use Rattle.fbl_law.specs.Groups.{GroupRecord};
     ghost use Rattle.fbl_law.specs.Groups.{IsSound};
     ghost use Rattle.fbl_channels.specs.Channels.{rows};

@@ -18,11 +18,10 @@ use arrayvec::ArrayVec;
 use fbl_member::MemberRec;
 use fbl_table::Table;
 use fbl_trace::{Behaviour, Config, Event, Member, MemberSet, Note};
-use std::alloc::Allocator;
 
-impl<B: Behaviour, A: Allocator + Copy> Group<B, A> {
+impl<B: Behaviour> Group<B> {
     /// The parameters.
-    pub fn config(&self) -> &Config<B::Note, A>
+    pub fn config(&self) -> &Config<B::Note>
         ensures { result.now ≡ self.now.config }
     {
         &self.config
@@ -90,7 +89,7 @@ impl<B: Behaviour, A: Allocator + Copy> Group<B, A> {
     }
 
     /// The determinants that the member holds, none if it is down. The member is one of the group.
-    pub fn table(&self, member: Member) -> &Table<A>
+    pub fn table(&self, member: Member) -> &Table
         requires { member < self.now.config.members }
         ensures { result.now ≡ (record_of self.now member).table }
     {
@@ -210,7 +209,7 @@ impl<B: Behaviour, A: Allocator + Copy> Group<B, A> {
         self.config.members()
     }
 
-    pub(crate) fn record(&self, member: Member) -> &MemberRec<B::State, B::Note, A>
+    pub(crate) fn record(&self, member: Member) -> &MemberRec<B::State, B::Note>
         requires { member < self.now.config.members }
         ensures value { result.now ≡ record_of self.now member }
         ensures sound { IsSound B.next self.now }
@@ -218,7 +217,7 @@ impl<B: Behaviour, A: Allocator + Copy> Group<B, A> {
         &self.members[usize::from(member.number())]
     }
 
-    pub(crate) fn checkpoint_of(&self, member: Member) -> &MemberRec<B::State, B::Note, A>
+    pub(crate) fn checkpoint_of(&self, member: Member) -> &MemberRec<B::State, B::Note>
         requires { member < self.now.config.members }
         ensures { result.now ≡ member_checkpoint self.now member }
     {
@@ -226,7 +225,7 @@ impl<B: Behaviour, A: Allocator + Copy> Group<B, A> {
     }
 }
 
-impl<B: Behaviour<State = u64>, A: Allocator + Copy> Group<B, A> {
+impl<B: Behaviour<State = u64>> Group<B> {
     /// The sum of the states of the members that are up.
     pub fn sum_of_states(&self) -> u128
         ensures value { result ≡ weight_held (λ me state. state) self.now }
@@ -243,7 +242,7 @@ impl<B: Behaviour<State = u64>, A: Allocator + Copy> Group<B, A> {
     }
 }
 
-impl<B: Behaviour<Note = Note>, A: Allocator + Copy> Group<B, A> {
+impl<B: Behaviour<Note = Note>> Group<B> {
     /// What the messages in flight hold, on all channels: the sum of their values.
     pub fn value_in_flight(&self) -> u64
         ensures { result ≡ weight_flying (λ note. note.value) self.now }

@@ -17,9 +17,9 @@ use crate::group::Group;
 use crate::refusals::RecoverRefusal;
 use fbl_trace::{Behaviour, Event, MemberSet};
 use rebuilt::Rebuilt;
-use std::alloc::{AllocError, Allocator};
+use std::alloc::AllocError;
 
-impl<B: Behaviour, A: Allocator + Copy> Group<B, A> {
+impl<B: Behaviour> Group<B> {
     /// Recovers the members that are down: each begins at its checkpoint and is put at the fold of the receipts that a
     /// survivor's table or a checkpoint has, in their order, and knows what the survivors and these checkpoints know.
     /// Receipts that neither has are undone, with all that came after them at their member, and each message on a channel
@@ -59,7 +59,7 @@ impl<B: Behaviour, A: Allocator + Copy> Group<B, A> {
     }
 
     /// Sends again what is lost, puts the records that were rebuilt in their places, and cuts the trace.
-    fn put_in_place(&mut self, rebuilt: &mut Rebuilt<B, A>) -> Result<Recovered, AllocError>
+    fn put_in_place(&mut self, rebuilt: &mut Rebuilt<B>) -> Result<Recovered, AllocError>
         requires ready { IsReady B.next self.old rebuilt.old.records.items rebuilt.old.replayed }
         requires down { rebuilt.old.down ≡ self.old.down }
         ensures recovered { IfOk result (λ answer. Recovers B.next self.old self.new answer) }

@@ -7,17 +7,17 @@ use crate::group::Group;
 use fbl_channels::send_starts;
 use fbl_member::fresh_members;
 use fbl_trace::{Behaviour, Config, MemberSet};
-use std::alloc::{AllocError, Allocator};
+use std::alloc::{AllocError, Global};
 use std::marker::PhantomData;
 
-impl<B: Behaviour, A: Allocator + Copy> Group<B, A> {
+impl<B: Behaviour> Group<B> {
     /// A group of these parameters in which the starts are sent and nothing is received yet. Each member begins in its first
     /// state, and its first checkpoint is its fresh record. `Err` comes only where there is no memory for the group; the configuration is dropped then.
-    pub fn new(alloc: A, config: Config<B::Note, A>) -> Result<Group<B, A>, AllocError>
+    pub fn new(alloc: Global, config: Config<B::Note>) -> Result<Group<B>, AllocError>
         ensures { IfOk result (λ g. IsGroupStart B.next config g) }
     {
-        let members = fresh_members::<B, A>(alloc, &config)?;
-        let checkpoints = fresh_members::<B, A>(alloc, &config)?;
+        let members = fresh_members::<B>(alloc, &config)?;
+        let checkpoints = fresh_members::<B>(alloc, &config)?;
         let (trace, channels) = send_starts(alloc, &config)?;
         Ok(Group {
             config,

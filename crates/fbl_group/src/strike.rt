@@ -17,9 +17,9 @@ use fbl_channels::{Channels, has_either};
 use fbl_member::MemberRec;
 use fbl_trace::{Behaviour, Content, Determinant, Member, MemberSet};
 use lost::{count_lost, lost_among};
-use std::alloc::{AllocError, Allocator};
+use std::alloc::{AllocError, Global};
 
-impl<B: Behaviour, A: Allocator + Copy> Group<B, A> {
+impl<B: Behaviour> Group<B> {
     /// Strikes the members named: they lose what they kept in memory, and each message in flight from them or to them is
     /// lost. They are down, beside those that were down before, until the group is recovered. A member that is down may be
     /// named again. Checkpoints stay. The answer counts all receipts that are lost then: those that neither the table of a
@@ -38,7 +38,7 @@ impl<B: Behaviour, A: Allocator + Copy> Group<B, A> {
         self.promises();
         self.allow_strike(set)?;
         let n = self.config.members();
-        blank_members::<B, A>(&mut self.members, set, n, self.config.f());
+        blank_members::<B>(&mut self.members, set, n, self.config.f());
         drop_at(&mut self.channels, set, n);
         self.down = self.down.union(set);
         self.promises();
@@ -51,7 +51,7 @@ impl<B: Behaviour, A: Allocator + Copy> Group<B, A> {
     /// The determinants of the receipts that are lost, in the order of the trace: those that neither the table of a survivor nor a
     /// checkpoint has, which a recovery undoes. While nobody is down there are none. `Err` comes only where there is no memory for
     /// the answer.
-    pub fn lost_receipts(&self, alloc: A) -> Result<Vec<Determinant, A>, AllocError>
+    pub fn lost_receipts(&self, alloc: Global) -> Result<Vec<Determinant>, AllocError>
         ensures { IfOk result (λ v. v.items ≡ lost_receipts self.now) }
     {
         lost_among(alloc, &self.members, &self.checkpoints, &self.trace)
@@ -81,8 +81,8 @@ fn are_within(set: MemberSet, n: u8) -> bool
     set.within(n)
 }
 
-fn blank_members<B: Behaviour, A: Allocator + Copy>(
-    members: &mut Vec<MemberRec<B::State, B::Note, A>, A>,
+fn blank_members<B: Behaviour>(
+    members: &mut Vec<MemberRec<B::State, B::Note>>,
     set: MemberSet,
     n: u8,
     f: u8,
@@ -102,18 +102,13 @@ fn blank_members<B: Behaviour, A: Allocator + Copy>(
     }
 }
 
-fn make_blank<S: Copy, N: Content, A: Allocator + Copy>(
-    member: &mut MemberRec<S, N, A>,
-    alloc: A,
-    f: u8,
-    first: S,
-)
+fn make_blank<S: Copy, N: Content>(member: &mut MemberRec<S, N>, alloc: Global, f: u8, first: S)
     ensures { member.new ≡ blank first }
 {
     *member = MemberRec::blank(alloc, f, first);
 }
 
-fn drop_at<N: Copy, A: Allocator>(channels: &mut Channels<N, A>, set: MemberSet, n: u8)
+fn drop_at<N: Copy>(channels: &mut Channels<N>, set: MemberSet, n: u8)
     requires shape { HasChannels n (rows channels.old) }
     requires few { n ≤ 16 }
     ensures { AreReplaced n set (λ q p. []) (rows channels.old) (rows channels.new) }

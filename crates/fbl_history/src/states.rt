@@ -80,7 +80,7 @@ pub(crate) fn trace_columns<B: Behaviour<State = u64, Note = Note>>(
     ensures { IfOk result (λ columns. columns.items ≡ columns_of_trace B.next group.now) }
 {
     let trace = group.trace();
-    let mut members = fresh_members::<B, Global>(alloc, group.config())?;
+    let mut members = fresh_members::<B>(alloc, group.config())?;
     let mut columns = Vec::with_capacity(alloc, trace.len())?;
     for (place, event) in trace.iter().enumerate() {
         columns.push(column_at(group, &mut members, place, *event)?)?;

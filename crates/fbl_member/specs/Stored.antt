@@ -13,12 +13,12 @@ abbrev pub HasRoom : {X A : Type 0} → ℕ → Vec X A → Type 0
 HasRoom room list = (list.items ≡ []) × (vec_len list ≡ 0) × (room ≤ vec_capacity list)
 
 -- room for this many messages, and a list for each with room for this many entries
-pub record HasRooms {N A : Type 0} (messages entries : ℕ) (buffers : Buffers N A) : Type 0 where
+pub record HasRooms {N : Type 0} (messages entries : ℕ) (buffers : Buffers N) : Type 0 where
   pub wires : HasRoom messages buffers.wires
   pub count : vec_len buffers.lists ≡ messages
   pub lists : All (HasRoom entries) buffers.lists.items
 
 -- the entries of the list
-abbrev pub entries_of : {A : Type 0} → Storage A → List Entry
+abbrev pub entries_of : Storage → List Entry
 entries_of (Own list) = list.items
 entries_of (Shared list) = list.value.items

@@ -10,22 +10,22 @@ use crate::carried::Carried;
 use crate::wire::Wire;
 use fbl_table::{Entry, Table};
 use fbl_trace::Member;
-use std::alloc::{AllocError, Allocator};
+use std::alloc::{AllocError, Global};
 
 /// Room for the messages of a step, and a list for each with room for what it carries.
 #[derive(Drop)]
-pub(crate) struct Buffers<N, A: Allocator> {
-    wires: Vec<Wire<N, A>, A>,
-    lists: Vec<Vec<Entry, A>, A>,
+pub(crate) struct Buffers<N> {
+    wires: Vec<Wire<N>>,
+    lists: Vec<Vec<Entry>>,
 }
 
-impl<N: Copy, A: Allocator + Copy> Buffers<N, A> {
+impl<N: Copy> Buffers<N> {
     /// Room for so many messages, each with at most so many entries.
     pub(crate) fn for_messages(
-        alloc: A,
+        alloc: Global,
         messages: usize,
         entries: usize,
-    ) -> Result<Buffers<N, A>, AllocError>
+    ) -> Result<Buffers<N>, AllocError>
         ensures { IfOk result (HasRooms messages entries) }
     {
         Ok(Buffers {
@@ -40,9 +40,9 @@ impl<N: Copy, A: Allocator + Copy> Buffers<N, A> {
         me: Member,
         before: u32,
         sends: &[(Member, N)],
-        table: &Table<A>,
+        table: &Table,
         f: u8,
-    ) -> Vec<Wire<N, A>, A>
+    ) -> Vec<Wire<N>>
         requires rooms { HasRooms (length sends.now) (length (piggybacked f table.now)) self }
         requires numbers { before + length sends.now ≤ 8192 }
         ensures { result.items ≡ messages_from me before (piggybacked f table.now) sends.now }
@@ -63,11 +63,7 @@ impl<N: Copy, A: Allocator + Copy> Buffers<N, A> {
 }
 
 /// As many empty lists as this, each with this much room.
-fn empty_lists<A: Allocator + Copy>(
-    alloc: A,
-    count: usize,
-    room: usize,
-) -> Result<Vec<Vec<Entry, A>, A>, AllocError>
+fn empty_lists(alloc: Global, count: usize, room: usize) -> Result<Vec<Vec<Entry>>, AllocError>
     ensures len { IfOk result (λ lists. vec_len lists ≡ count) }
     ensures room { IfOk result (λ lists. All (HasRoom room) lists.items) }
 {
@@ -80,13 +76,13 @@ fn empty_lists<A: Allocator + Copy>(
 
 /// What the next of so many messages of a step carries: the list of the one made before, if that can be shared, and else a
 /// list of what the table passes on.
-fn next_carried<N: Copy, A: Allocator + Copy>(
-    reserved: Vec<Entry, A>,
-    made: Option<&Wire<N, A>>,
-    table: &Table<A>,
+fn next_carried<N: Copy>(
+    reserved: Vec<Entry>,
+    made: Option<&Wire<N>>,
+    table: &Table,
     f: u8,
     messages: usize,
-) -> Carried<A>
+) -> Carried
     requires made { IfSome made (λ wire. wire.now.carried ≡ piggybacked f table.now) }
     requires room { HasRoom (length (piggybacked f table.now)) reserved }
     ensures { result ≡ piggybacked f table.now }
@@ -102,12 +98,7 @@ fn next_carried<N: Copy, A: Allocator + Copy>(
 
 /// What the table passes on, for so many messages. Where there is no memory for a list of it, or for sharing one, each
 /// message has its own list, for which room was taken.
-fn carried_by<A: Allocator + Copy>(
-    reserved: Vec<Entry, A>,
-    table: &Table<A>,
-    f: u8,
-    messages: usize,
-) -> Carried<A>
+fn carried_by(reserved: Vec<Entry>, table: &Table, f: u8, messages: usize) -> Carried
     requires { HasRoom (length (piggybacked f table.now)) reserved }
     ensures { result ≡ piggybacked f table.now }
 {
@@ -121,7 +112,7 @@ fn carried_by<A: Allocator + Copy>(
 
 /// What the table passes on, in the list for which room was taken. How many of the carried entries are new shows only once the
 /// table has taken them in, so that the room is mostly much more than is needed: the rest is given back.
-fn passed_on<A: Allocator + Copy>(reserved: Vec<Entry, A>, table: &Table<A>, f: u8) -> Vec<Entry, A>
+fn passed_on(reserved: Vec<Entry>, table: &Table, f: u8) -> Vec<Entry>
     requires { HasRoom (length (piggybacked f table.now)) reserved }
     ensures { result.items ≡ piggybacked f table.now }
 {

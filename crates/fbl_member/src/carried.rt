@@ -3,25 +3,25 @@
 ghost use Rattle.std.specs.Prelude.{◌≡◌, [], IfOk, IfSome};
 
 use fbl_table::Entry;
-use std::alloc::{AllocError, Allocator, Global};
+use std::alloc::{AllocError, Global};
 use std::marker::Model;
 use std::sync::Arc;
 
 /// The entries that a message carries. The messages of a step carry the same ones, and share one list of them where there is
 /// memory for that.
 #[derive(Drop)]
-pub struct Carried<A: Allocator = Global> {
-    storage: Storage<A>,
+pub struct Carried {
+    storage: Storage,
 }
 
 /// A list of one message, or one that several messages share.
 #[derive(Drop)]
-enum Storage<A: Allocator> {
-    Own(Vec<Entry, A>),
-    Shared(Arc<Vec<Entry, A>, A>),
+enum Storage {
+    Own(Vec<Entry>),
+    Shared(Arc<Vec<Entry>>),
 }
 
-impl<A: Allocator> Model for Carried<A> {
+impl Model for Carried {
     ghost use Rattle.std.specs.Prelude.{List};
     ghost use Rattle.fbl_table.specs.declared.entry.Entry.{Entry};
 
@@ -37,9 +37,9 @@ impl<A: Allocator> Model for Carried<A> {
     ghost view = { λ c. entries_of c.storage };
 }
 
-impl<A: Allocator> Carried<A> {
+impl Carried {
     /// The entries of one message alone. It takes no memory.
-    pub fn own(entries: Vec<Entry, A>) -> Carried<A>
+    pub fn own(entries: Vec<Entry>) -> Carried
         ensures { result ≡ entries.items }
     {
         Carried {
@@ -59,7 +59,7 @@ impl<A: Allocator> Carried<A> {
 
     /// The same list for another message, if it can be shared: if it was made for that, and there was memory. It takes no
     /// memory.
-    pub fn share(&self) -> Option<Carried<A>>
+    pub fn share(&self) -> Option<Carried>
         ensures { IfSome result (λ carried. carried ≡ self.now) }
     {
         match &self.storage {
@@ -72,18 +72,16 @@ impl<A: Allocator> Carried<A> {
             },
         }
     }
-}
 
-impl<A: Allocator + Copy> Carried<A> {
     /// No entries. It takes no memory.
-    pub fn none(alloc: A) -> Carried<A>
+    pub fn none(alloc: Global) -> Carried
         ensures { result ≡ [] }
     {
         Carried::own(Vec::new(alloc))
     }
 
     /// The entries for several messages to share. Where there is no memory for that, they are of one alone.
-    pub fn for_several(entries: Vec<Entry, A>) -> Carried<A>
+    pub fn for_several(entries: Vec<Entry>) -> Carried
         ensures { result ≡ entries.items }
     {
         let alloc = *entries.allocator();
@@ -96,7 +94,7 @@ impl<A: Allocator + Copy> Carried<A> {
     }
 
     /// A copy of the list, for one message alone.
-    fn copy(&self) -> Result<Carried<A>, AllocError>
+    fn copy(&self) -> Result<Carried, AllocError>
         ensures { IfOk result (λ carried. carried ≡ self.now) }
     {
         let copy = Vec::from_slice(*self.allocator(), self.entries())?;
@@ -104,7 +102,7 @@ impl<A: Allocator + Copy> Carried<A> {
     }
 
     /// The allocator of the list.
-    fn allocator(&self) -> &A {
+    fn allocator(&self) -> &Global {
         match &self.storage {
             Storage::Own(entries) => entries.allocator(),
             Storage::Shared(entries) => entries.allocator(),
@@ -113,7 +111,7 @@ impl<A: Allocator + Copy> Carried<A> {
 
     /// The same entries for another message: the same list if it can be shared, and else a copy. `Err` comes only where there
     /// is no memory for one.
-    pub fn another(&self) -> Result<Carried<A>, AllocError>
+    pub fn another(&self) -> Result<Carried, AllocError>
         ensures { IfOk result (λ carried. carried ≡ self.now) }
     {
         match self.share() {

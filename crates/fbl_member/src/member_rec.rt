@@ -9,7 +9,7 @@ use crate::buffers::Buffers;
 use crate::wire::Wire;
 use fbl_table::Table;
 use fbl_trace::{Behaviour, Config, Content, Determinant, Member, Note, Outcome};
-use std::alloc::{AllocError, Allocator, Global};
+use std::alloc::{AllocError, Global};
 use std::marker::Model;
 
 /// What a member keeps in memory: its state, how many receipts it has had, the number of the last message from each
@@ -17,15 +17,15 @@ use std::marker::Model;
 ///
 /// Where a call that takes memory answers `Err`, there was too little of it, and what the call was lent is as it was.
 #[derive(Drop)]
-pub struct MemberRec<S = u64, N = Note, A: Allocator = Global> {
+pub struct MemberRec<S = u64, N = Note> {
     state: S,
     received: u32,
     last: [u32; 16],
-    log: Vec<(Member, N), A>,
-    table: Table<A>,
+    log: Vec<(Member, N)>,
+    table: Table,
 }
 
-impl<S, N, A: Allocator> Model for MemberRec<S, N, A> {
+impl<S, N> Model for MemberRec<S, N> {
     ghost use Rattle.fbl_member.specs.Members.{MemberRecord};
 
     ghost Value = { MemberRecord S N };
@@ -49,15 +49,15 @@ impl<S, N, A: Allocator> Model for MemberRec<S, N, A> {
     ghost invariant = { λ m. (length m.last ≡ 16) × (m.received ≤ 8192) × (length m.log.items ≤ 8192) };
 }
 
-impl<S: Copy, N: Content, A: Allocator + Copy> MemberRec<S, N, A> {
+impl<S: Copy, N: Content> MemberRec<S, N> {
     /// A member in this state that has received nothing and sent its starts, in their order, with the numbers 1, 2, and so
     /// on. `Err` comes only where there is no memory for the log.
     pub fn fresh(
-        alloc: A,
-        config: &Config<N, A>,
+        alloc: Global,
+        config: &Config<N>,
         initial: S,
         me: Member,
-    ) -> Result<MemberRec<S, N, A>, AllocError>
+    ) -> Result<MemberRec<S, N>, AllocError>
         ensures { IfOk result (λ m. m ≡ fresh initial me config.now.starts) }
     {
         // the configuration's rules say that there are few starts, so that the log is not too long
@@ -80,7 +80,7 @@ impl<S: Copy, N: Content, A: Allocator + Copy> MemberRec<S, N, A> {
     /// A member in this state that has received nothing and sent nothing. `f` is how many members of its group may be lost at once:
     /// the member's table finds fast what at most that many are known to hold. It changes no answer. No memory is
     /// taken.
-    pub fn blank(alloc: A, f: u8, initial: S) -> MemberRec<S, N, A>
+    pub fn blank(alloc: Global, f: u8, initial: S) -> MemberRec<S, N>
         ensures { result ≡ blank initial }
     {
         MemberRec {
@@ -93,7 +93,7 @@ impl<S: Copy, N: Content, A: Allocator + Copy> MemberRec<S, N, A> {
     }
 
     /// An equal record: state, counts, log and table. `Err` comes for lack of memory, and the record is unchanged then.
-    pub fn copy(&self) -> Result<MemberRec<S, N, A>, AllocError>
+    pub fn copy(&self) -> Result<MemberRec<S, N>, AllocError>
         ensures { IfOk result (λ m. m ≡ self.now) }
     {
         self.copy_with(self.table.copy()?)
@@ -101,7 +101,7 @@ impl<S: Copy, N: Content, A: Allocator + Copy> MemberRec<S, N, A> {
 
     /// A record with this table, and equal to this one in state, counts and log. `Err` comes for lack of memory, and the
     /// record is unchanged then.
-    pub fn copy_with(&self, table: Table<A>) -> Result<MemberRec<S, N, A>, AllocError>
+    pub fn copy_with(&self, table: Table) -> Result<MemberRec<S, N>, AllocError>
         ensures { IfOk result (λ m. m ≡ record self.now { table = table }) }
     {
         let log = Vec::from_slice(*self.log.allocator(), self.log.as_slice())?;
@@ -131,9 +131,9 @@ impl<S: Copy, N: Content, A: Allocator + Copy> MemberRec<S, N, A> {
         me: Member,
         n: u8,
         f: u8,
-        wire: &Wire<N, A>,
+        wire: &Wire<N>,
         outcome: &Outcome<S, N>,
-    ) -> Result<Vec<Wire<N, A>, A>, AllocError>
+    ) -> Result<Vec<Wire<N>>, AllocError>
         requires least { 2 ≤ n }
         requires most { n ≤ 16 }
         requires member { me < n }
@@ -168,7 +168,7 @@ impl<S: Copy, N: Content, A: Allocator + Copy> MemberRec<S, N, A> {
     }
 
     /// The determinant of the member's next receipt, if it is of this message.
-    fn next_determinant(&self, me: Member, wire: &Wire<N, A>) -> Determinant
+    fn next_determinant(&self, me: Member, wire: &Wire<N>) -> Determinant
         requires { self.now.received < 8192 }
         ensures { result ≡ next_determinant me self.now wire.now.from wire.now.ssn }
     {
@@ -211,14 +211,14 @@ impl<S: Copy, N: Content, A: Allocator + Copy> MemberRec<S, N, A> {
     }
 
     /// Puts this table in the place of the member's.
-    pub fn set_table(&mut self, table: Table<A>)
+    pub fn set_table(&mut self, table: Table)
         ensures { self.new ≡ record self.old { table = table } }
     {
         self.table = table;
     }
 
     /// The member's table.
-    pub fn table(&self) -> &Table<A>
+    pub fn table(&self) -> &Table
         ensures { result.now ≡ self.now.table }
     {
         &self.table
@@ -242,7 +242,7 @@ impl<S: Copy, N: Content, A: Allocator + Copy> MemberRec<S, N, A> {
 
     /// The messages to a member with numbers beyond this one, in order, each with its number. `Err` comes only where
     /// there is no memory for the list.
-    pub fn unsent_beyond(&self, to: Member, ssn: u32) -> Result<Vec<(u32, N), A>, AllocError>
+    pub fn unsent_beyond(&self, to: Member, ssn: u32) -> Result<Vec<(u32, N)>, AllocError>
         ensures { IfOk result (λ v. v.items ≡ logged_beyond self.now.log to ssn) }
     {
         let mut beyond = Vec::new(*self.log.allocator());

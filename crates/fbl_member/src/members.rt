@@ -5,14 +5,14 @@ ghost use Rattle.fbl_member.specs.Members.{fresh, blank};
 
 use crate::member_rec::MemberRec;
 use fbl_trace::{Behaviour, Config, Member};
-use std::alloc::{AllocError, Allocator};
+use std::alloc::{AllocError, Global};
 
 /// The members of a group of these parameters, each in its first state, with its starts sent and nothing received. `Err` comes only where there
 /// is no memory for them.
-pub fn fresh_members<B: Behaviour, A: Allocator + Copy>(
-    alloc: A,
-    config: &Config<B::Note, A>,
-) -> Result<Vec<MemberRec<B::State, B::Note, A>, A>, AllocError>
+pub fn fresh_members<B: Behaviour>(
+    alloc: Global,
+    config: &Config<B::Note>,
+) -> Result<Vec<MemberRec<B::State, B::Note>>, AllocError>
     ensures size { IfOk result (λ members. length members.items ≡ config.now.members) }
     ensures fresh { IfOk result
         (λ members. (m : ℕ) → m < config.now.members

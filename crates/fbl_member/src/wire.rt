@@ -6,21 +6,20 @@ ghost use Rattle.fbl_member.specs.Carried.{IsOnce};
 use crate::carried::Carried;
 use fbl_table::Entry;
 use fbl_trace::{Member, Note};
-use std::alloc::{Allocator, Global};
 use std::marker::Model;
 
 /// A message in flight, with the entries that it carries: those that its sender knew at most `f` members to hold when
 /// the message was made, or made again. It carries each determinant once.
 #[derive(Drop)]
-pub struct Wire<N = Note, A: Allocator = Global> {
+pub struct Wire<N = Note> {
     from: Member,
     to: Member,
     ssn: u32,
     note: N,
-    carried: Carried<A>,
+    carried: Carried,
 }
 
-impl<N, A: Allocator> Model for Wire<N, A> {
+impl<N> Model for Wire<N> {
     ghost use Rattle.fbl_member.specs.Members.{Message};
 
     ghost Value = { Message N };
@@ -37,10 +36,10 @@ impl<N, A: Allocator> Model for Wire<N, A> {
     ghost invariant = { λ w. IsOnce w.carried };
 }
 
-impl<N: Copy, A: Allocator> Wire<N, A> {
+impl<N: Copy> Wire<N> {
     /// A message with these ends, this number among its sender's, this content and these entries, of which no two have the
     /// same determinant. It takes no memory.
-    pub fn new(from: Member, to: Member, ssn: u32, note: N, carried: Carried<A>) -> Wire<N, A>
+    pub fn new(from: Member, to: Member, ssn: u32, note: N, carried: Carried) -> Wire<N>
         requires { IsOnce carried }
         ensures { result ≡ record { from = from; to = to; ssn = ssn; note = note; carried = carried } }
     {
@@ -97,7 +96,7 @@ impl<N: Copy, A: Allocator> Wire<N, A> {
     }
 
     /// What it carries, for another message of the same step, if the list can be shared.
-    pub(crate) fn share_carried(&self) -> Option<Carried<A>>
+    pub(crate) fn share_carried(&self) -> Option<Carried>
         ensures { IfSome result (λ carried. carried ≡ self.now.carried) }
     {
         self.carried.share()

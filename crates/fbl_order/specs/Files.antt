@@ -64,14 +64,14 @@ IsFirstOutside strikes n found =
 -- ---- unions
 
 -- what a dump says of the group, and what a log does
-abbrev pub dump_group : {A : Type 0} → RawDump A → RunGroup
+abbrev pub dump_group : RawDump → RunGroup
 dump_group file = record { members = file.members; f = file.f; strike = file.strike }
 
 abbrev pub log_group : RawLog → RunGroup
 log_group file = record { members = file.members; f = file.f; strike = file.strike }
 
 -- the whole has the group of the files, and their events and pairs in their order
-pub record IsUnionOfDumps {A : Type 0} (files : List (RawDump A)) (whole : Parts) : Type 0 where
+pub record IsUnionOfDumps (files : List RawDump) (whole : Parts) : Type 0 where
   pub group : IsUnion dump_group files (record { members = whole.members; f = whole.f; strike = whole.strike })
   pub events : whole.events ≡ flat_map (λ file. file.events.items) files
   pub held : whole.held ≡ flat_map (λ file. file.held.items) files

@@ -120,46 +120,61 @@ impl Entry {
     }
 }
 
-/// As a log has it, as in `["hold",1,0,1,1,1]`, `["store",1,0,1,1,1]`, `["tell",0,1,7]`, `["told",1,0,7]`, `["receipt",1,1,0,1,2]` and
-/// `["restart",0,2,3,1]`.
+/// Writes an entry of this word that says of a member who has what, or where it is stored.
+fn write_recorded<W: fmt::Write>(
+    f: &mut fmt::Formatter<W>,
+    word: &str,
+    member: Member,
+    determinant: Determinant,
+) -> fmt::Result {
+    let Determinant { from, ssn, to, rsn } = determinant;
+    write!(f, "[\"{word}\",{member},{from},{ssn},{to},{rsn}]")
+}
+
+/// Writes an entry of this word that the first member has of a control message between the two.
+fn write_control<W: fmt::Write>(
+    f: &mut fmt::Formatter<W>,
+    word: &str,
+    member: Member,
+    other: Member,
+    id: u32,
+) -> fmt::Result {
+    write!(f, "[\"{word}\",{member},{other},{id}]")
+}
+
+/// As a log has it, as in `["restart",0,2,3,1]`.
+impl fmt::Display for Restart {
+    fn fmt<W: fmt::Write>(&self, f: &mut fmt::Formatter<W>) -> fmt::Result {
+        let Restart {
+            member,
+            life,
+            receipts,
+            sends,
+        } = self;
+        write!(f, "[\"restart\",{member},{life},{receipts},{sends}]")
+    }
+}
+
+/// As a log has it, as in `["hold",1,0,1,1,1]`, `["store",1,0,1,1,1]`, `["tell",0,1,7]`, `["told",1,0,7]` and `["receipt",1,1,0,1,2]`.
 impl fmt::Display for Entry {
     fn fmt<W: fmt::Write>(&self, f: &mut fmt::Formatter<W>) -> fmt::Result {
-        match self {
-            Entry::Event(event) => write!(f, "{event}"),
+        match *self {
+            Entry::Event(event) => fmt::Display::fmt(&event, f),
             Entry::Hold {
                 holder,
                 determinant,
-            } => {
-                let Determinant { from, ssn, to, rsn } = determinant;
-                write!(f, "[\"hold\",{holder},{from},{ssn},{to},{rsn}]")
-            }
+            } => write_recorded(f, "hold", holder, determinant),
             Entry::Store {
                 member,
                 determinant,
-            } => {
-                let Determinant { from, ssn, to, rsn } = determinant;
-                write!(f, "[\"store\",{member},{from},{ssn},{to},{rsn}]")
-            }
-            Entry::Tell(ControlMessage { from, to, id }) => write!(
-                f,
-                "[\"tell\",{from},{to},{id}]"
-            ),
-            Entry::Told(ControlMessage { from, to, id }) => write!(
-                f,
-                "[\"told\",{to},{from},{id}]"
-            ),
+            } => write_recorded(f, "store", member, determinant),
+            Entry::Tell(message) => write_control(f, "tell", message.from, message.to, message.id),
+            Entry::Told(message) => write_control(f, "told", message.to, message.from, message.id),
             Entry::LaterReceipt { determinant, life } => {
                 let Determinant { from, ssn, to, rsn } = determinant;
                 write!(f, "[\"receipt\",{to},{rsn},{from},{ssn},{life}]")
             }
-            Entry::Restart(
-                Restart {
-                    member,
-                    life,
-                    receipts,
-                    sends,
-                },
-            ) => write!(f, "[\"restart\",{member},{life},{receipts},{sends}]"),
+            Entry::Restart(restart) => fmt::Display::fmt(&restart, f),
         }
     }
 }

@@ -113,11 +113,11 @@ pub index-put : (f : ℕ) (es : Pairs) (i : ℕ) (v w : set.FinSet nat_cmp) → 
     → (open_places : List ℕ) → IsIndex f (map entry_of es) open_places stale → IsIndex f (map entry_of (set_value_at es i w)) open_places stale
 index-put f es i v w is less stale stays open_places index = grind (arith, nat_tests, grown-put, places-put)
 
-pub keeps_more : {A : Type 0} {a b c : IndexedEntries A} → KeepsIndex a b → KeepsIndex b c → KeepsIndex a c
+pub keeps_more : {a b c : IndexedEntries} → KeepsIndex a b → KeepsIndex b c → KeepsIndex a c
 keeps_more first second = record { index = λ is. second.index (first.index is); room = omega (arith, first.room, second.room) }
 
 -- an index may be taken for stale
-pub keeps_stale : {A : Type 0} (old : IndexedEntries A) (stale : Bool) → (stale ≡ false → old.stale ≡ false) → KeepsIndex old (record old { stale = stale })
+pub keeps_stale : (old : IndexedEntries) (stale : Bool) → (stale ≡ false → old.stale ≡ false) → KeepsIndex old (record old { stale = stale })
 keeps_stale old stale was = grind (arith, nat_tests)
 
 -- an entry more makes at most one more to pass on

@@ -26,18 +26,18 @@ pub record IsIndex (f : ℕ) (table : List Entry) (open_places : List ℕ) (stal
   pub exact : stale ≡ false → open_places ≡ places_of_open f 0 table
 
 -- the entries in their order
-abbrev pub listed : {A : Type 0} → IndexedEntries A → List Entry
+abbrev pub listed : IndexedEntries → List Entry
 listed t = map entry_of t.entries.entries
 
 -- the places that are kept are an index of the entries
-abbrev pub IsIndexed : {A : Type 0} → IndexedEntries A → Type 0
+abbrev pub IsIndexed : IndexedEntries → Type 0
 IsIndexed t = IsIndex t.limit (listed t) t.open_places.items t.stale
 
 -- for how many entries more there is memory
-abbrev pub room : {A : Type 0} → IndexedEntries A → ℕ
+abbrev pub room : IndexedEntries → ℕ
 room t = min (spare t.entries) (vec_capacity t.open_places - vec_len t.open_places)
 
 -- what each step keeps: an index stays one, and of the room no more is taken than one for each new entry
-pub record KeepsIndex {A : Type 0} (old new : IndexedEntries A) : Type 0 where
+pub record KeepsIndex (old new : IndexedEntries) : Type 0 where
   pub index : IsIndexed old → IsIndexed new
   pub room : length (listed old) + room old ≤ length (listed new) + room new

@@ -11,29 +11,29 @@ use crate::entry::Entry;
 use crate::likely::LikelyPlaces;
 use fbl_trace::{Determinant, Member, MemberSet};
 use indexmap::IndexMap;
-use std::alloc::{AllocError, Allocator};
+use std::alloc::{AllocError, Global};
 use std::hash::{BuildHasherDefault, FoldHasher};
 
 /// Each determinant with the members that are known to hold it.
-type Entries<A> = IndexMap<Determinant, MemberSet, BuildHasherDefault<FoldHasher>, A>;
+type Entries = IndexMap<Determinant, MemberSet, BuildHasherDefault<FoldHasher>>;
 
 /// Entries in the order in which they came, no two of the same determinant, with the places of the open ones: those that at
 /// most `limit` members are known to hold.
 ///
 /// What adds entries has room for them: `reserve` makes it.
 #[derive(Drop)]
-pub(crate) struct IndexedEntries<A: Allocator> {
-    entries: Entries<A>,
-    open_places: Vec<usize, A>,
+pub(crate) struct IndexedEntries {
+    entries: Entries,
+    open_places: Vec<usize>,
     /// Whether an entry may have closed since the open places were last gone over. While none has, each of them is open.
     stale: bool,
-    likely_places: LikelyPlaces<A>,
+    likely_places: LikelyPlaces,
     limit: u8,
 }
 
-impl<A: Allocator + Copy> IndexedEntries<A> {
+impl IndexedEntries {
     /// No entries. It takes no memory.
-    pub(crate) fn none(alloc: A, limit: u8) -> IndexedEntries<A>
+    pub(crate) fn none(alloc: Global, limit: u8) -> IndexedEntries
         ensures entries { listed result ≡ [] }
         ensures indexed { IsIndexed result }
     {
@@ -48,7 +48,7 @@ impl<A: Allocator + Copy> IndexedEntries<A> {
 
     /// The same entries with the same limit, in the same allocator's memory. `Err` comes only where there is no memory for
     /// them.
-    pub(crate) fn copy(&self) -> Result<IndexedEntries<A>, AllocError>
+    pub(crate) fn copy(&self) -> Result<IndexedEntries, AllocError>
         requires { IsIndexed self.now }
         ensures entries { IfOk result (λ copy. listed copy ≡ listed self.now) }
         ensures limit { IfOk result (λ copy. copy.limit ≡ self.now.limit) }
@@ -64,7 +64,7 @@ impl<A: Allocator + Copy> IndexedEntries<A> {
     }
 
     /// Where the entries' memory comes from.
-    pub(crate) fn allocator(&self) -> A {
+    pub(crate) fn allocator(&self) -> Global {
         *self.entries.allocator()
     }
 
@@ -191,7 +191,7 @@ impl<A: Allocator + Copy> IndexedEntries<A> {
     }
 
     /// Takes in another table's entries. After `Err` there are the same entries.
-    pub(crate) fn gather(&mut self, other: &IndexedEntries<A>) -> Result<(), AllocError>
+    pub(crate) fn gather(&mut self, other: &IndexedEntries) -> Result<(), AllocError>
         ensures gathered { OnOk result (listed self.new ≡ gathered (listed self.old) (listed other.now)) }
         ensures unchanged { OnErr result (listed self.new ≡ listed self.old) }
         ensures kept { KeepsIndex self.old self.new }
@@ -208,7 +208,7 @@ impl<A: Allocator + Copy> IndexedEntries<A> {
     }
 
     /// At how many places, from the first on, both have an entry of the same determinant.
-    fn shared_places(&self, other: &IndexedEntries<A>) -> usize
+    fn shared_places(&self, other: &IndexedEntries) -> usize
         ensures len { result ≤ length (listed other.now) }
         ensures same { HasInPlace result (listed self.now) (listed other.now) }
     {
@@ -224,7 +224,7 @@ impl<A: Allocator + Copy> IndexedEntries<A> {
     /// How many of the other's determinants beyond the first places there may be no entry of: at least as many as there are.
     /// What is not at its likely place counts as lacking: to hash each new one here and once more when it is added would cost
     /// more than the room.
-    fn lacking_beyond(&self, other: &IndexedEntries<A>, shared: usize) -> usize
+    fn lacking_beyond(&self, other: &IndexedEntries, shared: usize) -> usize
         ensures { count_by (lacks (listed self.now)) (drop shared (listed other.now)) ≤ result }
     {
         let mut lacking = 0;
@@ -236,7 +236,7 @@ impl<A: Allocator + Copy> IndexedEntries<A> {
     }
 
     /// Unites what is known of the determinants at the first places with what another knows, which has the same ones there.
-    fn unite_shared(&mut self, other: &IndexedEntries<A>, shared: usize)
+    fn unite_shared(&mut self, other: &IndexedEntries, shared: usize)
         requires len { shared ≤ length (listed other.now) }
         requires same { HasInPlace shared (listed self.old) (listed other.now) }
         ensures entries { listed self.new ≡ gathered (listed self.old) (take shared (listed other.now)) }
@@ -382,7 +382,7 @@ impl<A: Allocator + Copy> IndexedEntries<A> {
     }
 
     /// Puts the entries that at most `f` members are known to hold at the end of the list, which has room for them.
-    pub(crate) fn piggyback_into(&self, f: u8, carried: &mut Vec<Entry, A>)
+    pub(crate) fn piggyback_into(&self, f: u8, carried: &mut Vec<Entry>)
         requires indexed { IsIndexed self.now }
         requires room { vec_len carried.old + length (piggybacked f (listed self.now)) ≤ vec_capacity carried.old }
         ensures { carried.new.items ≡ carried.old.items ++ piggybacked f (listed self.now) }
@@ -395,7 +395,7 @@ impl<A: Allocator + Copy> IndexedEntries<A> {
     }
 
     /// Does what `piggyback_into` does, over all entries.
-    fn push_all(&self, f: u8, carried: &mut Vec<Entry, A>)
+    fn push_all(&self, f: u8, carried: &mut Vec<Entry>)
         requires { vec_len carried.old + length (piggybacked f (listed self.now)) ≤ vec_capacity carried.old }
         ensures { carried.new.items ≡ carried.old.items ++ piggybacked f (listed self.now) }
     {
@@ -405,7 +405,7 @@ impl<A: Allocator + Copy> IndexedEntries<A> {
     }
 
     /// Does what `piggyback_into` does for `limit`: the entries at the open places are those that it puts there.
-    fn push_open(&self, carried: &mut Vec<Entry, A>)
+    fn push_open(&self, carried: &mut Vec<Entry>)
         requires indexed { IsIndexed self.now }
         requires exact { self.now.stale ≡ false }
         requires room { vec_len carried.old + length (piggybacked self.now.limit (listed self.now)) ≤ vec_capacity carried.old }
@@ -418,7 +418,7 @@ impl<A: Allocator + Copy> IndexedEntries<A> {
 }
 
 /// Puts the entry at the end of the list, which has room for it, if at most `f` members are known to hold it.
-fn push_if_open<A: Allocator>(carried: &mut Vec<Entry, A>, entry: Entry, f: u8)
+fn push_if_open(carried: &mut Vec<Entry>, entry: Entry, f: u8)
     requires { vec_len carried.old + length (piggybacked f (entry ∷ [])) ≤ vec_capacity carried.old }
     ensures items { carried.new.items ≡ carried.old.items ++ piggybacked f (entry ∷ []) }
     ensures room { vec_capacity carried.new ≡ vec_capacity carried.old }
@@ -429,12 +429,7 @@ fn push_if_open<A: Allocator>(carried: &mut Vec<Entry, A>, entry: Entry, f: u8)
 }
 
 /// Puts the entry's place at the end of the list, which has room for it, if at most `limit` members are known to hold it.
-fn push_place_if_open<A: Allocator>(
-    places: &mut Vec<usize, A>,
-    place: usize,
-    entry: Entry,
-    limit: u8,
-)
+fn push_place_if_open(places: &mut Vec<usize>, place: usize, entry: Entry, limit: u8)
     requires { vec_len places.old < vec_capacity places.old }
     ensures items { places.new.items ≡ places.old.items ++ (if is_open limit entry then place ∷ [] else []) }
     ensures room { vec_capacity places.old - vec_len places.old ≤ vec_capacity places.new - vec_len places.new + 1 }
@@ -453,7 +448,7 @@ fn closes(before: MemberSet, now: MemberSet, limit: u8) -> bool
 }
 
 /// Whether at most `limit` members are known to hold the determinant at the place.
-fn is_open<A: Allocator>(entries: &Entries<A>, place: usize, limit: u8) -> bool
+fn is_open(entries: &Entries, place: usize, limit: u8) -> bool
     ensures { result ≡ open_at limit (map entry_of entries.now.entries) place }
 {
     match get_entry(entries, place) {
@@ -464,7 +459,7 @@ fn is_open<A: Allocator>(entries: &Entries<A>, place: usize, limit: u8) -> bool
 
 /// The entry at the place, if there is one.
 #[tactic(auto, using(crate::proofs::Common::slice_get_map))]
-fn get_entry<A: Allocator>(entries: &Entries<A>, place: usize) -> Option<Entry>
+fn get_entry(entries: &Entries, place: usize) -> Option<Entry>
     ensures { result ≡ slice_get (map entry_of entries.now.entries) place }
 {
     match entries.get_index(place) {

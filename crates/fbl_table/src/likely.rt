@@ -1,33 +1,31 @@
 //! Where the entries of receipts probably stand.
 
 use fbl_trace::{Determinant, MOST_EVENTS};
-use std::alloc::{AllocError, Allocator};
+use std::alloc::{AllocError, Global};
 
 /// The places at which the entries of receipts were put, by receiver and receipt number. They change no answer: what stands at
 /// a place is looked at before the place is given, and an entry whose place is not kept is found by its hash. No place is kept
 /// for a receipt number beyond those of a trace.
 #[derive(Drop)]
-pub(crate) struct LikelyPlaces<A: Allocator> {
-    by_receiver: Vec<Vec<u32, A>, A>,
+pub(crate) struct LikelyPlaces {
+    by_receiver: Vec<Vec<u32>>,
 }
 
-impl<A: Allocator + Copy> LikelyPlaces<A> {
+impl LikelyPlaces {
     /// No places. It takes no memory.
-    pub(crate) fn none(alloc: A) -> LikelyPlaces<A> {
+    pub(crate) fn none(alloc: Global) -> LikelyPlaces {
         LikelyPlaces {
             by_receiver: Vec::new(alloc),
         }
     }
 
     /// The same places. `Err` comes only where there is no memory for them.
-    pub(crate) fn copy(&self) -> Result<LikelyPlaces<A>, AllocError> {
+    pub(crate) fn copy(&self) -> Result<LikelyPlaces, AllocError> {
         Ok(LikelyPlaces {
             by_receiver: self.by_receiver.clone()?,
         })
     }
-}
 
-impl<A: Allocator> LikelyPlaces<A> {
     /// Where the determinant's entry probably stands, or 0 if no place of it is kept.
     #[inline(always)]
     pub(crate) fn place(&self, det: &Determinant) -> usize {
@@ -41,10 +39,7 @@ impl<A: Allocator> LikelyPlaces<A> {
     }
 
     /// Keeps the place of the determinant's entry, if there is memory for that.
-    pub(crate) fn keep(&mut self, det: &Determinant, place: usize)
-    where
-        A: Copy,
-    {
+    pub(crate) fn keep(&mut self, det: &Determinant, place: usize) {
         if det.rsn <= MOST_EVENTS {
             if let Ok(place) = u32::try_from(place) {
                 let _ = self.try_keep(det, place);
@@ -53,10 +48,7 @@ impl<A: Allocator> LikelyPlaces<A> {
     }
 
     /// Keeps the place, or doesn't where there is no memory for it.
-    fn try_keep(&mut self, det: &Determinant, place: u32) -> Result<(), AllocError>
-    where
-        A: Copy,
-    {
+    fn try_keep(&mut self, det: &Determinant, place: u32) -> Result<(), AllocError> {
         let receiver = usize::from(det.to.number());
         let rsn = det.rsn as usize;
         if self.by_receiver.len() <= receiver {

@@ -6,16 +6,16 @@ ghost use Rattle.fbl_table.specs.Receipts.{receipt_at, IsByNumber};
 
 use crate::table::Table;
 use fbl_trace::{Determinant, Member};
-use std::alloc::{AllocError, Allocator, Global};
+use std::alloc::{AllocError, Global};
 use std::marker::Model;
 
 /// The determinants of one member's receipts, each at the place of its receipt number, so that one is found at once.
 #[derive(Drop)]
-pub struct Receipts<A: Allocator = Global> {
-    places: Vec<Option<Determinant>, A>,
+pub struct Receipts {
+    places: Vec<Option<Determinant>>,
 }
 
-impl<A: Allocator> Model for Receipts<A> {
+impl Model for Receipts {
     ghost use Rattle.std.specs.Prelude.{List, Option};
     ghost use Rattle.fbl_trace.specs.declared.trace.Determinant.{Determinant};
 
@@ -29,9 +29,9 @@ impl<A: Allocator> Model for Receipts<A> {
     ghost view = { λ r. r.places.items };
 }
 
-impl<A: Allocator + Copy> Receipts<A> {
+impl Receipts {
     /// No receipts. It takes no memory.
-    pub fn none(alloc: A) -> Receipts<A>
+    pub fn none(alloc: Global) -> Receipts
         ensures { result ≡ [] }
     {
         Receipts {
@@ -42,11 +42,11 @@ impl<A: Allocator + Copy> Receipts<A> {
     /// The member's receipts beyond its first `count` that the table has, of several with one number the first. It goes over
     /// the table once, and takes memory for each number up to the greatest. `Err` comes only where there is no memory for them.
     pub fn of_member(
-        alloc: A,
-        table: &Table<A>,
+        alloc: Global,
+        table: &Table,
         member: Member,
         count: u32,
-    ) -> Result<Receipts<A>, AllocError>
+    ) -> Result<Receipts, AllocError>
         ensures { IfOk result (IsByNumber member count table.now) }
     {
         let mut places = Vec::new(alloc);
@@ -78,8 +78,8 @@ fn is_beyond(determinant: Determinant, member: Member, count: u32) -> bool
 }
 
 /// Puts the determinant at the place of its receipt number, unless there is one already.
-fn put_first<A: Allocator>(
-    places: &mut Vec<Option<Determinant>, A>,
+fn put_first(
+    places: &mut Vec<Option<Determinant>>,
     determinant: Determinant,
 ) -> Result<(), AllocError>
     ensures { OnOk result

@@ -7,7 +7,7 @@ ghost use Rattle.fbl_table.specs.Tables.{IsOnce, is_held, found, greatest_rsn, l
 use crate::entry::Entry;
 use crate::indexed::IndexedEntries;
 use fbl_trace::{Determinant, Member, MemberSet};
-use std::alloc::{AllocError, Allocator, Global};
+use std::alloc::{AllocError, Global};
 use std::marker::Model;
 
 /// Determinants in the order in which they came, no two the same, each with the members that are known to hold it.
@@ -15,11 +15,11 @@ use std::marker::Model;
 /// It keeps the places of the entries that at most `limit` members are known to hold. Where a call that takes memory
 /// answers `Err`, there was too little of it, and the table is as it was.
 #[derive(Drop)]
-pub struct Table<A: Allocator = Global> {
-    entries: IndexedEntries<A>,
+pub struct Table {
+    entries: IndexedEntries,
 }
 
-impl<A: Allocator> Model for Table<A> {
+impl Model for Table {
     ghost use Rattle.std.specs.Prelude.{List};
     ghost use Rattle.fbl_table.specs.declared.entry.Entry.{Entry};
 
@@ -39,10 +39,10 @@ impl<A: Allocator> Model for Table<A> {
     ghost invariant = { λ t. IsIndexed t.entries };
 }
 
-impl<A: Allocator + Copy> Table<A> {
+impl Table {
     /// No entries, for a group of any size. The limit is 15: a group has at most 16 members, so at most 15 of them may
     /// be lost at once, and passing on is fast for each such number. It takes no memory.
-    pub fn new(alloc: A) -> Table<A>
+    pub fn new(alloc: Global) -> Table
         ensures { result ≡ [] }
     {
         Table::for_limit(alloc, 15)
@@ -50,7 +50,7 @@ impl<A: Allocator + Copy> Table<A> {
 
     /// No entries. What at most `limit` members are known to hold is found fast: give the number of members that may be
     /// lost at once. It changes no answer, and takes no memory.
-    pub fn for_limit(alloc: A, limit: u8) -> Table<A>
+    pub fn for_limit(alloc: Global, limit: u8) -> Table
         ensures { result ≡ [] }
     {
         Table {
@@ -154,7 +154,7 @@ impl<A: Allocator + Copy> Table<A> {
 
     /// The entries that at most `f` members are known to hold, in the table's order. `Err` comes only where there is no
     /// memory for the list.
-    pub fn piggyback(&self, f: u8) -> Result<Vec<Entry, A>, AllocError>
+    pub fn piggyback(&self, f: u8) -> Result<Vec<Entry>, AllocError>
         ensures { IfOk result (λ v. v.items ≡ piggybacked f self.now) }
     {
         let most = self.entries.at_most_open(f);
@@ -164,7 +164,7 @@ impl<A: Allocator + Copy> Table<A> {
     }
 
     /// Puts the entries that at most `f` members are known to hold at the end of the list, which has room for them.
-    pub fn piggyback_into(&self, f: u8, carried: &mut Vec<Entry, A>)
+    pub fn piggyback_into(&self, f: u8, carried: &mut Vec<Entry>)
         requires { vec_len carried.old + length (piggybacked f self.now) ≤ vec_capacity carried.old }
         ensures { carried.new.items ≡ carried.old.items ++ piggybacked f self.now }
     {
@@ -185,7 +185,7 @@ impl<A: Allocator + Copy> Table<A> {
     /// order. After `Err` the table is unchanged.
     ///
     /// Where there are no entries yet the table becomes a copy of the other, and no entry is sought.
-    pub fn gather(&mut self, other: &Table<A>) -> Result<(), AllocError>
+    pub fn gather(&mut self, other: &Table) -> Result<(), AllocError>
         ensures gathered { OnOk result (self.new ≡ gathered self.old other.now) }
         ensures unchanged { OnErr result (self.new ≡ self.old) }
     {
@@ -206,7 +206,7 @@ impl<A: Allocator + Copy> Table<A> {
     }
 
     /// An equal table, in the same allocator's memory. `Err` comes only where there is no memory for it.
-    pub fn copy(&self) -> Result<Table<A>, AllocError>
+    pub fn copy(&self) -> Result<Table, AllocError>
         ensures { IfOk result (λ t. t ≡ self.now) }
     {
         Ok(Table {

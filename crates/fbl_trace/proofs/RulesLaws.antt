@@ -176,11 +176,11 @@ may n t few (Send q s p) h = (h.0.0, h.0.1, h.0.2, h.1, few)
 may n t few (Receipt p r q s) h = (h.0.0, h.0.1, h.0.2, h.1, few, h.2)
 
 -- the number that an event has to have by the counts is that by the trace
-next_counted : {A : Type 0} (t : List Mark) (c : Counts A) → Counted t c → (e : Mark) → source_of e < 16 → destination_of e < 16 → next_by c e ≡ next_number t e
+next_counted : (t : List Mark) (c : Counts) → Counted t c → (e : Mark) → source_of e < 16 → destination_of e < 16 → next_by c e ≡ next_number t e
 next_counted t c counted e below_q below_p = grind (arith, nat_tests)
 
 -- and so is the verdict on it
-module _ {A : Type 0} (n : ℕ) (t : List Mark) (c : Counts A) (counted : Counted t c) (few : length t < 8192) (e : Mark) (ends : (source_of e < 16) × (destination_of e < 16))
+module _ (n : ℕ) (t : List Mark) (c : Counts) (counted : Counted t c) (few : length t < 8192) (e : Mark) (ends : (source_of e < 16) × (destination_of e < 16))
     (next : ℕ) (first : Option ℕ) (is_next : next ≡ next_by c e) (is_first : first ≡ first_by c e) where
   number : next ≡ next_number t e
   number = is_next ∙ next_counted t c counted e ends.0 ends.1
@@ -191,7 +191,7 @@ module _ {A : Type 0} (n : ℕ) (t : List Mark) (c : Counts A) (counted : Counte
   pub judged : (found : Option EventRule) → MatchOption found (FitsEvent n e next first) (λ _. ¬ (FitsEvent n e next first)) → MatchOption found (MayFollow n t e) (λ _. ¬ (MayFollow n t e))
   judged found h = grind (arith, nat_tests, may, number, message, fits)
 
-module _ {A : Type 0} (n : ℕ) (t : List Mark) (c d : Counts A) (most : n ≤ 16) (obeys : WellFormed n t) (counted : Counted t c) where
+module _ (n : ℕ) (t : List Mark) (c d : Counts) (most : n ≤ 16) (obeys : WellFormed n t) (counted : Counted t c) where
   -- the count of a member that has one event more of the kind, and the others' as they were
   count_now : (kind : ℕ → Mark → Bool) (old new : List ℕ) (e : Mark) (m k : ℕ) → (length old ≡ 16) × ((x : ℕ) → x < 16 → slice_index old x ≡ count_by (kind x) t)
       → ((x : ℕ) → kind x e ≡ (m == x)) → k ≡ count_by (kind m) t + 1 → new ≡ slice_set old m k → (x : ℕ) → x < 16 → slice_index new x ≡ count_by (kind x) (t ++ e ∷ [])

@@ -54,7 +54,7 @@ abbrev pub WellFormed : ℕ → List Mark → Type 0
 WellFormed n trace = (i : ℕ) → ObeysAt n trace i
 
 -- the counts of sends and receipts, and the numbers in flight on each channel, are those of the trace
-pub record Counted {A : Type 0} (trace : List Mark) (c : Counts A) : Type 0 where
+pub record Counted (trace : List Mark) (c : Counts) : Type 0 where
   pub sends : (q : ℕ) → q < 16 → slice_index c.sends q ≡ sends_of trace q
   pub receipts : (p : ℕ) → p < 16 → slice_index c.receipts p ≡ receipts_of trace p
   pub channels : (q p : ℕ) → q < 16 → p < 16 → slice_index_or c.channels.items (16 * q + p) [] ≡ in_flight trace q p
@@ -63,16 +63,16 @@ pub record Counted {A : Type 0} (trace : List Mark) (c : Counts A) : Type 0 wher
   pub channels_length : length c.channels.items ≡ 256
 
 -- the number that the event has to have, by the counts
-abbrev pub next_by : {A : Type 0} → Counts A → Mark → ℕ
+abbrev pub next_by : Counts → Mark → ℕ
 next_by c (Send from ssn to) = slice_index c.sends from + 1
 next_by c (Receipt to rsn from ssn) = slice_index c.receipts to + 1
 
 -- the first message in flight on its channel, by the counts
-abbrev pub first_by : {A : Type 0} → Counts A → Mark → Option ℕ
+abbrev pub first_by : Counts → Mark → Option ℕ
 first_by c e = slice_get (slice_index_or c.channels.items (16 * source_of e + destination_of e) []) 0
 
 -- the counts with one more event
-abbrev pub CountsEvent : {A : Type 0} → Mark → Counts A → Counts A → Type 0
+abbrev pub CountsEvent : Mark → Counts → Counts → Type 0
 CountsEvent (Send from ssn to) old new =
     (new.sends ≡ slice_set old.sends from ssn)
     × (new.receipts ≡ old.receipts)

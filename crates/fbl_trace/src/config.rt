@@ -9,7 +9,7 @@ use crate::content::Content;
 use crate::fault::Breach;
 use crate::limits::{LEAST_MEMBERS, MOST_EVENTS, MOST_MEMBERS, MOST_STARTS};
 use crate::trace::{Note, Start};
-use std::alloc::{AllocError, Allocator, Global};
+use std::alloc::{AllocError, Global};
 use std::marker::Model;
 use thiserror::Error;
 
@@ -87,14 +87,14 @@ impl ConfigRefusal {
 /// The parameters of a group: how many members it has and how many of them may be lost at once, how many events its
 /// trace may have, and the messages that members send before anything is received.
 #[derive(Drop, Debug)]
-pub struct Config<N: Content = Note, A: Allocator = Global> {
+pub struct Config<N: Content = Note> {
     members: u8,
     f: u8,
     limit: u32,
-    starts: Vec<Start<N>, A>,
+    starts: Vec<Start<N>>,
 }
 
-impl<N: Content, A: Allocator> Model for Config<N, A> {
+impl<N: Content> Model for Config<N> {
     ghost use Rattle.fbl_trace.specs.Configs.{Settings, IsConfig};
 
     ghost Value = { Settings N };
@@ -105,16 +105,16 @@ impl<N: Content, A: Allocator> Model for Config<N, A> {
         (record { members = c.members; f = c.f; limit = c.limit; starts = c.starts.items }) };
 }
 
-impl<N: Content, A: Allocator + Copy> Config<N, A> {
+impl<N: Content> Config<N> {
     /// A configuration of these parameters, with a copy of the starts in the allocator's memory. Where several refusals
     /// hold, the first in the order of `ConfigRefusal` is answered.
     pub fn new(
-        alloc: A,
+        alloc: Global,
         members: u8,
         f: u8,
         limit: u32,
         starts: &[Start<N>],
-    ) -> Result<Config<N, A>, ConfigRefusal>
+    ) -> Result<Config<N>, ConfigRefusal>
         ensures accepted { IfOk result (λ c. c ≡ record { members = members; f = f; limit = limit; starts = starts.now }) }
         ensures rules { IfOk result (IsConfig N.allowed) }
         ensures refused { IfErr result
@@ -180,7 +180,7 @@ impl<N: Content, A: Allocator + Copy> Config<N, A> {
     }
 
     /// Whether the two have the same parameters.
-    pub fn same(&self, other: &Config<N, A>) -> bool
+    pub fn same(&self, other: &Config<N>) -> bool
         ensures { IsTrue result ↔ (self.now ≡ other.now) }
     {
         self.members == other.members
@@ -191,7 +191,7 @@ impl<N: Content, A: Allocator + Copy> Config<N, A> {
 
     /// An equal configuration, in the same allocator's memory. `Err` comes only where there is no memory for the
     /// starts.
-    pub fn copy(&self) -> Result<Config<N, A>, AllocError>
+    pub fn copy(&self) -> Result<Config<N>, AllocError>
         ensures { IfOk result (λ c. c ≡ self.now) }
     {
         Ok(Config {

@@ -8,7 +8,7 @@ ghost use Rattle.fbl_trace.specs.MemberSets.{AllBelow, member_list};
 use crate::fault::Outsider;
 use crate::limits::MOST_MEMBERS;
 use crate::member::Member;
-use std::alloc::{AllocError, Allocator};
+use std::alloc::{AllocError, Global};
 use std::fmt;
 use std::marker::Model;
 
@@ -81,7 +81,7 @@ impl MemberSet {
 
     /// The members, rising. `Err` comes only where there is no memory for the list.
     #[tactic(auto, unfolding(crate::specs::MemberSets::member_list))]
-    pub fn members<A: Allocator + Copy>(self, alloc: A) -> Result<Vec<Member, A>, AllocError>
+    pub fn members(self, alloc: Global) -> Result<Vec<Member>, AllocError>
         ensures { IfOk result (λ v. v.items ≡ member_list self) }
     {
         let mut members = Vec::new(alloc);

@@ -10,7 +10,7 @@ use crate::fault::EventRule;
 use crate::limits::{MOST_EVENTS, MOST_MEMBERS};
 use crate::member::Member;
 use crate::trace::{Mark, end_outside};
-use std::alloc::{AllocError, AllocFailed, Allocator, Global};
+use std::alloc::{AllocError, AllocFailed, Global};
 use std::collections::VecDeque;
 use std::marker::Model;
 
@@ -19,11 +19,11 @@ const CHANNELS: usize = 256;
 
 /// The numbers of the messages in flight on one channel.
 #[derive(Drop)]
-struct Channel<A: Allocator = Global> {
-    numbers: VecDeque<u32, A>,
+struct Channel {
+    numbers: VecDeque<u32>,
 }
 
-impl<A: Allocator> Model for Channel<A> {
+impl Model for Channel {
     ghost use Rattle.std.specs.Prelude.{List, ℕ};
 
     ghost Value = { List ℕ };
@@ -31,8 +31,8 @@ impl<A: Allocator> Model for Channel<A> {
     ghost view = { λ c. c.numbers.items };
 }
 
-impl<A: Allocator> Channel<A> {
-    fn new(alloc: A) -> Channel<A>
+impl Channel {
+    fn new(alloc: Global) -> Channel
         ensures { result ≡ [] }
     {
         Channel {
@@ -61,15 +61,15 @@ impl<A: Allocator> Channel<A> {
 
 /// How many sends and receipts each member has had, and what is in flight on each channel.
 #[derive(Drop)]
-pub struct Counts<A: Allocator = Global> {
+pub struct Counts {
     sends: [u32; 16],
     receipts: [u32; 16],
-    channels: Vec<Channel<A>, A>,
+    channels: Vec<Channel>,
 }
 
-impl<A: Allocator + Copy> Counts<A> {
+impl Counts {
     /// The counts of no events.
-    pub fn new(alloc: A) -> Result<Counts<A>, AllocError>
+    pub fn new(alloc: Global) -> Result<Counts, AllocError>
         ensures { IfOk result (Counted []) }
     {
         let mut channels = Vec::new(alloc);

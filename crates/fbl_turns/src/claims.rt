@@ -7,7 +7,7 @@ ghost use Rattle.atomic_table.specs.Seated.{TableId};
 
 use atomic_table::{Join, Play, Seat, Split, Table, TableRule};
 use fbl_trace::Member;
-use std::alloc::{AllocError, Allocator, Global};
+use std::alloc::{AllocError, Global};
 use std::marker::Model;
 use std::{fmt, mem};
 use thiserror::Error;
@@ -92,11 +92,11 @@ impl fmt::Display for ClaimRefusal {
 /// any two atomic steps a member's word is 0 and no view holds the member, or it is 1 and exactly one view does. No call
 /// takes a lock or waits, and none but `new` takes memory.
 #[derive(Drop)]
-pub struct Claims<A: Allocator = Global> {
-    table: Table<(), View, u8, Exclusive, A>,
+pub struct Claims {
+    table: Table<(), View, u8, Exclusive, Global>,
 }
 
-impl<A: Allocator> Model for Claims<A> {
+impl Model for Claims {
     ghost Value = { TableId };
 
     ghost view = { λ c. c.table.shared.table_id };
@@ -134,9 +134,9 @@ impl Model for Claim {
     ghost invariant = { λ c. (c.seat.me ≡ (Some c.member, [])) × (c.member < c.seat.table_id.words) };
 }
 
-impl<A: Allocator> Claims<A> {
+impl Claims {
     /// A word for each of `n` members, 2 to 16, none of whom is claimed, and the first pass.
-    pub fn new(alloc: A, n: u8) -> Result<(Claims<A>, Pass), ClaimRefusal>
+    pub fn new(alloc: Global, n: u8) -> Result<(Claims, Pass), ClaimRefusal>
         requires { (2 ≤ n) × (n ≤ 16) }
         ensures made { IfOk result (λ r. (r.0.words ≡ n) × (r.1 ≡ r.0)) }
         ensures refused { IfErr result (λ refusal. refusal ≡ ClaimRefusal.Memory) }

@@ -11,9 +11,9 @@ use crate::group::Group;
 use crate::refusals::{CommitRefusal, TakeRefusal};
 use fbl_member::{MemberRec, Wire};
 use fbl_trace::{Behaviour, Content, Exact, Member, Ticket};
-use std::alloc::{AllocError, Allocator};
+use std::alloc::AllocError;
 
-impl<B: Behaviour, A: Allocator + Copy> Group<B, A> {
+impl<B: Behaviour> Group<B> {
     /// What the step of a delivery to one member from another is made from. Nothing changes, and the message stays in
     /// its channel.
     #[tactic(auto, using(std::proofs::lemmas::Bool::Decides::nat_tests))]
@@ -61,7 +61,7 @@ impl<B: Behaviour, A: Allocator + Copy> Group<B, A> {
         }
     }
 
-    fn front(&self, from: Member, to: Member) -> Option<&Wire<B::Note, A>>
+    fn front(&self, from: Member, to: Member) -> Option<&Wire<B::Note>>
         requires from { from < self.now.config.members }
         requires to { to < self.now.config.members }
         ensures some { IfSome result (λ wire. front_of self.now from to ≡ Some wire.now) }
@@ -105,9 +105,9 @@ impl<B: Behaviour, A: Allocator + Copy> Group<B, A> {
     }
 }
 
-fn is_current<S: Exact, N: Content, A: Allocator + Copy>(
-    member: &MemberRec<S, N, A>,
-    wire: &Wire<N, A>,
+fn is_current<S: Exact, N: Content>(
+    member: &MemberRec<S, N>,
+    wire: &Wire<N>,
     ticket: &Ticket<S, N>,
 ) -> bool
     ensures { IsTrue result ↔ IsCurrent member.now wire.now ticket.now }

@@ -9,9 +9,8 @@ use fbl_law::step_laws::{
     none_made_law,
 };
 use fbl_plain::{Upholding, upheld_law};
-use std::alloc::Allocator;
 
-impl<B: Conserving, A: Allocator + Copy> Group<B, A> {
+impl<B: Conserving> Group<B> {
     /// The states and the messages in flight weigh what the first states and the starts do where nobody is down, and those of the
     /// members that are up no more whoever is down.
     pub fn conserved(&self)
@@ -22,7 +21,7 @@ impl<B: Conserving, A: Allocator + Copy> Group<B, A> {
     }
 }
 
-impl<B: Keeping, A: Allocator + Copy> Group<B, A> {
+impl<B: Keeping> Group<B> {
     /// The predicates hold of each state and each checkpoint's, of each message in flight and each send of the trace.
     pub fn kept(&self)
         ensures { HoldsOf self.now (B.states self.now.config) (B.notes self.now.config) }
@@ -32,7 +31,7 @@ impl<B: Keeping, A: Allocator + Copy> Group<B, A> {
     }
 }
 
-impl<B: MakingNone, A: Allocator + Copy> Group<B, A> {
+impl<B: MakingNone> Group<B> {
     /// The states of the members that are up and the messages in flight weigh no more than the first states and the starts.
     pub fn none_made(&self)
         ensures { WeighsNoMore B.next (B.mass self.now.config) (B.weight self.now.config) self.now }
@@ -42,7 +41,7 @@ impl<B: MakingNone, A: Allocator + Copy> Group<B, A> {
     }
 }
 
-impl<B: LosingNone, A: Allocator + Copy> Group<B, A> {
+impl<B: LosingNone> Group<B> {
     /// The states and the messages in flight weigh no less than the first states and the starts where nobody is down.
     pub fn none_lost(&self)
         ensures { WeighsNoLess B.next (B.mass self.now.config) (B.weight self.now.config) self.now }
@@ -52,7 +51,7 @@ impl<B: LosingNone, A: Allocator + Copy> Group<B, A> {
     }
 }
 
-impl<B: Upholding, A: Allocator + Copy> Group<B, A> {
+impl<B: Upholding> Group<B> {
     /// The law of plain networks holds of the states and of what is in flight where nobody is down, and whoever is down of a plain
     /// group that has the same survivors, with the same in flight between them.
     pub fn upheld(&self)

@@ -10,25 +10,24 @@ ghost use Rattle.fbl_group.specs.Strikes.{AreRecordsReplaced};
 use fbl_member::MemberRec;
 use fbl_table::{Receipts, Table};
 use fbl_trace::{Behaviour, Event, Mark, Member, MemberSet};
-use std::alloc::Allocator;
 use std::mem;
 
 /// The records with which the members that are down come back, each at its member's number. Those of the others count for
 /// nothing.
 #[derive(Drop)]
-pub(crate) struct Rebuilt<B: Behaviour, A: Allocator> {
+pub(crate) struct Rebuilt<B: Behaviour> {
     pub(crate) down: MemberSet,
-    pub(crate) records: Vec<MemberRec<B::State, B::Note, A>, A>,
+    pub(crate) records: Vec<MemberRec<B::State, B::Note>>,
     /// How many receipts they have beyond their checkpoints.
     pub(crate) replayed: u32,
     /// What the survivors and these checkpoints know, until the records have it.
-    pub(crate) gathered: Table<A>,
+    pub(crate) gathered: Table,
     /// Of each member that is down the receipts that this has beyond its checkpoint.
-    pub(crate) receipts: Vec<Receipts<A>, A>,
+    pub(crate) receipts: Vec<Receipts>,
 }
 
-impl<B: Behaviour, A: Allocator + Copy> Rebuilt<B, A> {
-    pub(crate) fn put_back(&mut self, members: &mut Vec<MemberRec<B::State, B::Note, A>, A>, n: u8)
+impl<B: Behaviour> Rebuilt<B> {
+    pub(crate) fn put_back(&mut self, members: &mut Vec<MemberRec<B::State, B::Note>>, n: u8)
         requires members { vec_len members.old ≡ n }
         requires records { vec_len self.old.records ≡ n }
         requires few { n ≤ 16 }
@@ -47,7 +46,7 @@ impl<B: Behaviour, A: Allocator + Copy> Rebuilt<B, A> {
     }
 
     /// Drops the events of the members that are down that come after their replay.
-    pub(crate) fn cut(&self, trace: &mut Vec<Event<B::Note>, A>)
+    pub(crate) fn cut(&self, trace: &mut Vec<Event<B::Note>>)
         ensures { trace.new.items ≡ filter (λ e. stays_by self.now.down
             (λ p. slice_index_or self.now.records.items p (blank (B.next.initial 0 0)))
             (mark_of e)) trace.old.items }

@@ -14,12 +14,12 @@ use crate::recovery::Rebuilt;
 use fbl_member::MemberRec;
 use fbl_table::{Receipts, Table};
 use fbl_trace::{Behaviour, Determinant, Member};
-use std::alloc::{AllocError, Allocator};
+use std::alloc::AllocError;
 use std::mem;
 
-impl<B: Behaviour, A: Allocator + Copy> Group<B, A> {
+impl<B: Behaviour> Group<B> {
     /// The records with which the members that are down come back. The others' are blank.
-    pub(crate) fn rebuild(&self) -> Result<Rebuilt<B, A>, AllocError>
+    pub(crate) fn rebuild(&self) -> Result<Rebuilt<B>, AllocError>
         ensures ready { IfOk result (λ rebuilt. IsReady B.next self.now rebuilt.records.items rebuilt.replayed) }
         ensures down { IfOk result (λ rebuilt. rebuilt.down ≡ self.now.down) }
     {
@@ -38,7 +38,7 @@ impl<B: Behaviour, A: Allocator + Copy> Group<B, A> {
     }
 
     /// Gathers the tables, begins at the checkpoints, and replays what the gathered table has.
-    fn replay(&self, rebuilt: &mut Rebuilt<B, A>) -> Result<(), AllocError>
+    fn replay(&self, rebuilt: &mut Rebuilt<B>) -> Result<(), AllocError>
         requires gathered { rebuilt.old.gathered ≡ [] }
         requires receipts { rebuilt.old.receipts.items ≡ [] }
         requires records { rebuilt.old.records.items ≡ [] }
@@ -54,7 +54,7 @@ impl<B: Behaviour, A: Allocator + Copy> Group<B, A> {
 
     /// Gathers the survivors' tables in member order and then those of the checkpoints of the members that are down, where these
     /// count as holders, into an empty one.
-    fn gather_tables(&self, gathered: &mut Table<A>) -> Result<(), AllocError>
+    fn gather_tables(&self, gathered: &mut Table) -> Result<(), AllocError>
         requires { gathered.old ≡ [] }
         ensures { OnOk result (gathered.new ≡ recovery_table (knowledge self.now)) }
     {
@@ -66,7 +66,7 @@ impl<B: Behaviour, A: Allocator + Copy> Group<B, A> {
         Ok(())
     }
 
-    fn gather_checkpoints(&self, gathered: &mut Table<A>) -> Result<(), AllocError>
+    fn gather_checkpoints(&self, gathered: &mut Table) -> Result<(), AllocError>
         ensures { OnOk result (gathered.new ≡ gathered_all gathered.old
             (saved_tables self.now.outside self.now.down self.now.checkpoints
             self.now.config.members)) }
@@ -84,8 +84,8 @@ impl<B: Behaviour, A: Allocator + Copy> Group<B, A> {
     /// list, which is empty.
     fn number_receipts(
         &self,
-        gathered: &Table<A>,
-        receipts: &mut Vec<Receipts<A>, A>,
+        gathered: &Table,
+        receipts: &mut Vec<Receipts>,
     ) -> Result<(), AllocError>
         requires gathered { gathered.now ≡ recovery_table (knowledge self.now) }
         requires empty { receipts.old.items ≡ [] }
@@ -98,11 +98,7 @@ impl<B: Behaviour, A: Allocator + Copy> Group<B, A> {
         Ok(())
     }
 
-    fn number_receipts_of(
-        &self,
-        member: Member,
-        gathered: &Table<A>,
-    ) -> Result<Receipts<A>, AllocError>
+    fn number_receipts_of(&self, member: Member, gathered: &Table) -> Result<Receipts, AllocError>
         requires { member < self.now.config.members }
         ensures { set.contains self.now.down member ≡ true
             → IfOk result (IsByNumber member (member_checkpoint self.now member).received
@@ -125,8 +121,8 @@ impl<B: Behaviour, A: Allocator + Copy> Group<B, A> {
     /// last one the table itself, in the others copies.
     fn begin(
         &self,
-        gathered: &mut Table<A>,
-        rebuilt: &mut Vec<MemberRec<B::State, B::Note, A>, A>,
+        gathered: &mut Table,
+        rebuilt: &mut Vec<MemberRec<B::State, B::Note>>,
     ) -> Result<(), AllocError>
         requires gathered { gathered.old ≡ recovery_table (knowledge self.now) }
         requires empty { rebuilt.old.items ≡ [] }
@@ -146,8 +142,8 @@ impl<B: Behaviour, A: Allocator + Copy> Group<B, A> {
     fn begin_one(
         &self,
         member: Member,
-        gathered: &mut Table<A>,
-    ) -> Result<MemberRec<B::State, B::Note, A>, AllocError>
+        gathered: &mut Table,
+    ) -> Result<MemberRec<B::State, B::Note>, AllocError>
         requires { member < self.now.config.members }
         ensures begun { set.contains self.now.down member ≡ true
             → IfOk result (λ begun. begun ≡ record
@@ -165,7 +161,7 @@ impl<B: Behaviour, A: Allocator + Copy> Group<B, A> {
     }
 
     /// A table equal to the one lent: a copy while a later member is down, which needs it too, and else the table itself.
-    fn table_for(&self, member: Member, gathered: &mut Table<A>) -> Result<Table<A>, AllocError>
+    fn table_for(&self, member: Member, gathered: &mut Table) -> Result<Table, AllocError>
         ensures table { IfOk result (λ table. table ≡ gathered.old) }
         ensures left { (p : ℕ) → member < p → set.contains self.now.down p ≡ true → gathered.new ≡ gathered.old }
     {
@@ -192,8 +188,8 @@ impl<B: Behaviour, A: Allocator + Copy> Group<B, A> {
     /// Rounds of replay, until in one of them no member that is down has a receipt to replay. The answer is how many were replayed.
     fn replay_all(
         &self,
-        receipts: &Vec<Receipts<A>, A>,
-        rebuilt: &mut Vec<MemberRec<B::State, B::Note, A>, A>,
+        receipts: &Vec<Receipts>,
+        rebuilt: &mut Vec<MemberRec<B::State, B::Note>>,
     ) -> Result<u32, AllocError>
         requires numbered { AreByNumber self.now receipts.now.items }
         requires replaying { AreReplaying B.next self.now rebuilt.old.items }
@@ -215,8 +211,8 @@ impl<B: Behaviour, A: Allocator + Copy> Group<B, A> {
     /// Each member that is down tries to replay its next receipt, and the answer is how many did.
     fn replay_round(
         &self,
-        receipts: &Vec<Receipts<A>, A>,
-        rebuilt: &mut Vec<MemberRec<B::State, B::Note, A>, A>,
+        receipts: &Vec<Receipts>,
+        rebuilt: &mut Vec<MemberRec<B::State, B::Note>>,
     ) -> Result<u32, AllocError>
         requires numbered { AreByNumber self.now receipts.now.items }
         requires replaying { AreReplaying B.next self.now rebuilt.old.items }
@@ -236,9 +232,9 @@ impl<B: Behaviour, A: Allocator + Copy> Group<B, A> {
 
     fn replay_next(
         &self,
-        receipts: &Vec<Receipts<A>, A>,
+        receipts: &Vec<Receipts>,
         member: Member,
-        rebuilt: &mut Vec<MemberRec<B::State, B::Note, A>, A>,
+        rebuilt: &mut Vec<MemberRec<B::State, B::Note>>,
     ) -> Result<bool, AllocError>
         requires numbered { AreByNumber self.now receipts.now.items }
         requires down { set.contains self.now.down member ≡ true }
@@ -255,9 +251,9 @@ impl<B: Behaviour, A: Allocator + Copy> Group<B, A> {
 
     fn next_replay(
         &self,
-        receipts: &Vec<Receipts<A>, A>,
+        receipts: &Vec<Receipts>,
         member: Member,
-        rebuilt: &Vec<MemberRec<B::State, B::Note, A>, A>,
+        rebuilt: &Vec<MemberRec<B::State, B::Note>>,
     ) -> Option<(Determinant, B::Note)>
         requires numbered { AreByNumber self.now receipts.now.items }
         requires down { set.contains self.now.down member ≡ true }
@@ -286,9 +282,9 @@ impl<B: Behaviour, A: Allocator + Copy> Group<B, A> {
 
     pub(crate) fn working<'a>(
         &'a self,
-        rebuilt: &'a [MemberRec<B::State, B::Note, A>],
+        rebuilt: &'a [MemberRec<B::State, B::Note>],
         member: Member,
-    ) -> &'a MemberRec<B::State, B::Note, A>
+    ) -> &'a MemberRec<B::State, B::Note>
         requires size { length rebuilt.now ≡ self.now.config.members }
         requires member { member < self.now.config.members }
         ensures { result.now ≡ working self.now rebuilt.now member }

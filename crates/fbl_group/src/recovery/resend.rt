@@ -13,15 +13,15 @@ use fbl_channels::{Channel, Channels, has_either};
 use fbl_member::{Carried, MemberRec, Wire};
 use fbl_table::Table;
 use fbl_trace::{Behaviour, Member};
-use std::alloc::{AllocError, Allocator};
+use std::alloc::{AllocError, Global};
 use std::collections::VecDeque;
 
-impl<B: Behaviour, A: Allocator + Copy> Group<B, A> {
+impl<B: Behaviour> Group<B> {
     /// The channels made again: on each with an end that is down what its sender sends again, and nothing on the others.
     pub(crate) fn resend(
         &self,
-        rebuilt: &[MemberRec<B::State, B::Note, A>],
-    ) -> Result<Channels<B::Note, A>, AllocError>
+        rebuilt: &[MemberRec<B::State, B::Note>],
+    ) -> Result<Channels<B::Note>, AllocError>
         requires { length rebuilt.now ≡ self.now.config.members }
         ensures shape { IfOk result (λ again. HasChannels self.now.config.members (rows again)) }
         ensures each { IfOk result (λ again. AreSentAgain self.now rebuilt.now (rows again)) }
@@ -36,9 +36,9 @@ impl<B: Behaviour, A: Allocator + Copy> Group<B, A> {
 
     fn resend_from(
         &self,
-        rebuilt: &[MemberRec<B::State, B::Note, A>],
+        rebuilt: &[MemberRec<B::State, B::Note>],
         from: Member,
-    ) -> Result<Vec<Channel<B::Note, A>, A>, AllocError>
+    ) -> Result<Vec<Channel<B::Note>>, AllocError>
         requires size { length rebuilt.now ≡ self.now.config.members }
         requires from { from < self.now.config.members }
         ensures size { IfOk result (λ row. vec_len row ≡ self.now.config.members) }
@@ -59,11 +59,11 @@ impl<B: Behaviour, A: Allocator + Copy> Group<B, A> {
     /// it was made.
     fn resend_on(
         &self,
-        rebuilt: &[MemberRec<B::State, B::Note, A>],
+        rebuilt: &[MemberRec<B::State, B::Note>],
         from: Member,
         to: Member,
-        passed: &mut Option<Carried<A>>,
-    ) -> Result<Channel<B::Note, A>, AllocError>
+        passed: &mut Option<Carried>,
+    ) -> Result<Channel<B::Note>, AllocError>
         requires size { length rebuilt.now ≡ self.now.config.members }
         requires from { from < self.now.config.members }
         requires to { to < self.now.config.members }
@@ -93,15 +93,15 @@ impl<B: Behaviour, A: Allocator + Copy> Group<B, A> {
 }
 
 /// These messages, each with what the sender's table passes on: one list for all of them, where there is memory to share it.
-fn put_again<N: Copy, A: Allocator + Copy>(
-    alloc: A,
+fn put_again<N: Copy>(
+    alloc: Global,
     from: Member,
     to: Member,
     unsent: &[(u32, N)],
-    table: &Table<A>,
+    table: &Table,
     f: u8,
-    passed: &mut Option<Carried<A>>,
-) -> Result<Channel<N, A>, AllocError>
+    passed: &mut Option<Carried>,
+) -> Result<Channel<N>, AllocError>
     requires { IfSome passed.old (λ carried. carried ≡ piggybacked f table.now) }
     ensures passed { IfSome passed.new (λ carried. carried ≡ piggybacked f table.now) }
     ensures made { IfOk result (λ channel. channel.items ≡ resent from to (piggybacked f table.now) unsent.now) }
@@ -117,11 +117,7 @@ fn put_again<N: Copy, A: Allocator + Copy>(
 }
 
 /// What the table passes on, for one message more. The list is made for the first message, and lent for the others.
-fn pass_on<A: Allocator + Copy>(
-    passed: &mut Option<Carried<A>>,
-    table: &Table<A>,
-    f: u8,
-) -> Result<Carried<A>, AllocError>
+fn pass_on(passed: &mut Option<Carried>, table: &Table, f: u8) -> Result<Carried, AllocError>
     requires { IfSome passed.old (λ carried. carried ≡ piggybacked f table.now) }
     ensures passed { IfSome passed.new (λ carried. carried ≡ piggybacked f table.now) }
     ensures value { IfOk result (λ carried. carried ≡ piggybacked f table.now) }

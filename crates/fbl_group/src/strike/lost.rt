@@ -9,14 +9,14 @@ ghost use Rattle.fbl_group.specs.Lost.{is_lost_receipt_of};
 
 use fbl_member::MemberRec;
 use fbl_trace::{Content, Determinant, Event, MemberSet};
-use std::alloc::{AllocError, Allocator};
+use std::alloc::{AllocError, Global};
 
-pub(super) fn lost_among<S: Copy, N: Content, A: Allocator + Copy>(
-    alloc: A,
-    members: &[MemberRec<S, N, A>],
-    checkpoints: &[MemberRec<S, N, A>],
+pub(super) fn lost_among<S: Copy, N: Content>(
+    alloc: Global,
+    members: &[MemberRec<S, N>],
+    checkpoints: &[MemberRec<S, N>],
     trace: &[Event<N>],
-) -> Result<Vec<Determinant, A>, AllocError>
+) -> Result<Vec<Determinant>, AllocError>
     ensures { IfOk result (λ v. v.items ≡ filter
         (λ d. not (is_recorded_among_of members.now checkpoints.now d))
         (receipts (map mark_of trace.now))) }
@@ -28,10 +28,10 @@ pub(super) fn lost_among<S: Copy, N: Content, A: Allocator + Copy>(
         .collect(alloc)
 }
 
-pub(super) fn count_lost<S: Copy, N: Content, A: Allocator + Copy>(
+pub(super) fn count_lost<S: Copy, N: Content>(
     down: MemberSet,
-    members: &[MemberRec<S, N, A>],
-    checkpoints: &[MemberRec<S, N, A>],
+    members: &[MemberRec<S, N>],
+    checkpoints: &[MemberRec<S, N>],
     trace: &[Event<N>],
 ) -> u32
     requires { length trace.now ≤ 8192 }
@@ -47,9 +47,9 @@ pub(super) fn count_lost<S: Copy, N: Content, A: Allocator + Copy>(
     lost
 }
 
-fn is_recorded_among<S: Copy, N: Content, A: Allocator + Copy>(
-    members: &[MemberRec<S, N, A>],
-    checkpoints: &[MemberRec<S, N, A>],
+fn is_recorded_among<S: Copy, N: Content>(
+    members: &[MemberRec<S, N>],
+    checkpoints: &[MemberRec<S, N>],
     determinant: &Determinant,
 ) -> bool
     ensures { result ≡ is_recorded_among_of members.now checkpoints.now determinant.now }
@@ -58,10 +58,10 @@ fn is_recorded_among<S: Copy, N: Content, A: Allocator + Copy>(
 }
 
 /// No table is looked at for a receipt of a member that is not in the set.
-fn is_lost_receipt<S: Copy, N: Content, A: Allocator + Copy>(
+fn is_lost_receipt<S: Copy, N: Content>(
     down: MemberSet,
-    members: &[MemberRec<S, N, A>],
-    checkpoints: &[MemberRec<S, N, A>],
+    members: &[MemberRec<S, N>],
+    checkpoints: &[MemberRec<S, N>],
     event: Event<N>,
     likely: &mut usize,
 ) -> bool
@@ -79,8 +79,8 @@ fn is_lost_receipt<S: Copy, N: Content, A: Allocator + Copy>(
 
 /// The likely record's table is looked at first, and where it does not hold the determinant, that of the next one is the next time:
 /// that changes no answer.
-fn is_likely_held<S: Copy, N: Content, A: Allocator + Copy>(
-    records: &[MemberRec<S, N, A>],
+fn is_likely_held<S: Copy, N: Content>(
+    records: &[MemberRec<S, N>],
     determinant: &Determinant,
     likely: &mut usize,
 ) -> bool
@@ -96,10 +96,7 @@ fn is_likely_held<S: Copy, N: Content, A: Allocator + Copy>(
     }
 }
 
-fn is_held_in<S: Copy, N: Content, A: Allocator + Copy>(
-    records: &[MemberRec<S, N, A>],
-    determinant: &Determinant,
-) -> bool
+fn is_held_in<S: Copy, N: Content>(records: &[MemberRec<S, N>], determinant: &Determinant) -> bool
     ensures { result ≡ list_any (λ m. is_held m.table determinant.now) records.now }
 {
     records

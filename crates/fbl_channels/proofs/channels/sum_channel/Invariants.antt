@@ -2,4 +2,4 @@ use Rattle.fbl_channels.proofs.Common.{◌≡◌, ◌≤◌, ◌*◌, take, valu
 use Rattle.fbl_channels.proofs.channels.sum_channel.Given as goal
 
 abbrev pub invariant-loop-place : goal.invariant-loop-place
-invariant-loop-place g l = record { summed : l.sum ≡ value_of (take l.place l.channel.items); bound : l.sum ≤ l.place * 4294967295 }
+invariant-loop-place l = record { summed : l.sum ≡ value_of (take l.place l.channel.items); bound : l.sum ≤ l.place * 4294967295 }

@@ -11,18 +11,18 @@ unfit n t place holder d (rules.Outside outsider) breaks fits = omega (arith, br
 unfit n t place holder d (rules.NoReceipt receipt) breaks fits = breaks.3 (rw breaks.2 fits.2)
 
 pub loop-place-preserved : goal.loop-place-preserved
-loop-place-preserved g c =
+loop-place-preserved c =
     each_more _ c.args.raw.now.held.items c.loop-place.place c.pair-item.result (rw c.deref-pair-items.ensures.value at c.loop-place-test.true)
     (rw c.deref-pair-items.ensures.value at c.pair-item.is) c.in_default.ensures c.loop-place.invariant
 
 pub returns-in-Some-clause-place : goal.returns-in-Some-clause-place
-returns-in-Some-clause-place g c = (
+returns-in-Some-clause-place c = (
   c.loop-place.invariant,
   λ held. unfit _ _ _ _ _ c.in-Some.rule c.in-Some.ensures (held _ (rw c.deref-pair-items.ensures.value at (slice_get_read _ _ _ _ refl c.loop-place-test.true c.pair-item.is))),
 )
 
 pub returns-in-Some-clause-fault : goal.returns-in-Some-clause-fault
-returns-in-Some-clause-fault g c = ((rw c.deref-pair-items.ensures.value at (slice_get_read _ _ _ _ refl c.loop-place-test.true c.pair-item.is)), c.in-Some.ensures)
+returns-in-Some-clause-fault c = ((rw c.deref-pair-items.ensures.value at (slice_get_read _ _ _ _ refl c.loop-place-test.true c.pair-item.is)), c.in-Some.ensures)
 
 pub returns-clause-place : goal.returns-clause-place
-returns-clause-place g c = each_all _ c.args.raw.now.held.items c.loop-place.place (rw c.deref-pair-items.ensures.value at c.loop-place-test.false) c.loop-place.invariant
+returns-clause-place c = each_all _ c.args.raw.now.held.items c.loop-place.place (rw c.deref-pair-items.ensures.value at c.loop-place-test.false) c.loop-place.invariant

@@ -2,7 +2,7 @@ use Rattle.fbl_group.proofs.Common.{◌≡◌, ◌+◌, ◌≤◌, ◌++◌, len
 use Rattle.fbl_group.proofs.dump.push_pairs.Given as goal
 
 abbrev pub invariant-loop-place : goal.invariant-loop-place
-invariant-loop-place g l = record {
+invariant-loop-place l = record {
   pairs : l.held.items ++ pairs_of l.holder (drop l.place l.table) ≡ l.fn.held.items ++ pairs_of l.holder l.table;
   len : vec_len l.held ≡ vec_len l.fn.held + l.place;
   room : vec_len l.fn.held + length l.table ≤ vec_capacity l.held;

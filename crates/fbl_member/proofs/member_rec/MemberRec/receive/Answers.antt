@@ -9,7 +9,7 @@ grown : (g : Over) (c : After-unwrap g) → c.extend_from_slice.new.self.items �
 grown g c = rw (c.in_ok-reserve.ensures.items, c.as_slice-sends.ensures.value) at (rw c.unwrap.ensures at c.extend_from_slice.ensures.items)
 
 -- room for this many entries is room for fewer
-fewer : {N A : Type 0} {messages more less : ℕ} {b : Buffers N A} → HasRooms messages more b → less ≤ more → HasRooms messages less b
+fewer : {N : Type 0} {messages more less : ℕ} {b : Buffers N} → HasRooms messages more b → less ≤ more → HasRooms messages less b
 fewer rooms le = record { wires = rooms.wires; count = rooms.count; lists = λ k d below. (let r = rooms.lists k d below in (r.0, r.1, omega (arith, r.2, le))) }
 
 pub into_wires-requires-clause-numbers : goal.into_wires-requires-clause-numbers

@@ -3,10 +3,9 @@ use Rattle.fbl_table.proofs.Adding.{Pairs, added_new, added_there, inserted, ins
 use Rattle.fbl_table.proofs.Indexing.{index-push, index-put, open_less, keeps_stale}
 use Rattle.fbl_table.proofs.indexed.IndexedEntries.add_by_hash.Goals as goal
 use Rattle.fbl_table.proofs.indexed.IndexedEntries.add_by_hash.Goals.{After-unwrap-place}
-use Rattle.fbl_table.proofs.indexed.IndexedEntries.add_by_hash.Given.{Over}
 
 -- what the map did, once its answer is read
-module _ (g : Over) (c : After-unwrap-place g) where
+module _ (c : After-unwrap-place) where
   abbrev es : Pairs
   es = c.args.self.now.entries.entries
 
@@ -27,29 +26,29 @@ module _ (g : Over) (c : After-unwrap-place g) where
   entries none = ap (map entry_of) written ∙ inserted es entry (looked_up ∙ none)
 
 pub returns-in-Some-clause-entries : goal.returns-in-Some-clause-entries
-returns-in-Some-clause-entries g c =
-    let at = (goal.at.returns-in-Some-clause-entries g c).After-unwrap-place in
-    let is = looked_up g at ∙ c.in-Some.is in
-    rw (written g at, place g at, c.union-united.ensures, inserted_over (es g at) (entry g at).det c.in-Some.before _ _ is) (added_there (es g at) (entry g at) c.in-Some.before is)
+returns-in-Some-clause-entries c =
+    let at = (goal.at.returns-in-Some-clause-entries c).After-unwrap-place in
+    let is = looked_up at ∙ c.in-Some.is in
+    rw (written at, place at, c.union-united.ensures, inserted_over (es at) (entry at).det c.in-Some.before _ _ is) (added_there (es at) (entry at) c.in-Some.before is)
 
 pub returns-in-Some-clause-indexed : goal.returns-in-Some-clause-indexed
-returns-in-Some-clause-indexed g c is =
-    let at = (goal.at.returns-in-Some-clause-indexed g c).After-unwrap-place in
+returns-in-Some-clause-indexed c is =
+    let at = (goal.at.returns-in-Some-clause-indexed c).After-unwrap-place in
     let old = c.args.self.now in
-    let found = looked_up g at ∙ c.in-Some.is in
+    let found = looked_up at ∙ c.in-Some.is in
     let parts = or_parts old.stale c.closes.result in
-    rw (written g at, place g at, c.union-united.ensures, inserted_over (es g at) (entry g at).det c.in-Some.before _ _ found)
-    (index-put old.limit (es g at) _ c.in-Some.before _ (value_there (es g at) (entry g at).det c.in-Some.before found) (open_less old.limit c.in-Some.before c.args.entry.known)
+    rw (written at, place at, c.union-united.ensures, inserted_over (es at) (entry at).det c.in-Some.before _ _ found)
+    (index-put old.limit (es at) _ c.in-Some.before _ (value_there (es at) (entry at).det c.in-Some.before found) (open_less old.limit c.in-Some.before c.args.entry.known)
     _ (λ fresh. (rw c.union-united.ensures at c.closes.ensures) (parts fresh).1) old.open_places.items ((keeps_stale old _ (λ fresh. (parts fresh).0)).index is))
 
 pub returns-in-None-clause-entries : goal.returns-in-None-clause-entries
-returns-in-None-clause-entries g c =
-    let at = (goal.at.returns-in-None-clause-entries g c).After-unwrap-place in
-    entries g at c.in-None.is ∙ sym (added_new (listed c.args.self.now) c.args.entry (not_held-missing (es g at) (entry g at).det (looked_up g at ∙ c.in-None.is)))
+returns-in-None-clause-entries c =
+    let at = (goal.at.returns-in-None-clause-entries c).After-unwrap-place in
+    entries at c.in-None.is ∙ sym (added_new (listed c.args.self.now) c.args.entry (not_held-missing (es at) (entry at).det (looked_up at ∙ c.in-None.is)))
 
 pub returns-in-None-clause-indexed : goal.returns-in-None-clause-indexed
-returns-in-None-clause-indexed g c is =
-    let at = (goal.at.returns-in-None-clause-indexed g c).After-unwrap-place in
+returns-in-None-clause-indexed c is =
+    let at = (goal.at.returns-in-None-clause-indexed c).After-unwrap-place in
     let old = c.args.self.now in
-    let last = place g at ∙ place-missing (es g at) (entry g at).det (looked_up g at ∙ c.in-None.is) ∙ sym (length-map (es g at) entry_of) in
-    rw (entries g at c.in-None.is, c.push_place_if_open.ensures.items, last) (index-push old.limit (listed old) c.args.entry old.open_places.items old.stale is)
+    let last = place at ∙ place-missing (es at) (entry at).det (looked_up at ∙ c.in-None.is) ∙ sym (length-map (es at) entry_of) in
+    rw (entries at c.in-None.is, c.push_place_if_open.ensures.items, last) (index-push old.limit (listed old) c.args.entry old.open_places.items old.stale is)

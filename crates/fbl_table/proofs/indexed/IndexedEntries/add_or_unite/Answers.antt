@@ -3,4 +3,4 @@ use Rattle.fbl_table.proofs.Adding.{length-added}
 use Rattle.fbl_table.proofs.indexed.IndexedEntries.add_or_unite.Goals as goal
 
 pub returns-in-None-clause-kept : goal.returns-in-None-clause-kept
-returns-in-None-clause-kept g c = grind (arith, nat_tests, length-added)
+returns-in-None-clause-kept c = grind (arith, nat_tests, length-added)

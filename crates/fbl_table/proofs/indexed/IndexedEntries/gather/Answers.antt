@@ -4,20 +4,20 @@ use Rattle.fbl_table.proofs.Adding.{fold_next, lacks-gathering, length-added}
 use Rattle.fbl_table.proofs.indexed.IndexedEntries.gather.Goals as goal
 
 pub loop-place-init : goal.loop-place-init
-loop-place-init g c = record {
+loop-place-init c = record {
   so_far = rw (c.unite_shared.ensures.entries, c.reserve.ensures.entries);
   kept = keeps_more c.reserve.ensures.kept c.unite_shared.ensures.kept;
   room = omega (arith, c.lacking_beyond-lacking.ensures, c.in_ok-reserve.ensures.ok, c.unite_shared.ensures.room);
 }
 
 pub add_or_unite-requires : goal.add_or_unite-requires
-add_or_unite-requires g c none =
+add_or_unite-requires c none =
     let fewer = lacks-gathering (listed c.args.self.now) (listed c.args.other.now) c.loop-place.place c.entry_at.result c.entry_at.ensures in
     let fewer' = rw (← c.loop-place.invariant.so_far, none) at fewer in
     omega (arith, fewer', c.loop-place.invariant.room)
 
 pub loop-place-preserved : goal.loop-place-preserved
-loop-place-preserved g c =
+loop-place-preserved c =
     let before = c.loop-place.invariant in
     let one = c.add_or_unite.ensures in
     let table = listed c.args.self.now in
@@ -32,7 +32,7 @@ loop-place-preserved g c =
     }
 
 pub returns-clause-gathered : goal.returns-clause-gathered
-returns-clause-gathered g c = rw (c.prune.ensures.entries, c.loop-place.invariant.so_far, take_all c.loop-place.place (listed c.args.other.now) (omega arith))
+returns-clause-gathered c = rw (c.prune.ensures.entries, c.loop-place.invariant.so_far, take_all c.loop-place.place (listed c.args.other.now) (omega arith))
 
 pub returns-clause-kept : goal.returns-clause-kept
-returns-clause-kept g c = keeps_more c.loop-place.invariant.kept c.prune.ensures.kept
+returns-clause-kept c = keeps_more c.loop-place.invariant.kept c.prune.ensures.kept

@@ -3,7 +3,7 @@ use Rattle.fbl_table.proofs.Adding.{learned_next}
 use Rattle.fbl_table.proofs.indexed.IndexedEntries.learn.Goals as goal
 
 pub loop-entry-preserved : goal.loop-entry-preserved
-loop-entry-preserved g c =
+loop-entry-preserved c =
     let before = c.loop-entry.invariant in
     let one = c.add.ensures in
     let next = learned_next c.args.me (listed c.args.self.now) c.args.carried.now c.loop-entry.entry-index c.entry-item.result c.loop-entry-test.true c.entry-item.is in
@@ -14,4 +14,4 @@ loop-entry-preserved g c =
     }
 
 pub returns-clause-entries : goal.returns-clause-entries
-returns-clause-entries g c = rw (c.prune.ensures.entries, c.loop-entry.invariant.so_far, take_all c.loop-entry.entry-index c.args.carried.now c.loop-entry-test.false)
+returns-clause-entries c = rw (c.prune.ensures.entries, c.loop-entry.invariant.so_far, take_all c.loop-entry.entry-index c.args.carried.now c.loop-entry-test.false)

@@ -4,10 +4,10 @@ use Rattle.fbl_table.proofs.Indexing.{keeps_more, keeps_stale}
 use Rattle.fbl_table.proofs.indexed.IndexedEntries.mark_all.Goals as goal
 
 pub loop-place-init : goal.loop-place-init
-loop-place-init g c = record { so_far = refl; kept = keeps_stale c.args.self.now true (λ fresh. absurd (false≢true (sym fresh))); stale = refl; size = sym c.len-place-end.ensures.len }
+loop-place-init c = record { so_far = refl; kept = keeps_stale c.args.self.now true (λ fresh. absurd (false≢true (sym fresh))); stale = refl; size = sym c.len-place-end.ensures.len }
 
 pub loop-place-preserved : goal.loop-place-preserved
-loop-place-preserved g c =
+loop-place-preserved c =
     let es = c.loop-place.self.entries.entries in
     let more = mark-at c.loop-place.place c.args.members (listed c.args.self.now) es c.index-before.result.now c.loop-place.invariant.so_far c.index-before.ensures in
     record {
@@ -18,4 +18,4 @@ loop-place-preserved g c =
     }
 
 pub returns-clause-entries : goal.returns-clause-entries
-returns-clause-entries g c = grind (arith, nat_tests, length-map, mark-all)
+returns-clause-entries c = grind (arith, nat_tests, length-map, mark-all)

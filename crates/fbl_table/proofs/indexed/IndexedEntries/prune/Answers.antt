@@ -3,7 +3,7 @@ use Rattle.fbl_table.proofs.Indexing.{index-pruned}
 use Rattle.fbl_table.proofs.indexed.IndexedEntries.prune.Goals as goal
 
 pub returns-then-self-clause-kept : goal.returns-then-self-clause-kept
-returns-then-self-clause-kept g c =
+returns-then-self-clause-kept c =
     let old = c.args.self.now in
     let table = listed old in
     let kept : c.retain.new.self.items ≡ filter (open_at old.limit table) old.open_places.items =

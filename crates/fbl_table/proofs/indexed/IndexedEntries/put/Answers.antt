@@ -3,7 +3,7 @@ use Rattle.fbl_table.proofs.Indexing.{index-put}
 use Rattle.fbl_table.proofs.indexed.IndexedEntries.put.Goals as goal
 
 pub returns-clause-kept : goal.returns-clause-kept
-returns-clause-kept g c =
+returns-clause-kept c =
     let old = c.args.self.now in
     let es = old.entries.entries in
     record {

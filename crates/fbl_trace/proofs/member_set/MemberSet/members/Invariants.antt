@@ -4,4 +4,4 @@ use Rattle.std.specs.FinSet as set
 use Rattle.fbl_trace.proofs.member_set.MemberSet.members.Given as goal
 
 abbrev pub invariant-loop-number : goal.invariant-loop-number
-invariant-loop-number g l = l.members.items ++ filter (set.contains l.self) (range_with_len l.number (16 - l.number)) ≡ member_list l.self
+invariant-loop-number l = l.members.items ++ filter (set.contains l.self) (range_with_len l.number (16 - l.number)) ≡ member_list l.self
