@@ -1,11 +1,10 @@
-pub use Rattle.std.proofs.Common.{Bool, Err, IfErr, IfOk, IfSome, List, None, Ok, Option, Result, Some, [], ap, arith, codes, decimal, drop, false, map, not, option_map, refl, rules, option_and_then}
+pub use Rattle.std.proofs.Common.{Bool, Err, IfErr, IfOk, IfSome, List, None, Ok, Option, Result, Some, [], ap, arith, codes, decimal, drop, false, map, not, option_map, refl, option_and_then}
 pub use Rattle.std.proofs.Common.{string_bytes, subst, suc, sym, true, unwrap_or, zero, ℕ, ◌&&◌, ◌+◌, ◌<◌, ◌||◌, ◌∙◌, ◌∷◌, ◌≡◌, ◌++◌, ◌⊎◌, inl, inr}
 pub use Rattle.std.proofs.Math.Bool.{or-false}
 pub use Rattle.std.proofs.lemmas.Fmt.{decimal_digit, parse-decimal}
 pub use Rattle.std.specs.Borrow.{Bor}
 pub use Rattle.std.specs.Box.{box_value}
 pub use Rattle.std.specs.List.{list_any}
-pub use Rattle.fbl_dumps.specs.Dumps.{Parts, parts_of}
 pub use Rattle.std.specs.Prelude.{Box, pos}
 pub use Rattle.std.specs.Result.{IsErrAnd}
 pub use Rattle.fbl_play.proofs.Common.{GroupRecord}
@@ -44,11 +43,9 @@ pub use Rattle.fbl_play.proofs.Moments.{unobserved}
 pub use Rattle.fbl_play.specs.Transcripts.{Transcript, text}
 pub use Rattle.fbl_scripts.specs.Scripts.{IsScriptFault, IsScriptOf, Outline, behaviour_word, outline}
 pub use Rattle.fbl_scripts.specs.declared.script.Command.{Command}
-pub use Rattle.fbl_program.specs.Merges.{RefusesMerge, merge_status}
 pub use Rattle.fbl_program.specs.Outcomes.{Answers, DoesScript, EndsMerged, IsAnswer, IsAnswerTo, IsPlaceMissing, IsPlaceMissingOf, IsShown, PlaysWell}
 pub use Rattle.fbl_program.specs.declared.fault.AnswerFault.{AnswerFault}
 pub use Rattle.fbl_program.specs.declared.fault.AnswerFault.TheVariants.{Output}
-pub use Rattle.fbl_program.specs.declared.merge.MergeFault.{MergeFault}
 pub use Rattle.fbl_program.specs.declared.job.RunTask.{RunTask}
 pub use Rattle.fbl_program.specs.declared.job.Question.TheVariants.{Audit, Check, Draw}
 pub use Rattle.fbl_program.specs.declared.job.RunTask.TheVariants.{Judge, Merge}

@@ -1,23 +1,21 @@
 -- Several files, in their order, and what they record.
 use Rattle.std.proofs.lemmas.List.{map-append}
-use Rattle.fbl_trace.proofs.Gets.{take-more}
 use Rattle.std.specs.List.{AllZip}
 use Rattle.std.specs.Prelude.{slice_get, take}
 use Rattle.clap.specs.Words.{Text}
 use Rattle.fbl_records.specs.declared.reader.RawRecording.{RawRecording}
 use Rattle.fbl_records.specs.declared.reader.RawRecording.TheVariants as raws
-use Rattle.fbl_program.specs.declared.merge.Together.{Together}
-use Rattle.fbl_program.specs.declared.merge.Together.TheVariants.{Dumps, Logs}
+use Rattle.fbl_records.specs.declared.merge.MergeFault.TheVariants as faults
+use Rattle.fbl_records.specs.declared.merge.Together.{Together}
+use Rattle.fbl_records.specs.declared.merge.Together.TheVariants.{Dumps, Logs}
+use Rattle.fbl_records.specs.Merges.{AreTogether, RefusesMerge, count_of}
+use Rattle.fbl_records.specs.Logs.{IsNotRecorded}
 use Rattle.fbl_program.specs.Jobs.{IsUnrecorded, Known, NotTogether, RecordTogether, Records}
 use Rattle.fbl_input.specs.declared.input_fault.InputFault.{InputFault}
-use Rattle.fbl_records.specs.Logs.{IsNotRecorded}
-use Rattle.fbl_program.specs.Merges.{AreTogether, IsOtherVersion, RefusesMerge, count_of, is_log}
-use Rattle.fbl_program.specs.declared.merge.MergeFault.TheVariants as faults
 use Rattle.fbl_order.specs.declared.files.FilesDiffer.TheVariants as differ
 use Rattle.fbl_program.specs.Statuses.{fault_status}
 use Rattle.std.proofs.Common.{cond, is_err, is_ok, length, true≢false}
-use Rattle.std.proofs.lemmas.List.{length-map}
-use Rattle.fbl_program.proofs.Common.{◌≡◌, ℕ, zero, suc, ◌+◌, ◌<◌, Bool, false, true, Bor, IfSome, List, [], ◌∷◌, ◌++◌, Some, None, Result, Ok, Err, IfErr, IsErrAnd, ap, arith, drop, inl, inr, map, refl, subst, sym, unwrap_or, ◌∙◌}
+use Rattle.fbl_program.proofs.Common.{◌≡◌, ℕ, zero, suc, ◌+◌, ◌<◌, Bool, false, true, Bor, IfSome, List, [], ◌∷◌, ◌++◌, Some, None, Result, Ok, Err, ap, arith, drop, inl, inr, map, refl, subst, sym, unwrap_or, ◌∙◌}
 
 -- ---- lists
 
@@ -88,51 +86,12 @@ told_fault before file fault status same found told = inr (subst (λ known. IfSo
     known None h = tt
     known (Some input) h = (fault, h, told)
 
--- a fault that is passed on
-pub passed : {X E : Type 0} (P : E → Type 0) (fault : E) (r : Result X E) → IsErrAnd r (λ e. e ≡ fault) → P fault → IfErr r P
-passed P fault (Ok x) same p = tt
-passed P fault (Err e) same p = subst P (sym same) p
-
 -- one was pushed, since that did not fail
 pub pushed : {X E A : Type 0} (r : Result X E) (new more old : List A) → is_err r ≡ false → new ≡ cond (is_ok r) more old → new ≡ more
 pushed (Ok x) new more old fine is = is
 pushed (Err e) new more old fine is = absurd (true≢false fine)
 
--- ---- versions
-
--- there are so many dumps, and the next one is a log, or the reverse
-abbrev IsOther : Together → RawRecording → ℕ → Type 0
-IsOther (Dumps dumps) (raws.Log raw) n = (n ≡ length dumps.items) × (0 < length dumps.items)
-IsOther (Logs logs) (raws.Dump raw) n = n ≡ length logs.items
-IsOther together next n = ⊥
-
-all_same : {A : Type 0} (f : A → RawRecording) (b : Bool) (xs : List A) → ((x : A) → is_log (f x) ≡ b) → map is_log (map f xs) ≡ map (λ _. b) (map f xs)
-all_same f b [] is = refl
-all_same f b (x ∷ xs) is = rw (is x, all_same f b xs is) refl
-
-pub other_version : (together : Together) (next : RawRecording) (n : ℕ) → IsOther together next n → (found rest : List RawRecording) → AreTogether found together → IsOtherVersion (found ++ next ∷ rest) (is_log next) n
-other_version (Dumps dumps) (raws.Log raw) n other found rest are = record {
-  before = found;
-  other = raws.Log raw;
-  is = refl;
-  rest = rest;
-  found_is = refl;
-  some = omega (arith, other.0, other.1);
-  place = ap length are ∙ length-map dumps.items raws.Dump ∙ sym other.0;
-  differ = rw are (all_same raws.Dump false dumps.items (λ _. refl));
-}
-other_version (Logs logs) (raws.Dump raw) n other found rest are = record {
-  before = found;
-  other = raws.Dump raw;
-  is = refl;
-  rest = rest;
-  found_is = refl;
-  some = omega (arith, other, are.0);
-  place = ap length are.1 ∙ length-map logs.items raws.Log ∙ sym other;
-  differ = rw are.1 (all_same raws.Log true logs.items (λ _. refl));
-}
-other_version (Dumps dumps) (raws.Dump raw) n other found rest are = absurd other
-other_version (Logs logs) (raws.Log raw) n other found rest are = absurd other
+-- ---- what files record together
 
 not_empty : {A B : Type 0} (f : A → B) (xs : List A) (y : B) (ys : List B) → y ∷ ys ≡ map f xs → 0 < length xs
 not_empty f [] y ys is = absurd (cc)
@@ -155,10 +114,3 @@ one_together recorded (Logs logs) is = is.0
 pub short_of_memory : (together : Together) → RefusesMerge together (faults.Files differ.Memory)
 short_of_memory (Dumps dumps) = inl refl
 short_of_memory (Logs logs) = inl refl
-
--- one number more, of one item more
-pub counted_more : {A : Type 0} (f : A → ℕ) (xs : List A) (i : ℕ) (x : A) → slice_get xs i ≡ Some x → (counts : List ℕ) (count : ℕ) → counts ≡ map f (take i xs) → count ≡ f x
-    → counts ++ count ∷ [] ≡ map f (take (i + 1) xs)
-counted_more f xs i x at counts count are is =
-    let next : i + 1 ≡ suc i = omega arith in
-    rw (next, take-more xs i x at, are, is) (sym (map-append f (take i xs) (x ∷ [])))

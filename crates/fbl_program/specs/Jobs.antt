@@ -5,18 +5,18 @@ use Rattle.std.specs.Str.{bytes_eq}
 use Rattle.clap.specs.Words.{Text}
 use Rattle.fbl_input.specs.declared.input_fault.InputFault.{InputFault}
 use Rattle.fbl_records.specs.Logs.{IsNotRecorded, recorded_of_input, recorded_parts}
+use Rattle.fbl_records.specs.Merges.{AreTogether, RefusesVersions}
+use Rattle.fbl_records.specs.declared.merge.MergeFault.{MergeFault}
+use Rattle.fbl_records.specs.declared.merge.Together.{Together}
 use Rattle.fbl_records.specs.declared.reader.RawRecording.{RawRecording}
 use Rattle.fbl_program.specs.declared.command_line.Misuse.{Misuse}
 use Rattle.fbl_program.specs.declared.job.Job.{Job}
 use Rattle.fbl_program.specs.declared.job.RunTask.{RunTask}
 use Rattle.fbl_program.specs.declared.job.Task.{Task}
 use Rattle.fbl_program.specs.declared.job.Task.TheVariants.{Script, Run}
-use Rattle.fbl_program.specs.declared.merge.MergeFault.{MergeFault}
-use Rattle.fbl_program.specs.declared.merge.Together.{Together}
 use Rattle.fbl_program.specs.CommandLines.{EndsMisuse, IsJobOf, IsMisuseOf}
-use Rattle.fbl_program.specs.Merges.{AreTogether, RefusesVersions, merge_status}
 use Rattle.fbl_program.specs.Outcomes.{EndsMerged, EndsTask}
-use Rattle.fbl_program.specs.Statuses.{IsChannelStatus, IsSettled, fault_status}
+use Rattle.fbl_program.specs.Statuses.{IsChannelStatus, IsSettled, fault_status, merge_status}
 
 -- what is known of the bytes of a file
 abbrev pub Known : Type 0

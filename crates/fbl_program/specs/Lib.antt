@@ -1,5 +1,4 @@
 pub mod Statuses
-pub mod Merges
 pub mod Arounds
 pub mod Outcomes
 pub mod CommandLines

@@ -23,8 +23,11 @@ use Rattle.fbl_records.specs.DumpLines.{dump_line}
 use Rattle.fbl_records.specs.Lines.{audit_lines}
 use Rattle.fbl_records.specs.LogLines.{log_line}
 use Rattle.fbl_records.specs.Logs.{IsCheckedOf, IsNotChecked, IsNotRecorded, recorded_of_input, recorded_parts}
+use Rattle.fbl_records.specs.Merges.{AreTogether, IsMergeOf, RefusesMerge, lengths_of}
 use Rattle.fbl_records.specs.Texts.{IsChecked, IsCheckText, says_nothing}
 use Rattle.fbl_records.specs.declared.check_text.Checked.{Checked}
+use Rattle.fbl_records.specs.declared.merge.MergeFault.{MergeFault}
+use Rattle.fbl_records.specs.declared.merge.Together.{Together}
 use Rattle.fbl_records.specs.declared.reader.Recording.{Recording}
 use Rattle.fbl_records.specs.declared.reader.Recording.TheVariants as checked
 use Rattle.fbl_records.specs.declared.reader.RawRecording.{RawRecording}
@@ -41,11 +44,8 @@ use Rattle.fbl_program.specs.declared.job.ScriptTask.{ScriptTask}
 use Rattle.fbl_program.specs.declared.job.ScriptTask.TheVariants.{Play, Record, Show}
 use Rattle.fbl_program.specs.declared.job.Task.{Task}
 use Rattle.fbl_program.specs.declared.job.Task.TheVariants.{Script, Run}
-use Rattle.fbl_program.specs.declared.merge.MergeFault.{MergeFault}
-use Rattle.fbl_program.specs.declared.merge.Together.{Together}
 use Rattle.fbl_program.specs.Arounds.{IsAround, IsMissing}
-use Rattle.fbl_program.specs.Merges.{AreTogether, IsMergeOf, RefusesMerge, lengths_of, merge_status}
-use Rattle.fbl_program.specs.Statuses.{fault_status, status_after}
+use Rattle.fbl_program.specs.Statuses.{fault_status, merge_status, status_after}
 
 -- a play, after which all is well but where it is strict and some command was refused
 abbrev pub PlaysWell : ℕ → Bool → Outline → Option (List ℕ) → Option (List ℕ) → Result Bool OutputFault → Type 0

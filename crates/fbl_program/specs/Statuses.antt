@@ -1,7 +1,12 @@
 -- The exit statuses of the program.
 use Rattle.std.specs.Prelude.{◌≡◌, ◌≤◌, ◌⊎◌, ℕ, Bool, true, false, Result, Ok, Err}
+use Rattle.fbl_dumps.specs.declared.refusal.DumpRefusal.TheVariants as dump
 use Rattle.fbl_input.specs.declared.fault.RunFault.{RunFault}
 use Rattle.fbl_input.specs.declared.fault.RunFault.TheVariants as faults
+use Rattle.fbl_order.specs.declared.fault.OrderFault.TheVariants as orders
+use Rattle.fbl_order.specs.declared.files.FilesDiffer.TheVariants as files
+use Rattle.fbl_records.specs.declared.merge.MergeFault.{MergeFault}
+use Rattle.fbl_records.specs.declared.merge.MergeFault.TheVariants as merges
 
 -- 3 where a read or a write failed, 4 where memory ran out, and else 2
 abbrev pub fault_status : RunFault → ℕ
@@ -15,6 +20,12 @@ abbrev pub status_after : Result Bool RunFault → ℕ
 status_after (Ok true) = 0
 status_after (Ok false) = 1
 status_after (Err e) = fault_status e
+
+-- 4 where memory ran out for what files record together, and else 2
+abbrev pub merge_status : MergeFault → ℕ
+merge_status (merges.Files files.Memory) = 4
+merge_status (merges.Order (orders.Refused dump.Memory breach)) = 4
+merge_status fault = 2
 
 -- a file could not be opened, read or written, or memory ran out
 abbrev pub IsChannelStatus : ℕ → Type 0

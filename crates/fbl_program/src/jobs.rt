@@ -7,15 +7,15 @@ ghost use Rattle.fbl_program.specs.declared.job.Task.TheVariants.{Run, Script};
 
 use crate::fault::AnswerFault;
 use crate::job::{Job, RunTask, ScriptTask, Task};
-use crate::merge::{Together, in_one_version};
-use crate::merge_words::InputFiles;
 use crate::runs::{end_merged, end_recorded, end_run, one_file};
 use crate::scripts::do_script;
 use crate::status::{INPUT_FAULT, end, fail};
 use crate::streams::{Named, Streams};
 use crate::teller::{refuse_input, refuse_merge};
 use fbl_input::RunFault;
-use fbl_records::{RawRecording, read_checked, read_recorded};
+use fbl_records::{
+    InputFiles, RawRecording, Together, in_one_version, read_checked, read_recorded,
+};
 use fbl_scripts::read_script;
 use std::alloc::Global;
 use std::io::{Read, Write};

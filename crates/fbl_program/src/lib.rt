@@ -6,8 +6,6 @@ mod command_line;
 mod fault;
 mod job;
 mod jobs;
-mod merge;
-mod merge_words;
 mod program;
 mod runs;
 mod scripts;

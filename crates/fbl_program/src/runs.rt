@@ -3,15 +3,13 @@
 ghost use Rattle.std.specs.Prelude.{◌≡◌, ◌<◌, [], IfOk, map, string_bytes};
 ghost use Rattle.fbl_input.specs.Faults.{PutsOut};
 ghost use Rattle.fbl_judge.specs.Audits.{AreNamed};
+ghost use Rattle.fbl_records.specs.Merges.{count_of};
 ghost use Rattle.fbl_records.specs.Texts.{IsChecked};
-ghost use Rattle.fbl_program.specs.Merges.{count_of};
 ghost use Rattle.fbl_program.specs.Outcomes.{Answers, EndsMerged, EndsRecorded, EndsWith, IsAnswer, IsAnswerTo, IsPlaceMissing, IsPlaceMissingOf, run_line, run_of};
 
 use crate::around::place_asked;
 use crate::fault::AnswerFault;
 use crate::job::{Question, RunTask};
-use crate::merge::{Together, merge_of};
-use crate::merge_words::InputFiles;
 use crate::status::{INPUT_FAULT, end, fail};
 use crate::streams::Named;
 use crate::teller::refuse_merge;
@@ -20,8 +18,9 @@ use fbl_input::{OutputFault, RunFault, Sources, put};
 use fbl_judge::{LostReceipt, Pasts, Reason, audit_of, loss_reasons, unsafe_reasons};
 use fbl_pictures::{column_count, write_run_picture};
 use fbl_records::{
-    Checked, Overview, RawRecording, Recording, Told, UndoneReason, Why, WhyUndone, all_forgotten,
-    dump_text, log_text, undone_reasons, write_audit, write_check,
+    Checked, InputFiles, Overview, RawRecording, Recording, Together, Told, UndoneReason, Why,
+    WhyUndone, all_forgotten, dump_text, log_text, merge_of, undone_reasons, write_audit,
+    write_check,
 };
 use fbl_runs::Run;
 use std::alloc::{AllocError, Global};

@@ -2,10 +2,13 @@
 
 ghost use Rattle.std.specs.Prelude.{◌≡◌};
 ghost use Rattle.fbl_input.specs.Faults.{run_result};
-ghost use Rattle.fbl_program.specs.Statuses.{fault_status, status_after};
+ghost use Rattle.fbl_program.specs.Statuses.{fault_status, merge_status, status_after};
 
 use crate::streams::Failure;
+use fbl_dumps::DumpRefusal;
 use fbl_input::{OutputFault, RunFault};
+use fbl_order::{FilesDiffer, OrderFault};
+use fbl_records::MergeFault;
 use std::fmt;
 
 /// Everything was done, and all is well.
@@ -56,6 +59,17 @@ pub(crate) fn status_of(fault: &RunFault) -> u8
     match fault {
         RunFault::Read | RunFault::Write => CHANNEL_FAULT,
         RunFault::Memory => MEMORY_FAULT,
+        _ => INPUT_FAULT,
+    }
+}
+
+/// The exit status of a fault of what files record together.
+pub(crate) fn merge_status_of(fault: &MergeFault) -> u8
+    ensures { result ≡ merge_status fault.now }
+{
+    match fault {
+        MergeFault::Files(FilesDiffer::Memory)
+        | MergeFault::Order(OrderFault::Refused(DumpRefusal::Memory, _)) => MEMORY_FAULT,
         _ => INPUT_FAULT,
     }
 }

@@ -1,16 +1,14 @@
 //! What is told on standard error, where the command line asks for explanations, beside the fault line.
 
 ghost use Rattle.std.specs.Prelude.{◌≡◌, false};
-ghost use Rattle.fbl_program.specs.Merges.{merge_status};
-ghost use Rattle.fbl_program.specs.Statuses.{fault_status};
+ghost use Rattle.fbl_program.specs.Statuses.{fault_status, merge_status};
 
-use crate::merge::MergeFault;
-use crate::merge_words::{InputFiles, MergeExplanation, MergeLine};
-use crate::status::{INPUT_FAULT, fail, status_of};
+use crate::status::{INPUT_FAULT, fail, merge_status_of, status_of};
 use crate::streams::Failure;
 use fbl_group::Group;
 use fbl_input::{InputFault, RunFault};
 use fbl_play::{Answer, Observer, Remark, Transcribed};
+use fbl_records::{InputFiles, MergeExplanation, MergeFault, MergeLine};
 use fbl_scripts::Command;
 use fbl_trace::{Behaviour, Note};
 use std::alloc::Global;
@@ -124,7 +122,7 @@ pub(crate) fn refuse_merge<R: Eprint>(
 {
     let line = MergeLine { fault, files };
     let _ = eprintln!(rt; "{line}");
-    let status = fault.status();
+    let status = merge_status_of(fault);
     if explain && status == INPUT_FAULT {
         let explanation = MergeExplanation { fault, files };
         let _ = eprintln!(rt; "{explanation}");

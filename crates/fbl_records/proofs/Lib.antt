@@ -9,3 +9,4 @@ pub mod Cuts
 pub mod ForgottenLaws
 pub mod UndoneLaws
 pub mod Zips
+pub mod Merges

@@ -1,7 +1,7 @@
 //! What is told of files that record no run together: the line of the fault, and its explanation.
 
 ghost use Rattle.std.specs.Prelude.{◌≡◌, [], IfOk, length, map};
-ghost use Rattle.fbl_program.specs.Merges.{lengths_of};
+ghost use Rattle.fbl_records.specs.Merges.{lengths_of};
 
 use crate::merge::{MergeFault, Together};
 use fbl_dumps::{DumpRefusal, RawDump};
@@ -15,9 +15,11 @@ use std::fmt;
 /// What is told of files that are merged: their names, if they are several, how many events and held pairs each has, and whom it
 /// strikes.
 #[derive(Drop)]
-pub(crate) struct InputFiles<'a> {
-    names: &'a [&'a str],
-    events: Vec<usize>,
+pub struct InputFiles<'a> {
+    /// The names of the files, if they are several.
+    pub names: &'a [&'a str],
+    /// How many events, or entries of a log, each has.
+    pub events: Vec<usize>,
     held: Vec<usize>,
     strikes: Vec<MemberSet>,
 }
@@ -38,7 +40,7 @@ impl fmt::Display for Place<'_> {
 
 impl<'a> InputFiles<'a> {
     /// Files with these names, of which no more is told.
-    pub(crate) fn named(alloc: Global, names: &'a [&'a str]) -> InputFiles<'a>
+    pub fn named(alloc: Global, names: &'a [&'a str]) -> InputFiles<'a>
         ensures names { result.names.now ≡ names.now }
         ensures none { result.events.items ≡ [] }
     {
@@ -86,7 +88,7 @@ impl<'a> InputFiles<'a> {
     }
 
     /// Files with these names, or with none where there is one, that record this.
-    pub(crate) fn of(
+    pub fn of(
         alloc: Global,
         names: &'a [&'a str],
         together: &Together,
@@ -101,7 +103,7 @@ impl<'a> InputFiles<'a> {
     }
 
     /// The files of a run whose events were given at these places.
-    pub(crate) fn sources<'b>(&'b self, places: &'b [usize]) -> Sources<'b>
+    pub fn sources<'b>(&'b self, places: &'b [usize]) -> Sources<'b>
         ensures names { result.names.now ≡ self.now.names.now }
         ensures lengths { result.lengths.now ≡ self.now.events.items }
         ensures places { result.places.now ≡ places.now }
@@ -163,12 +165,18 @@ impl<'a> InputFiles<'a> {
 
 /// The line of a fault.
 #[derive(Clone, Copy)]
-pub(crate) struct MergeLine<'a> {
-    pub(crate) fault: &'a MergeFault,
-    pub(crate) files: &'a InputFiles<'a>,
+pub struct MergeLine<'a> {
+    pub fault: &'a MergeFault,
+    pub files: &'a InputFiles<'a>,
 }
 
 impl MergeLine<'_> {
+    /// Writes that the event at the place is bad.
+    fn write_event<W: fmt::Write>(&self, f: &mut fmt::Formatter<W>, place: usize) -> fmt::Result {
+        let spot = self.files.event(place);
+        write!(f, "BadEvent {spot}")
+    }
+
     /// Writes the refusal of what the files have together.
     fn write_refusal<W: fmt::Write>(
         &self,
@@ -177,10 +185,7 @@ impl MergeLine<'_> {
         breach: LogBreach,
     ) -> fmt::Result {
         match refusal {
-            DumpRefusal::BadEvent(place) => {
-                let spot = self.files.event(place);
-                write!(f, "BadEvent {spot}")
-            }
+            DumpRefusal::BadEvent(place) => self.write_event(f, place),
             DumpRefusal::BadHeld(place) => {
                 let spot = self.files.pair(place);
                 write!(f, "BadHeld {spot}")
@@ -208,8 +213,7 @@ impl fmt::Display for MergeLine<'_> {
             MergeFault::Files(FilesDiffer::Memory) => f.write_str("memory"),
             MergeFault::Order(OrderFault::NoOrder(chain)) => {
                 let place = chain.first().map_or(0, |stuck| stuck.place);
-                let spot = self.files.event(place);
-                write!(f, "BadEvent {spot}")
+                self.write_event(f, place)
             }
             MergeFault::Order(OrderFault::Refused(refusal, breach)) => {
                 self.write_refusal(f, *refusal, *breach)
@@ -220,9 +224,9 @@ impl fmt::Display for MergeLine<'_> {
 
 /// The fault in words for a person.
 #[derive(Clone, Copy)]
-pub(crate) struct MergeExplanation<'a> {
-    pub(crate) fault: &'a MergeFault,
-    pub(crate) files: &'a InputFiles<'a>,
+pub struct MergeExplanation<'a> {
+    pub fault: &'a MergeFault,
+    pub files: &'a InputFiles<'a>,
 }
 
 impl MergeExplanation<'_> {
@@ -280,6 +284,18 @@ impl MergeExplanation<'_> {
         Ok(())
     }
 
+    /// Writes which rule the entry at the place breaks.
+    fn write_broken<W: fmt::Write, E: fmt::Display + Copy, R: fmt::Display + Copy>(
+        &self,
+        f: &mut fmt::Formatter<W>,
+        place: usize,
+        entry: E,
+        rule: R,
+    ) -> fmt::Result {
+        let spot = Place(self.files.event(place));
+        write!(f, "event {spot} is {entry}, and {rule}")
+    }
+
     /// Writes which rule the held pair breaks.
     fn write_pair<W: fmt::Write>(
         &self,
@@ -306,24 +322,14 @@ impl MergeExplanation<'_> {
     ) -> fmt::Result {
         match breach {
             LogBreach::Trace(Breach::Event(fault)) => {
-                let spot = Place(self.files.event(fault.place));
-                let (event, rule) = (fault.event, fault.rule);
-                write!(f, "event {spot} is {event}, and {rule}")
+                self.write_broken(f, fault.place, fault.event, fault.rule)
             }
             LogBreach::Control(fault) => {
-                let spot = Place(self.files.event(fault.place));
-                let (entry, rule) = (fault.entry, fault.rule);
-                write!(f, "event {spot} is {entry}, and {rule}")
+                self.write_broken(f, fault.place, fault.entry, fault.rule)
             }
-            LogBreach::Life(fault) => {
-                let spot = Place(self.files.event(fault.place));
-                let (entry, rule) = (fault.entry, fault.rule);
-                write!(f, "event {spot} is {entry}, and {rule}")
-            }
+            LogBreach::Life(fault) => { self.write_broken(f, fault.place, fault.entry, fault.rule) }
             LogBreach::Record(fault) => {
-                let spot = Place(self.files.event(fault.place));
-                let (entry, rule) = (fault.entry, fault.rule);
-                write!(f, "event {spot} is {entry}, and {rule}")
+                self.write_broken(f, fault.place, fault.entry, fault.rule)
             }
             LogBreach::Trace(Breach::Held(fault)) => self.write_pair(f, fault),
             LogBreach::Trace(Breach::Strike(least)) => {

@@ -1,9 +1,7 @@
 -- What comes of several dumps, or of several logs: one run of all their events, in an order.
 use Rattle.std.specs.Prelude.{◌≡◌, ℕ, ◌<◌, Bool, false, true, not, List, ◌∷◌, ◌++◌, length, map}
-use Rattle.fbl_dumps.specs.declared.refusal.DumpRefusal.TheVariants as dump
 use Rattle.fbl_dumps.specs.Dumps.{Parts, IsDump}
 use Rattle.fbl_trace.specs.Rules.{WellFormed}
-use Rattle.fbl_order.specs.declared.fault.OrderFault.TheVariants as orders
 use Rattle.fbl_order.specs.declared.files.FilesDiffer.TheVariants as files
 use Rattle.fbl_order.specs.declared.order.Ordered.{Ordered}
 use Rattle.fbl_order.specs.Faults.{RefusesGiven, RefusesUnordered}
@@ -15,10 +13,10 @@ use Rattle.fbl_records.specs.declared.reader.Recording.{Recording}
 use Rattle.fbl_records.specs.declared.reader.Recording.TheVariants as checked
 use Rattle.fbl_records.specs.declared.reader.RawRecording.{RawRecording}
 use Rattle.fbl_records.specs.declared.reader.RawRecording.TheVariants as raws
-use Rattle.fbl_program.specs.declared.merge.MergeFault.{MergeFault}
-use Rattle.fbl_program.specs.declared.merge.MergeFault.TheVariants as faults
-use Rattle.fbl_program.specs.declared.merge.Together.{Together}
-use Rattle.fbl_program.specs.declared.merge.Together.TheVariants.{Dumps, Logs}
+use Rattle.fbl_records.specs.declared.merge.MergeFault.{MergeFault}
+use Rattle.fbl_records.specs.declared.merge.MergeFault.TheVariants as faults
+use Rattle.fbl_records.specs.declared.merge.Together.{Together}
+use Rattle.fbl_records.specs.declared.merge.Together.TheVariants.{Dumps, Logs}
 
 -- what was found are these dumps, or these logs, of which there is one, in their order
 abbrev pub AreTogether : List RawRecording → Together → Type 0
@@ -86,9 +84,3 @@ RefusesMerge (Dumps dumps) (faults.Order fault) = (whole : Parts) × IsUnionOfDu
 RefusesMerge (Logs logs) (faults.Order fault) =
     (whole : RunParts) × (given : List ℕ) × IsUnionOfLogs logs.items whole given × RefusesGiven whole given fault
 RefusesMerge together fault = ⊥
-
--- 4 where memory ran out, and else 2
-abbrev pub merge_status : MergeFault → ℕ
-merge_status (faults.Files files.Memory) = 4
-merge_status (faults.Order (orders.Refused dump.Memory breach)) = 4
-merge_status fault = 2

@@ -2,21 +2,20 @@
 
 ghost use Rattle.std.specs.Prelude.{◌≡◌, ◌<◌, IfErr, IfOk, List, [], ◌∷◌, ◌++◌};
 ghost use Rattle.fbl_records.specs.declared.reader.RawRecording.{RawRecording};
-ghost use Rattle.fbl_program.specs.Merges.{AreTogether, IsMergeOf, RefusesMerge, RefusesVersions, count_of, merge_status};
+ghost use Rattle.fbl_records.specs.Merges.{AreTogether, IsMergeOf, RefusesMerge, RefusesVersions, count_of};
 
-use crate::status::{INPUT_FAULT, MEMORY_FAULT};
-use fbl_dumps::{DumpRefusal, RawDump};
+use crate::reader::{RawRecording, Recording};
+use fbl_dumps::RawDump;
 use fbl_order::{
     FilesDiffer, OrderFault, Ordered, order_dump, order_union, union_of_dumps, union_of_logs,
 };
-use fbl_records::{RawRecording, Recording};
 use fbl_runs::RawLog;
 use std::alloc::{AllocError, AllocFailed, Global};
 use std::convert::From;
 
 /// Why what several files record is no run together.
 #[derive(Drop)]
-pub(crate) enum MergeFault {
+pub enum MergeFault {
     /// The file with this number, the first such, has a log, and the first file a dump, which has no version.
     LogAmongDumps(usize),
     /// The file with this number, the first such, has a dump, and the first file a log.
@@ -28,7 +27,7 @@ pub(crate) enum MergeFault {
 }
 
 impl From<FilesDiffer> for MergeFault {
-    ghost use Rattle.fbl_program.specs.declared.merge.MergeFault.TheVariants.{Files};
+    ghost use Rattle.fbl_records.specs.declared.merge.MergeFault.TheVariants.{Files};
 
     ghost from_gives = { λ fault e. e ≡ Files fault };
 
@@ -38,7 +37,7 @@ impl From<FilesDiffer> for MergeFault {
 }
 
 impl From<OrderFault> for MergeFault {
-    ghost use Rattle.fbl_program.specs.declared.merge.MergeFault.TheVariants.{Order};
+    ghost use Rattle.fbl_records.specs.declared.merge.MergeFault.TheVariants.{Order};
 
     ghost from_gives = { λ fault e. e ≡ Order fault };
 
@@ -48,7 +47,7 @@ impl From<OrderFault> for MergeFault {
 }
 
 impl From<AllocError> for MergeFault {
-    ghost use Rattle.fbl_program.specs.declared.merge.MergeFault.TheVariants.{Files};
+    ghost use Rattle.fbl_records.specs.declared.merge.MergeFault.TheVariants.{Files};
     ghost use Rattle.fbl_order.specs.declared.files.FilesDiffer.TheVariants.{Memory};
 
     ghost from_gives = { λ _ e. e ≡ Files Memory };
@@ -59,7 +58,7 @@ impl From<AllocError> for MergeFault {
 }
 
 impl<T: Drop> From<AllocFailed<T>> for MergeFault {
-    ghost use Rattle.fbl_program.specs.declared.merge.MergeFault.TheVariants.{Files};
+    ghost use Rattle.fbl_records.specs.declared.merge.MergeFault.TheVariants.{Files};
     ghost use Rattle.fbl_order.specs.declared.files.FilesDiffer.TheVariants.{Memory};
 
     ghost from_gives = { λ _ e. e ≡ Files Memory };
@@ -69,29 +68,18 @@ impl<T: Drop> From<AllocFailed<T>> for MergeFault {
     }
 }
 
-impl MergeFault {
-    /// The exit status of the fault.
-    pub(crate) fn status(&self) -> u8
-        ensures { result ≡ merge_status self.now }
-    {
-        match self {
-            MergeFault::Files(FilesDiffer::Memory)
-            | MergeFault::Order(OrderFault::Refused(DumpRefusal::Memory, _)) => MEMORY_FAULT,
-            _ => INPUT_FAULT,
-        }
-    }
-}
-
 /// What several files record of one run, all in one version.
 #[derive(Drop)]
-pub(crate) enum Together {
+pub enum Together {
+    /// Dumps, in the order of their files.
     Dumps(Vec<RawDump>),
+    /// Logs, in the order of their files.
     Logs(Vec<RawLog>),
 }
 
 impl Together {
     /// What one file records.
-    pub(crate) fn of(alloc: Global, recorded: RawRecording) -> Result<Together, AllocError>
+    pub fn of(alloc: Global, recorded: RawRecording) -> Result<Together, AllocError>
         ensures { IfOk result (AreTogether (recorded ∷ [])) }
     {
         Ok(match recorded {
@@ -139,10 +127,7 @@ impl Together {
 }
 
 /// What these files record, where they are of one version.
-pub(crate) fn in_one_version(
-    alloc: Global,
-    files: Vec<RawRecording>,
-) -> Result<Together, MergeFault>
+pub fn in_one_version(alloc: Global, files: Vec<RawRecording>) -> Result<Together, MergeFault>
     ensures together { IfOk result (AreTogether files.items) }
     ensures refused { IfErr result (RefusesVersions files.items) }
 {
@@ -155,7 +140,7 @@ pub(crate) fn in_one_version(
 
 /// What the files have together, its events in an order in which each member's own stand as the files have them, one file's behind
 /// another's, and of logs its pieces by their lives.
-pub(crate) fn merge_of(alloc: Global, files: &Together) -> Result<Ordered<Recording>, MergeFault>
+pub fn merge_of(alloc: Global, files: &Together) -> Result<Ordered<Recording>, MergeFault>
     requires { 0 < count_of files.now }
     ensures merged { IfOk result (IsMergeOf files.now) }
     ensures refused { IfErr result (RefusesMerge files.now) }
