@@ -1,4 +1,4 @@
-pub use Rattle.std.proofs.Common.{Err, IfErr, List, Ok, Result, [], ap, append-nil, arith, get_or, inl, inr, length, refl, string_bytes, subst}
+pub use Rattle.std.proofs.Common.{Err, IfErr, List, Ok, Result, [], ap, append-nil, arith, get_or, inl, inr, length, refl, subst}
 pub use Rattle.std.proofs.Common.{sym, take, drop, ℕ, ◌++◌, ◌+◌, ◌<◌, ◌∙◌, ◌∷◌, ◌≡◌, ◌≤◌, Bool, true, false, not, cond, suc, map, length-drop}
 pub use Rattle.fbl_group.proofs.Common.{false≢true, true_from_ne_false, filter, Next, Members, Has, itself, lost_receipts, no_orphan, up_if_none, IsStrike, GroupRecord}
 pub use Rattle.fbl_group.proofs.Common.{is_recorded, knowledge, marks, IsSound, MemberRecord}
@@ -13,8 +13,7 @@ pub use Rattle.fbl_law.proofs.Keeping.{recorded_test, was_up}
 pub use Rattle.fbl_threads.specs.Drains.{RecordedDrains}
 pub use Rattle.fbl_threads.specs.declared.drains.DrainRefusal.{DrainRefusal}
 pub use Rattle.fbl_threads.specs.declared.drains.RecordedDrain.{RecordedDrain}
-pub use Rattle.fbl_play.specs.Reasons.{IsPlanRefused}
-pub use Rattle.fbl_play.specs.Texts.{of_members, member_line, state_word}
+pub use Rattle.fbl_scripts.specs.Reasons.{IsPlanRefused}
 pub use Rattle.fbl_scripts.proofs.Common.{None, Option, Some}
 pub use Rattle.fbl_scripts.proofs.Common.{map_push, over_input}
 pub use Rattle.std.proofs.Math.Logic.{∥∥₁_map}
@@ -33,4 +32,4 @@ pub use Rattle.fbl_turns.proofs.Leading.{turns_lead}
 pub use Rattle.fbl_play.specs.Plays.{Along, IsPlay, IsRun, IsRunOne, IsStopped, Moment, Observes, PlaysUnobserved, Ran, Runs, next_of}
 pub use Rattle.fbl_play.specs.Steps.{Step, turns_each}
 pub use Rattle.fbl_play.specs.Transcripts.{IsAdded, IsBegun, IsLedOn, IsOfGroup, Transcript}
-pub use Rattle.fbl_play.specs.declared.answer.Answer.{Answer}
+pub use Rattle.fbl_scripts.specs.declared.answer.Answer.{Answer}

@@ -11,9 +11,9 @@ use Rattle.fbl_group.specs.Deliveries.{deliver_refusal}
 use Rattle.fbl_group.specs.Strikes.{strike_refusal}
 use Rattle.fbl_history.specs.Traces.{go_on_to, start_columns}
 use Rattle.fbl_history.specs.declared.column.Column.TheVariants.{Checkpoint}
-use Rattle.fbl_play.specs.declared.answer.Answer.TheVariants as answers
+use Rattle.fbl_scripts.specs.declared.answer.Answer.TheVariants as answers
 use Rattle.fbl_play.specs.Steps.{CheckpointBy, DeliveryBy, IsRecovered, IsRefused, IsRunAnswer, StrikeBy}
-use Rattle.fbl_play.specs.declared.reason.Reason.{Reason}
+use Rattle.fbl_scripts.specs.declared.reason.Reason.{Reason}
 use Rattle.fbl_play.specs.Transcripts.{history, text, GoesOn}
 use Rattle.fbl_scripts.specs.declared.script.Command.TheVariants as commands
 use Rattle.fbl_threads.specs.declared.drains.DrainRefusal.TheVariants as drain

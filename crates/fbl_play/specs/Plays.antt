@@ -19,7 +19,7 @@ use Rattle.fbl_history.specs.declared.column.Column.{Column}
 use Rattle.fbl_history.specs.declared.record.RecordFault.{RecordFault}
 use Rattle.fbl_history.specs.declared.record.RecordFault.TheVariants as faults
 use Rattle.fbl_runs.specs.Logs.{RunParts}
-use Rattle.fbl_play.specs.declared.answer.Answer.{Answer}
+use Rattle.fbl_scripts.specs.declared.answer.Answer.{Answer}
 use Rattle.fbl_play.specs.Steps.{Step}
 use Rattle.fbl_play.specs.Transcripts.{Transcript, IsAdded, IsBegun, IsCut, IsOfGroup, history, text}
 

@@ -1,5 +1,5 @@
 -- What each command of a script does to a group, and what it answers.
-use Rattle.std.specs.Prelude.{◌≡◌, ℕ, ◌⊎◌, Bool, true, false, List, length, Option, Some, None, codes, Result, Ok, Err}
+use Rattle.std.specs.Prelude.{◌≡◌, ℕ, ◌⊎◌, false, List, length, Option, Some, None, codes, Result, Ok, Err}
 use Rattle.std.specs.List.{filter}
 use Rattle.std.specs.FinSet as set
 use Rattle.fbl_trace.specs.declared.trace.Note.{Note}
@@ -27,15 +27,11 @@ use Rattle.fbl_threads.specs.declared.drains.DrainRefusal.{DrainRefusal}
 use Rattle.fbl_threads.specs.declared.drains.DrainRefusal.TheVariants as drain
 use Rattle.fbl_threads.specs.Drains.{RecordedDrains}
 use Rattle.fbl_threads.specs.Names.{drain_name}
-use Rattle.fbl_play.specs.declared.answer.Answer.{Answer}
-use Rattle.fbl_play.specs.declared.answer.Answer.TheVariants as answers
-use Rattle.fbl_play.specs.declared.reason.Reason.{Reason}
-use Rattle.fbl_play.specs.declared.reason.Reason.TheVariants.{NotDown}
-use Rattle.fbl_play.specs.Reasons.{checkpoint_reason, deliver_reason, no_such_member, strike_reason, IsRunReason}
-
-abbrev pub is_refusal : Answer → Bool
-is_refusal (answers.Refusal command refusal reason) = true
-is_refusal _ = false
+use Rattle.fbl_scripts.specs.declared.answer.Answer.{Answer}
+use Rattle.fbl_scripts.specs.declared.answer.Answer.TheVariants as answers
+use Rattle.fbl_scripts.specs.declared.reason.Reason.{Reason}
+use Rattle.fbl_scripts.specs.declared.reason.Reason.TheVariants.{NotDown}
+use Rattle.fbl_scripts.specs.Reasons.{checkpoint_reason, deliver_reason, no_such_member, strike_reason, IsRunReason}
 
 -- the answer is the refusal with this name of the command with that name, for this reason
 abbrev pub IsRefused : List ℕ → List ℕ → Reason → Answer → Type 0

@@ -10,9 +10,9 @@ use Rattle.fbl_history.specs.Turns.{IsAfterTurns, IsLedTo}
 use Rattle.fbl_input.specs.declared.output.OutputFault.{OutputFault}
 use Rattle.fbl_input.specs.declared.output.OutputFault.TheVariants as faults
 use Rattle.fbl_law.specs.Groups.{GroupRecord}
-use Rattle.fbl_play.specs.declared.answer.Answer.{Answer}
-use Rattle.fbl_play.specs.declared.answer.Answer.TheVariants as answers
-use Rattle.fbl_play.specs.Texts.{IsText}
+use Rattle.fbl_scripts.specs.declared.answer.Answer.{Answer}
+use Rattle.fbl_scripts.specs.declared.answer.Answer.TheVariants as answers
+use Rattle.fbl_scripts.specs.Texts.{IsText}
 
 -- what a writer has, if that is known, or the columns of the history, once it has begun
 pub data Transcript : Type 0 where

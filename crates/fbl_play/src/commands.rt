@@ -5,15 +5,14 @@ ghost use Rattle.std.specs.List.{filter};
 ghost use Rattle.fbl_trace.specs.declared.trace.Determinant.{Determinant};
 ghost use Rattle.fbl_group.specs.Strikes.{lost_receipts};
 ghost use Rattle.fbl_law.specs.Groups.{IsSound};
-ghost use Rattle.fbl_play.specs.Reasons.{IsPlanRefused};
+ghost use Rattle.fbl_scripts.specs.Reasons.{IsPlanRefused};
 ghost use Rattle.fbl_play.specs.Steps.{CheckpointStep, DeliverStep, HasMembers, IsDumped, IsRunAnswer, RecoverStep, RunStep, Step, StrikeStep};
 
-use crate::answer::Answer;
-use crate::reason::{
-    Reason, checkpoint_reason, deliver_reason, no_such_member, run_reason, strike_reason,
-};
 use fbl_group::{CheckpointRefusal, DeliverRefusal, DumpGroupRefusal, Group, RecoverRefusal};
-use fbl_scripts::{Command, Plan};
+use fbl_scripts::{
+    Answer, Command, Plan, Reason, checkpoint_reason, deliver_reason, no_such_member, run_reason,
+    strike_reason,
+};
 use fbl_threads::{DrainRefusal, NoGate, RecordedDrain, drain_recorded};
 use fbl_trace::{Behaviour, Determinant, Member, MemberSet, Note, Strike};
 use std::alloc::{AllocError, Global};

@@ -1,9 +1,8 @@
 //! Who observes the commands of a run.
 
-use crate::answer::Answer;
 use crate::transcript::Transcribed;
 use fbl_group::Group;
-use fbl_scripts::Command;
+use fbl_scripts::{Answer, Command};
 use fbl_trace::{Behaviour, Note};
 
 /// Is called for each command of a run, in their order: before it is run, and once it was run and is in the transcript. Each
@@ -16,7 +15,7 @@ pub trait Observer {
     ghost use Rattle.fbl_trace.specs.declared.trace.Note.{Note};
     ghost use Rattle.fbl_law.specs.Groups.{GroupRecord};
     ghost use Rattle.fbl_play.specs.Transcripts.{Transcript};
-    ghost use Rattle.fbl_play.specs.declared.answer.Answer.{Answer};
+    ghost use Rattle.fbl_scripts.specs.declared.answer.Answer.{Answer};
     ghost use Rattle.fbl_scripts.specs.declared.script.Command.{Command};
 
     ghost observes_before: { GroupRecord ℕ Note → Transcript → Self → Command → Self → Type 0 };

@@ -4,10 +4,10 @@ ghost use Rattle.std.specs.Prelude.{◌≡◌, IfErr, IfOk, OnErr, OnOk, Some};
 ghost use Rattle.fbl_play.specs.Transcripts.{history as as_history, GoesOn, IsAdded, IsBegun, IsCut, IsLedOn};
 ghost use Rattle.fbl_play.specs.Steps.{HasMembers};
 
-use crate::answer::Answer;
 use fbl_group::Group;
 use fbl_history::History;
 use fbl_input::{OutputFault, put};
+use fbl_scripts::Answer;
 use fbl_trace::{Behaviour, Note};
 use std::alloc::{AllocError, Global};
 use std::io::Write;

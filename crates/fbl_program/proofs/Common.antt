@@ -21,8 +21,8 @@ pub use Rattle.clap.specs.declared.parser.matches.ArgMatches.{ArgMatches}
 pub use Rattle.clap.specs.declared.parser.matches.ArgMatches.TheViews.{out-ArgMatches, out-SubCommand}
 pub use Rattle.clap.specs.declared.parser.matches.SubCommand.{SubCommand}
 pub use Rattle.fbl_trace.specs.Configs.{WorkersAllowed}
-pub use Rattle.fbl_play.specs.Steps.{is_refusal}
-pub use Rattle.fbl_play.specs.declared.answer.Answer.{Answer}
+pub use Rattle.fbl_scripts.specs.Reasons.{is_refusal}
+pub use Rattle.fbl_scripts.specs.declared.answer.Answer.{Answer}
 pub use Rattle.fbl_pictures.specs.HistoryPictures.{IsHistoryPicture}
 pub use Rattle.fbl_program.specs.CommandLines.{AreNames, AreWorkers, IsFlag, IsMisuseOf, IsJobOf, IsRefusedFor, Names, is_merge, IsCommandLine, IsTaskAt, flag_text, is_play, is_record, is_record_workers, is_show, task_for, explain_for, program}
 pub use Rattle.fbl_program.specs.CommandLines.{with_explain, with_strict, IsJobAt, is_audit, is_check, is_draw, is_show_workers, is_workers}

@@ -17,7 +17,7 @@ use Rattle.fbl_pictures.specs.HistoryPictures.{IsHistoryPicture}
 use Rattle.fbl_pictures.specs.RunPictures.{IsRunPicture}
 use Rattle.fbl_pictures.specs.RunShapes.{shown_entries}
 use Rattle.fbl_play.specs.Plays.{PlaysUnobserved, next_of}
-use Rattle.fbl_play.specs.Steps.{is_refusal}
+use Rattle.fbl_scripts.specs.Reasons.{is_refusal}
 use Rattle.fbl_play.specs.Transcripts.{history, text}
 use Rattle.fbl_records.specs.DumpLines.{dump_line}
 use Rattle.fbl_records.specs.Lines.{audit_lines}

@@ -7,9 +7,9 @@ use crate::status::{INPUT_FAULT, fail, merge_status_of, status_of};
 use crate::streams::Failure;
 use fbl_group::Group;
 use fbl_input::{InputFault, RunFault};
-use fbl_play::{Answer, Observer, Remark, Transcribed};
+use fbl_play::{Observer, Transcribed};
 use fbl_records::{InputFiles, MergeExplanation, MergeFault, MergeLine};
-use fbl_scripts::Command;
+use fbl_scripts::{Answer, Command, Remark};
 use fbl_trace::{Behaviour, Note};
 use std::alloc::Global;
 
@@ -41,7 +41,7 @@ impl<'a, R> Teller<'a, R> {
 
 impl<R: Eprint> Observer for Teller<'_, R> {
     ghost use Rattle.std.specs.Prelude.{◌≡◌, ◌||◌};
-    ghost use Rattle.fbl_play.specs.Steps.{is_refusal};
+    ghost use Rattle.fbl_scripts.specs.Reasons.{is_refusal};
 
     // what is told on standard error no contract sees
     ghost observes_before = { λ _ _ old _ new. new.has_refused ≡ old.has_refused };

@@ -1,8 +1,8 @@
 //! What a command did beside what its lines say, in words for a person.
 
 use crate::answer::Answer;
+use crate::script::Command;
 use fbl_group::{CrashRecord, Recovered};
-use fbl_scripts::Command;
 use fbl_threads::{Drained, RecordedDrain};
 use fbl_trace::{Determinant, Strike};
 use std::fmt;

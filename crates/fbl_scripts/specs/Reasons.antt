@@ -1,5 +1,5 @@
--- Why commands are refused, with the numbers of the group that refused them.
-use Rattle.std.specs.Prelude.{◌≡◌, ℕ, List, length}
+-- Which commands are refused, and why, with the numbers of the group that refused them.
+use Rattle.std.specs.Prelude.{◌≡◌, ℕ, Bool, true, false, List, length}
 use Rattle.std.specs.FinSet as set
 use Rattle.fbl_trace.specs.declared.trace.Note.{Note}
 use Rattle.fbl_trace.specs.Configs.{Settings}
@@ -16,8 +16,15 @@ use Rattle.fbl_group.specs.declared.refusals.StrikeRefusal.TheVariants as strike
 use Rattle.fbl_law.specs.Groups.{GroupRecord}
 use Rattle.fbl_threads.specs.declared.drains.DrainRefusal.{DrainRefusal}
 use Rattle.fbl_threads.specs.declared.drains.DrainRefusal.TheVariants as drain
-use Rattle.fbl_play.specs.declared.reason.Reason.{Reason}
-use Rattle.fbl_play.specs.declared.reason.Reason.TheVariants as reasons
+use Rattle.fbl_scripts.specs.declared.answer.Answer.{Answer}
+use Rattle.fbl_scripts.specs.declared.answer.Answer.TheVariants as answers
+use Rattle.fbl_scripts.specs.declared.reason.Reason.{Reason}
+use Rattle.fbl_scripts.specs.declared.reason.Reason.TheVariants as reasons
+
+-- whether the command was refused
+abbrev pub is_refusal : Answer → Bool
+is_refusal (answers.Refusal command refusal reason) = true
+is_refusal _ = false
 
 -- the command names these members, of which the group has not all
 abbrev pub no_such_member : GroupRecord ℕ Note → Members → Reason

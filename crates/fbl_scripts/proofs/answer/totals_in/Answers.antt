@@ -1,7 +1,7 @@
 use Rattle.std.proofs.Common.{◌≡◌, ◌∙◌, ◌∷◌, [], List, ap, length, map, refl, rules, sym}
 use Rattle.fbl_trace.proofs.Common.{suc}
 use Rattle.std.specs.Vec.{vec_len}
-use Rattle.fbl_play.proofs.answer.totals_in.Goals as goal
+use Rattle.fbl_scripts.proofs.answer.totals_in.Goals as goal
 
 -- a map keeps how many there are
 as_many : {X Y : Type 0} (f : X → Y) (xs : List X) → length (map f xs) ≡ length xs

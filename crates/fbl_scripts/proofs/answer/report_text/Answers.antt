@@ -1,7 +1,7 @@
-use Rattle.fbl_play.proofs.Common.{◌≡◌, ◌++◌, ◌∙◌, ap, arith, member_line, of_members}
+use Rattle.fbl_scripts.proofs.Common.{◌≡◌, ◌++◌, ◌∙◌, ap, arith, member_line, of_members}
 use Rattle.fbl_trace.specs.Configs.{Settings}
-use Rattle.fbl_play.specs.Texts.{total_lines}
-use Rattle.fbl_play.proofs.answer.report_text.Goals as goal
+use Rattle.fbl_scripts.specs.Texts.{total_lines}
+use Rattle.fbl_scripts.proofs.answer.report_text.Goals as goal
 
 pub returns : goal.returns
 returns g c =

@@ -1,8 +1,8 @@
 //! Why a command is refused, with the numbers of the group that refused it and is as it was.
 
 ghost use Rattle.std.specs.Prelude.{◌≡◌};
-ghost use Rattle.fbl_play.specs.Reasons.{IsPlanRefused, IsRunReason};
-ghost use Rattle.fbl_play.specs.Reasons.{checkpoint_reason as checkpoint_reason_of, deliver_reason as deliver_reason_of, no_such_member as no_member_of, strike_reason as strike_reason_of};
+ghost use Rattle.fbl_scripts.specs.Reasons.{IsPlanRefused, IsRunReason};
+ghost use Rattle.fbl_scripts.specs.Reasons.{checkpoint_reason as checkpoint_reason_of, deliver_reason as deliver_reason_of, no_such_member as no_member_of, strike_reason as strike_reason_of};
 
 use fbl_group::{CheckpointRefusal, DeliverRefusal, Group, StrikeRefusal};
 use fbl_threads::DrainRefusal;
@@ -75,7 +75,8 @@ pub enum Reason {
     Uneven,
 }
 
-pub(crate) fn no_such_member<B: Behaviour<State = u64, Note = Note>>(
+/// Why a command that names these members is refused: the group has not all of them.
+pub fn no_such_member<B: Behaviour<State = u64, Note = Note>>(
     group: &Group<B>,
     named: MemberSet,
 ) -> Reason
@@ -87,7 +88,8 @@ pub(crate) fn no_such_member<B: Behaviour<State = u64, Note = Note>>(
     })
 }
 
-pub(crate) fn deliver_reason<B: Behaviour<State = u64, Note = Note>>(
+/// Why nothing is delivered to the one member from the other.
+pub fn deliver_reason<B: Behaviour<State = u64, Note = Note>>(
     group: &Group<B>,
     to: Member,
     from: Member,
@@ -106,7 +108,8 @@ pub(crate) fn deliver_reason<B: Behaviour<State = u64, Note = Note>>(
     }
 }
 
-pub(crate) fn strike_reason<B: Behaviour<State = u64, Note = Note>>(
+/// Why the members of the set are not struck.
+pub fn strike_reason<B: Behaviour<State = u64, Note = Note>>(
     group: &Group<B>,
     set: MemberSet,
     refusal: StrikeRefusal,
@@ -123,7 +126,8 @@ pub(crate) fn strike_reason<B: Behaviour<State = u64, Note = Note>>(
     }
 }
 
-pub(crate) fn checkpoint_reason<B: Behaviour<State = u64, Note = Note>>(
+/// Why no checkpoint of the member is taken.
+pub fn checkpoint_reason<B: Behaviour<State = u64, Note = Note>>(
     group: &Group<B>,
     member: Member,
     refusal: CheckpointRefusal,
@@ -136,7 +140,8 @@ pub(crate) fn checkpoint_reason<B: Behaviour<State = u64, Note = Note>>(
     }
 }
 
-pub(crate) fn run_reason<B: Behaviour<State = u64, Note = Note>>(
+/// Why workers with this plan do not run. Of a bad plan it has the first bad entry, and the first rule that this breaks.
+pub fn run_reason<B: Behaviour<State = u64, Note = Note>>(
     group: &Group<B>,
     plan: &[Strike],
     refusal: &DrainRefusal,

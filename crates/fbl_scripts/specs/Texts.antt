@@ -12,11 +12,11 @@ use Rattle.fbl_records.specs.Lines.{lost_line, orphans_line}
 use Rattle.fbl_input.specs.Lines.{line}
 use Rattle.fbl_input.specs.Lines.{set_words}
 use Rattle.fbl_turns.specs.declared.counted.Drained.{Drained}
-use Rattle.fbl_play.specs.declared.answer.Answer.{Answer}
-use Rattle.fbl_play.specs.declared.answer.Answer.TheVariants as answers
-use Rattle.fbl_play.specs.declared.answer.Totals.{Totals}
-use Rattle.fbl_play.specs.declared.reason.Reason.{Reason}
-use Rattle.fbl_play.specs.declared.reason.Reason.TheVariants.{BadPlan}
+use Rattle.fbl_scripts.specs.declared.answer.Answer.{Answer}
+use Rattle.fbl_scripts.specs.declared.answer.Answer.TheVariants as answers
+use Rattle.fbl_scripts.specs.declared.answer.Totals.{Totals}
+use Rattle.fbl_scripts.specs.declared.reason.Reason.{Reason}
+use Rattle.fbl_scripts.specs.declared.reason.Reason.TheVariants.{BadPlan}
 
 -- what is said of each of so many members, from the first one on
 abbrev pub of_members : (ℕ → List ℕ) → ℕ → List ℕ

@@ -2,8 +2,8 @@
 
 ghost use Rattle.std.specs.Prelude.{◌≡◌, ◌<◌, ◌++◌, ◌∷◌, [], IfOk, OnOk, codes, decimal, string_bytes};
 ghost use Rattle.fbl_law.specs.Promises.{dump_of};
-ghost use Rattle.fbl_play.specs.Steps.{is_refusal as is_refusal_of};
-ghost use Rattle.fbl_play.specs.Texts.{AreTotals, IsReport, IsText, delivery_line, end_word as end_word_of, member_line, recovery_line, refusal_line, states_line, total_lines};
+ghost use Rattle.fbl_scripts.specs.Reasons.{is_refusal as is_refusal_of};
+ghost use Rattle.fbl_scripts.specs.Texts.{AreTotals, IsReport, IsText, delivery_line, end_word as end_word_of, member_line, recovery_line, refusal_line, states_line, total_lines};
 ghost use Rattle.fbl_input.specs.Lines.{line};
 ghost use Rattle.fbl_input.specs.Lines.{set_words};
 

@@ -1,5 +1,5 @@
-use Rattle.fbl_play.proofs.Common.{refl}
-use Rattle.fbl_play.proofs.reason.run_reason.Goals as goal
+use Rattle.fbl_scripts.proofs.Common.{refl}
+use Rattle.fbl_scripts.proofs.reason.run_reason.Goals as goal
 
 pub unreachable-requires : goal.unreachable-requires
 unreachable-requires g c =
