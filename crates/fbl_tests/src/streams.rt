@@ -15,7 +15,6 @@ use std::test::Fail;
 use std::thread::Threads;
 
 /// What the program does with a word and an input: the text that it writes, and its exit status.
-#[derive(Debug)]
 struct Use {
     word: &'static str,
     input: &'static str,
@@ -139,7 +138,11 @@ fn one_byte_a_read_and_interruptions(rt: HostRuntime) -> Result<(), Fail> {
         for (interruptions, due) in [(0, whole), (1000, whole), (1001, (CHANNEL_FAULT, 0))] {
             let mut streams = Stumbling::new(rt.alloc(), of, 1);
             streams.interruptions = interruptions;
-            assert!(rt; outcome(&rt, &streams)? == due, "{of:?} at {interruptions}");
+            assert!(rt;
+                outcome(&rt, &streams)? == due,
+                "{} at {interruptions}",
+                of.word
+            );
         }
     }
     Ok(())
@@ -156,7 +159,7 @@ fn failed_reads(rt: HostRuntime) -> Result<(), Fail> {
                 assert!(rt; fails_at > 10);
                 break;
             }
-            assert!(rt; ended == (CHANNEL_FAULT, 0), "{of:?} at {fails_at}");
+            assert!(rt; ended == (CHANNEL_FAULT, 0), "{} at {fails_at}", of.word);
         }
     }
     Ok(())
@@ -178,7 +181,11 @@ fn fail_each_write<T: Print + Eprint + Threads + Wait + Sync + Abort>(
             break;
         }
         let is_front = written < of.text.len();
-        assert!(rt; status == CHANNEL_FAULT && is_front, "{of:?} at {fails_at}");
+        assert!(rt;
+            status == CHANNEL_FAULT && is_front,
+            "{} at {fails_at}",
+            of.word
+        );
     }
     Ok(())
 }

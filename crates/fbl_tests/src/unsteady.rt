@@ -45,7 +45,7 @@ impl Read for UnsteadyReader<'_> {
 }
 
 /// What a write does where it fails: it answers an error, is interrupted, or takes no byte.
-#[derive(Clone, Copy, PartialEq, Eq, Debug)]
+#[derive(Clone, Copy)]
 pub(crate) enum FailedWrite {
     Error,
     Interruption,
