@@ -10,13 +10,14 @@ use Rattle.std.proofs.lemmas.Bool.{cases_order}
 use Rattle.fbl_runs.proofs.ClockLaws.{last_there}
 use Rattle.fbl_judge.specs.declared.check.Candidate.{Candidate}
 use Rattle.fbl_judge.specs.declared.check.UnsafeReceipt.{UnsafeReceipt}
+use Rattle.fbl_judge.specs.declared.view.RestartCounts.{RestartCounts}
 use Rattle.fbl_judge.specs.declared.view.View.{View}
 use Rattle.fbl_runs.specs.Clocks.{StandsAt, cut_of}
 use Rattle.fbl_runs.specs.Rules.{restarts}
 use Rattle.fbl_runs.specs.Logs.{RunParts, run_of}
 use Rattle.fbl_judge.specs.Unsafe.{ComesFirst, HasFewerRestarts, IsCandidate, IsFewer, IsFirstCandidate, IsLeastLoss, IsLeastStrike, IsLeftOrphanAt, IsNamed, IsReceiptPlace, IsSaidAt, IsSaidOf, IsUnsafe, IsUnsafeAt, ListsFirst, RestartsFirst, SaysUnsafe, restarts_at, restarts_below}
 use Rattle.fbl_judge.specs.Candidates.{HasFewer, IsAny, IsBefore, IsCandidateOf, IsFirstAmong, IsFirstOf, IsLeastIn, IsLeastOut, IsOfLesser, IsOfMember, IsOfViews, IsSaidAtEnd, IsSaidFirst, IsSaidWith, IsUnsafeAtEnd, NoneDepends}
-use Rattle.fbl_judge.specs.Views.{IsView}
+use Rattle.fbl_judge.specs.Views.{AreRestartsAt}
 use Rattle.fbl_runs.specs.declared.judged.Judged.{Judged}
 use Rattle.fbl_runs.specs.declared.judged.Judged.TheVariants.{AtEachMoment, AtItsEnd}
 use Rattle.fbl_trace.proofs.Gets.{At-push, take-more}
@@ -253,13 +254,15 @@ module _ (log : RunParts) (rules : AreEntries log.members log.entries) (struck :
           let mine = own q p other members is.0 candidate in
           false≢true (sym mine.left ∙ ap (λ s. set.contains s q) (sym (same_strike strike is_least p other members is candidate)) ∙ has)
 
-      pub one_if_left : (c : Candidate) → c.orphan ≡ q → cut_of c.moment ≡ cut → cut_of c.view.base ≡ base → IsView run.logs c.view → Stands run.logs cut i → IsLeastStrike run cut d c.strike → set.contains c.strike q ≡ false
+      pub one_if_left : (c : Candidate) → c.orphan ≡ q → cut_of c.moment ≡ cut → AreRestartsAt run.logs base c.restarts → Stands run.logs cut i → IsLeastStrike run cut d c.strike → set.contains c.strike q ≡ false
           → IsFirstAmong run i d (IsOfMember run.logs base q) (Some c)
-      one_if_left c orphan moment view is_view stands is_least left = (
+      one_if_left c orphan moment restarts stands is_least left = (
         record {
           is = subst (λ (x : Cut). IsCandidate run i d c.orphan x c.strike) (sym moment) (subst (λ (x : ℕ). IsCandidate run i d x cut c.strike) (sym orphan) (record { moment = least.1; stands = stands; least = is_least; left = left }));
-          view = is_view;
-          same = subst (λ (x : Cut). SameRestarts run.logs x (cut_of c.moment)) (sym view) (subst (λ (x : Cut). SameRestarts run.logs base x) (sym moment) least.0);
+          restarts = subst (λ (x : Cut). AreRestartsAt run.logs x c.restarts) (sym moment) (record {
+            each = λ k below. restarts.each k below ∙ same_counts run.logs base cut least.0 k;
+            total = restarts.total ∙ sum_same run.logs base cut 16 (λ k below. same_counts run.logs base cut least.0 k);
+          });
         },
         λ p other members is candidate. inr (
           same_strike c.strike is_least p other members is candidate,
@@ -280,32 +283,25 @@ module _ (log : RunParts) (rules : AreEntries log.members log.entries) (struck :
       | inr past ↦ (let none = none_beyond run entries refl rules struck k past in no_restarts (run.logs k) (a k) none ∙ sym (no_restarts (run.logs k) (b k) none))
     ]
 
-    -- by its view a candidate's restarts are known
-    known : (c : Candidate) → IsCandidateOf run i d c → (k : ℕ) → k < 16 → slice_index c.view.restarts k ≡ restarts_at run.logs (cut_of c.moment) k
-    known c is k below = is.view.restarts k below ∙ same_counts run.logs (cut_of c.view.base) (cut_of c.moment) is.same k
-
-    known_count : (c : Candidate) → IsCandidateOf run i d c → c.view.count ≡ restarts_below run.logs (cut_of c.moment) 16
-    known_count c is = is.view.count ∙ sum_same run.logs (cut_of c.view.base) (cut_of c.moment) 16 (λ k below. same_counts run.logs (cut_of c.view.base) (cut_of c.moment) is.same k)
-
-    fewer_by_views : (a b : Candidate) → IsCandidateOf run i d a → IsCandidateOf run i d b → HasFewer a.view b.view → HasFewerRestarts run.logs (cut_of a.moment) (cut_of b.moment)
-    fewer_by_views a b of_a of_b (inl less) = inl (let x = known_count a of_a in let y = known_count b of_b in omega (arith, less, x, y))
-    fewer_by_views a b of_a of_b (inr (same, inl first)) = inr (
-      sym (known_count a of_a) ∙ same ∙ known_count b of_b,
+    fewer_by_counts : (x y : Cut) (a b : RestartCounts) → AreRestartsAt run.logs x a → AreRestartsAt run.logs y b → HasFewer a b → HasFewerRestarts run.logs x y
+    fewer_by_counts x y a b of_a of_b (inl less) = inl (let m = of_a.total in let n = of_b.total in omega (arith, less, m, n))
+    fewer_by_counts x y a b of_a of_b (inr (same, inl first)) = inr (
+      sym of_a.total ∙ same ∙ of_b.total,
       inl (
         first.0,
-        (let x = known a of_a first.0 first.1 in let y = known b of_b first.0 first.1 in let less = first.2 in omega (arith, less, x, y)),
-        λ k below. (let under : k < 16 = (let w = first.1 in omega (arith, below, w)) in sym (known a of_a k under) ∙ first.3 k below ∙ known b of_b k under),
+        (let m = of_a.each first.0 first.1 in let n = of_b.each first.0 first.1 in let less = first.2 in omega (arith, less, m, n)),
+        λ k below. (let under : k < 16 = (let w = first.1 in omega (arith, below, w)) in sym (of_a.each k under) ∙ first.3 k below ∙ of_b.each k under),
       ),
     )
-    fewer_by_views a b of_a of_b (inr (same, inr alike)) = inr (
-      sym (known_count a of_a) ∙ same ∙ known_count b of_b,
-      inr (alike_all (cut_of a.moment) (cut_of b.moment) (λ k below. sym (known a of_a k below) ∙ alike k below ∙ known b of_b k below)),
+    fewer_by_counts x y a b of_a of_b (inr (same, inr alike)) = inr (
+      sym of_a.total ∙ same ∙ of_b.total,
+      inr (alike_all x y (λ k below. sym (of_a.each k below) ∙ alike k below ∙ of_b.each k below)),
     )
 
     before_comes : (a b : Candidate) → IsCandidateOf run i d a → IsCandidateOf run i d b → IsBefore a b → ComesFirst run.logs a.strike a.orphan (cut_of a.moment) b.strike b.orphan (cut_of b.moment)
     before_comes a b of_a of_b (inl fewer) = inl fewer
     before_comes a b of_a of_b (inr (same, inl less)) = inr (same, inl less)
-    before_comes a b of_a of_b (inr (same, inr (orphan, fewer))) = inr (same, inr (orphan, fewer_by_views a b of_a of_b fewer))
+    before_comes a b of_a of_b (inr (same, inr (orphan, fewer))) = inr (same, inr (orphan, fewer_by_counts (cut_of a.moment) (cut_of b.moment) a.restarts b.restarts of_a.restarts of_b.restarts fewer))
 
     -- the one of two that comes first is the first of all among which either was
     module _ (P Q R : ℕ → Cut → Type 0) (either : (q : ℕ) (cut : Cut) → R q cut → P q cut ⊎ Q q cut) where

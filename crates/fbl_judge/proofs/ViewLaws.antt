@@ -222,9 +222,9 @@ module _ (n : ℕ) (entries : List Entry) (are : AreEntries n entries) where
 
   -- no restarts
   pub views_none : (view : View) → ((q : ℕ) → cut_of view.base q ≡ 0) → ((q : ℕ) → q < 16 → slice_index view.starts q ≡ 0) → ((q : ℕ) → q < 16 → IsNextRestart (log_of entries q) 0 (slice_index view.tops q))
-      → ((q : ℕ) → q < 16 → slice_index view.restarts q ≡ 0) → view.count ≡ 0 → AreViewsOf entries 0 (view ∷ [])
+      → ((q : ℕ) → q < 16 → slice_index view.restarts.of_members q ≡ 0) → view.restarts.total ≡ 0 → AreViewsOf entries 0 (view ∷ [])
   views_none view none starts tops counts count = record {
-    each = elim [ zero ↦ λ v at_k. (let same : view ≡ v = cc in subst (λ (v : View). IsView logs v × (v.count ≤ 0)) same (is_view, omega (arith, count))) | suc k ↦ λ v at_k. absurd cc ];
+    each = elim [ zero ↦ λ v at_k. (let same : view ≡ v = cc in subst (λ (v : View). IsView logs v × (v.restarts.total ≤ 0)) same (is_view, omega (arith, count))) | suc k ↦ λ v at_k. absurd cc ];
     all = λ cut moment. (0, view, refl, λ i. (λ h. absurd (let n = none i.member in let x = h.2 in omega (arith, n, x)), λ h. absurd (let x = h.1 in omega (arith, x))));
   } where
     zero_count : (q : ℕ) → restarts_at logs (cut_of view.base) q ≡ 0
@@ -250,8 +250,7 @@ module _ (n : ℕ) (entries : List Entry) (are : AreEntries n entries) where
         last = λ k r before here. absurd (next.none k r (omega arith) before here);
         next = next.next;
       });
-      restarts = λ q below. counts q below ∙ sym (zero_count q);
-      count = count ∙ sym (zero_sum 16);
+      restarts = record { each = λ q below. counts q below ∙ sym (zero_count q); total = count ∙ sym (zero_sum 16) };
     }
 
   -- ---- one restart more
@@ -284,10 +283,10 @@ module _ (n : ℕ) (entries : List Entry) (are : AreEntries n entries) where
         let le = x.2 in omega (arith, order, le)
 
     -- it has restarted fewer times than it has entries
-    pub restarts_few : (v : View) → IsView logs v → MayHave v back → slice_index v.restarts back.member < length (log_of entries back.member)
+    pub restarts_few : (v : View) → IsView logs v → MayHave v back → slice_index v.restarts.of_members back.member < length (log_of entries back.member)
     restarts_few v is_view may =
         let known = is_view.lives back.member member_16 in
-        let a = is_view.restarts back.member member_16 in
+        let a = is_view.restarts.each back.member member_16 in
         let b = count_few (logs back.member) (cut_of v.base back.member) in
         let come = known.come in
         let top = (may back.member member_16).0 refl in
@@ -418,20 +417,23 @@ module _ (n : ℕ) (entries : List Entry) (are : AreEntries n entries) where
                   let P : ℕ → ℕ → Type 0 = λ s t. IsLifeAt logs (cut_of w.base) q s t in
                   subst (λ (x : ℕ). P x (slice_index w.tops q)) (sym s) (subst (λ (x : ℕ). P (slice_index v.starts q) x) (sym t) (other_life q below ne))
             ];
-            restarts = λ q below.
-                let known = is_view.restarts q below in
-                let set' = index_set v.restarts back.member (slice_index v.restarts back.member + 1) q (room v.restarts v.restarts_room) in
-                let is : slice_index w.restarts q ≡ slice_index (slice_set v.restarts back.member (slice_index v.restarts back.member + 1)) q = ap (λ (xs : List ℕ). slice_index xs q) is_with.restarts in
-                elim (cases_eq q back.member) [
-                  | inl same ↦
-                      let own = is_view.restarts back.member member_16 in
-                      let s = set'.0 same in
-                      let c = own_count in
-                      let e : restarts_at logs (cut_of w.base) q ≡ restarts_at logs (cut_of w.base) back.member = ap (restarts_at logs (cut_of w.base)) same in
-                      omega (arith, is, s, own, c, e)
-                  | inr ne ↦ is ∙ set'.1 ne ∙ known ∙ other_count q below ne
-                ];
-            count = is_with.count ∙ ap (λ (x : ℕ). x + 1) is_view.count ∙ sym (sum_more logs base (cut_of w.base) back.member 16 member_16 other_count own_count);
+            restarts = record {
+              each = λ q below. (
+                  let counts = v.restarts.of_members in
+                  let known = is_view.restarts.each q below in
+                  let set' = index_set counts back.member (slice_index counts back.member + 1) q (room counts v.restarts.room) in
+                  let is : slice_index w.restarts.of_members q ≡ slice_index (slice_set counts back.member (slice_index counts back.member + 1)) q = ap (λ (xs : List ℕ). slice_index xs q) is_with.restarts in
+                  elim (cases_eq q back.member) [
+                    | inl same ↦
+                        let own = is_view.restarts.each back.member member_16 in
+                        let s = set'.0 same in
+                        let c = own_count in
+                        let e : restarts_at logs (cut_of w.base) q ≡ restarts_at logs (cut_of w.base) back.member = ap (restarts_at logs (cut_of w.base)) same in
+                        omega (arith, is, s, own, c, e)
+                    | inr ne ↦ is ∙ set'.1 ne ∙ known ∙ other_count q below ne
+                  ]);
+              total = is_with.total ∙ ap (λ (x : ℕ). x + 1) is_view.restarts.total ∙ sym (sum_more logs base (cut_of w.base) back.member 16 member_16 other_count own_count);
+            };
           } where
             room : (xs : List ℕ) → length xs ≡ 16 → back.member < length xs
             room xs is = (let below = member_16 in omega (arith, is, below))
@@ -519,13 +521,13 @@ module _ (n : ℕ) (entries : List Entry) (are : AreEntries n entries) where
     -- these views, and those with the restart
     pub views_next : (views more : List View) → AreWith views back more → AreViewsOf entries place views → AreViewsOf entries (place + 1) more
     views_next views more with' of = record { each = each; all = all } where
-      each : (k : ℕ) (w : View) → slice_get more k ≡ Some w → IsView logs w × (w.count ≤ place + 1)
+      each : (k : ℕ) (w : View) → slice_get more k ≡ Some w → IsView logs w × (w.restarts.total ≤ place + 1)
       each k w at_k =
           let x = with'.from k w at_k in
           let v = of.each x.0 x.1 x.2 in
           elim x.3 [
-            | inl same ↦ subst (λ (w : View). IsView logs w × (w.count ≤ place + 1)) (sym same) (v.0, (let few = v.1 in omega (arith, few)))
-            | inr added ↦ (with_view x.1 v.0 added.0 w added.1, (let few = v.1 in let count = added.1.count in omega (arith, few, count)))
+            | inl same ↦ subst (λ (w : View). IsView logs w × (w.restarts.total ≤ place + 1)) (sym same) (v.0, (let few = v.1 in omega (arith, few)))
+            | inr added ↦ (with_view x.1 v.0 added.0 w added.1, (let few = v.1 in let count = added.1.total in omega (arith, few, count)))
           ]
 
       all : (cut : Cut) → IsMoment logs cut → (k : ℕ) × (view : View) × (slice_get more k ≡ Some view)

@@ -5,9 +5,10 @@ use Rattle.fbl_trace.specs.declared.trace.Determinant.{Determinant}
 use Rattle.fbl_trace.specs.MemberSets.{Members}
 use Rattle.fbl_judge.specs.declared.check.Candidate.{Candidate}
 use Rattle.fbl_judge.specs.declared.check.UnsafeReceipt.{UnsafeReceipt}
+use Rattle.fbl_judge.specs.declared.view.RestartCounts.{RestartCounts}
 use Rattle.fbl_judge.specs.declared.view.View.{View}
 use Rattle.fbl_judge.specs.Unsafe.{ComesFirst, IsCandidate, IsFewer, IsLeastStrike, IsLeftOrphanAt, IsNamed, IsUnsafeAt}
-use Rattle.fbl_judge.specs.Views.{IsView}
+use Rattle.fbl_judge.specs.Views.{AreRestartsAt}
 use Rattle.fbl_runs.specs.declared.entry.Entry.{Entry}
 use Rattle.fbl_runs.specs.Clocks.{StandsAt, cut_of}
 use Rattle.fbl_runs.specs.Entries.{Logs, receipt_in}
@@ -52,11 +53,10 @@ NoneDepends logs i q base = (cut : Cut) → IsMoment logs cut → SameRestarts l
 abbrev pub IsLeastIn : Logs → Position → ℕ → Cut → Cut → Type 0
 IsLeastIn logs i q base cut = SameRestarts logs base cut × IsLeastDependent logs i q cut
 
--- it is one of the receipt, and has the view of its moment's restarts
+-- it is one of the receipt, and has its moment's restarts
 pub record IsCandidateOf (run : Run) (i : Position) (d : Determinant) (candidate : Candidate) : Type 0 where
   pub is : IsCandidate run i d candidate.orphan (cut_of candidate.moment) candidate.strike
-  pub view : IsView run.logs candidate.view
-  pub same : SameRestarts run.logs (cut_of candidate.view.base) (cut_of candidate.moment)
+  pub restarts : AreRestartsAt run.logs (cut_of candidate.moment) candidate.restarts
 
 -- of the candidates at whose orphan and moment P holds it comes first, if there is one
 abbrev pub IsFirstAmong : Run → Position → Determinant → (ℕ → Cut → Type 0) → Option Candidate → Type 0
@@ -100,16 +100,16 @@ HasMoreAtFirst first other =
     (m : ℕ) × (m < 16) × (slice_index other m < slice_index first m) × ((k : ℕ) → k < m → slice_index first k ≡ slice_index other k)
 
 -- the first has fewer restarts, or as many whose list comes first, or the same
-abbrev pub HasFewer : View → View → Type 0
+abbrev pub HasFewer : RestartCounts → RestartCounts → Type 0
 HasFewer first other =
-    (first.count < other.count)
-    ⊎ ((first.count ≡ other.count) × (HasMoreAtFirst first.restarts other.restarts ⊎ IsAlike first.restarts other.restarts))
+    (first.total < other.total)
+    ⊎ ((first.total ≡ other.total) × (HasMoreAtFirst first.of_members other.of_members ⊎ IsAlike first.of_members other.of_members))
 
 -- by these the first comes first
 abbrev pub IsBefore : Candidate → Candidate → Type 0
 IsBefore first other =
     IsFewer first.strike other.strike
-    ⊎ ((first.strike ≡ other.strike) × ((first.orphan < other.orphan) ⊎ ((first.orphan ≡ other.orphan) × HasFewer first.view other.view)))
+    ⊎ ((first.strike ≡ other.strike) × ((first.orphan < other.orphan) ⊎ ((first.orphan ≡ other.orphan) × HasFewer first.restarts other.restarts)))
 
 -- of two the result is the one that comes first
 abbrev pub IsFirstOf : Option Candidate → Option Candidate → Option Candidate → Type 0

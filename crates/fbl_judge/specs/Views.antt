@@ -1,6 +1,7 @@
 -- The sets of restarts that the moments of a run have, each with the least moment that has them.
 use Rattle.std.specs.Prelude.{ℕ, ◌≡◌, ◌≢◌, ◌<◌, ◌≤◌, ◌+◌, ◌⊎◌, ◌↔◌, List, Some, length, max, slice_get, slice_index, slice_set}
 use Rattle.fbl_judge.specs.declared.views.RestartPast.{RestartPast}
+use Rattle.fbl_judge.specs.declared.view.RestartCounts.{RestartCounts}
 use Rattle.fbl_judge.specs.declared.view.View.{View}
 use Rattle.fbl_runs.specs.declared.causality.Causality.TheVariants.{HappenedBefore}
 use Rattle.fbl_runs.specs.declared.entry.Entry.{Entry}
@@ -34,12 +35,16 @@ pub record IsLifeAt (logs : Logs) (cut : Cut) (q start top : ℕ) : Type 0 where
   pub last : (k : ℕ) (r : restart.Restart) → k < top → IsAt logs (at q k) (Restart r) → (k ≤ start) × (k < cut q)
   pub next : top < length (logs q) → (r : restart.Restart) × IsAt logs (at q top) (Restart r)
 
--- the view has the least moment with some restarts, each member's life there, how often it has restarted, and how many restarts there are
+-- so many restarts of each member have come at the cut, and so many in all
+pub record AreRestartsAt (logs : Logs) (cut : Cut) (counts : RestartCounts) : Type 0 where
+  pub each : (q : ℕ) → q < 16 → slice_index counts.of_members q ≡ restarts_at logs cut q
+  pub total : counts.total ≡ restarts_below logs cut 16
+
+-- the view has the least moment with some restarts, each member's life there, and how many restarts there are
 pub record IsView (logs : Logs) (view : View) : Type 0 where
   pub base : IsBase logs (cut_of view.base)
   pub lives : (q : ℕ) → q < 16 → IsLifeAt logs (cut_of view.base) q (slice_index view.starts q) (slice_index view.tops q)
-  pub restarts : (q : ℕ) → q < 16 → slice_index view.restarts q ≡ restarts_at logs (cut_of view.base) q
-  pub count : view.count ≡ restarts_below logs (cut_of view.base) 16
+  pub restarts : AreRestartsAt logs (cut_of view.base) view.restarts
 
 -- each is one, and each moment has just the restarts of one
 pub record AreViews (logs : Logs) (views : List View) : Type 0 where
@@ -80,8 +85,8 @@ pub record IsWith (view : View) (past : RestartPast) (more : View) : Type 0 wher
   pub base : (q : ℕ) → cut_of more.base q ≡ max (cut_of view.base q) (cut_of past.moment q)
   pub starts : more.starts ≡ slice_set view.starts past.member past.number
   pub tops : more.tops ≡ slice_set view.tops past.member past.top
-  pub restarts : more.restarts ≡ slice_set view.restarts past.member (slice_index view.restarts past.member + 1)
-  pub count : more.count ≡ view.count + 1
+  pub restarts : more.restarts.of_members ≡ slice_set view.restarts.of_members past.member (slice_index view.restarts.of_members past.member + 1)
+  pub total : more.restarts.total ≡ view.restarts.total + 1
 
 -- they are these views, and those with the restart that may have it
 pub record AreWith (views : List View) (past : RestartPast) (more : List View) : Type 0 where
@@ -96,7 +101,7 @@ IsAmong entries p i = i.number < seen entries p i.member
 
 -- each is a view, of no more than p restarts, and each moment has, of the restarts among the first p entries, just those of one
 pub record AreViewsOf (entries : List Entry) (p : ℕ) (views : List View) : Type 0 where
-  pub each : (k : ℕ) (view : View) → slice_get views k ≡ Some view → IsView (log_of entries) view × (view.count ≤ p)
+  pub each : (k : ℕ) (view : View) → slice_get views k ≡ Some view → IsView (log_of entries) view × (view.restarts.total ≤ p)
   pub all : (cut : Cut) → IsMoment (log_of entries) cut
       → (k : ℕ) × (view : View) × (slice_get views k ≡ Some view)
       × ((i : Position) → HasRestarted (log_of entries) (cut_of view.base) i ↔ HasRestarted (log_of entries) cut i × IsAmong entries p i)

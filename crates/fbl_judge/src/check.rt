@@ -14,7 +14,7 @@ ghost use Rattle.fbl_judge.specs.Views.{IsView};
 use crate::named::named_place;
 use crate::pasts::Pasts;
 use crate::recorded::recorded_at;
-use crate::view::View;
+use crate::view::{RestartCounts, View};
 use fbl_runs::{Clock, Judged};
 use fbl_trace::{Determinant, Member, MemberSet};
 use std::alloc::{AllocError, Global};
@@ -49,8 +49,8 @@ struct Candidate {
     moment: Clock,
     /// The least members whose loss there loses the receipt.
     strike: MemberSet,
-    /// What has just the moment's restarts.
-    view: View,
+    /// The moment's restarts.
+    restarts: RestartCounts,
 }
 
 /// The least members whose loss at the clock's cut loses the receipt with the determinant, if they may be lost.
@@ -174,7 +174,7 @@ fn candidate_of(
         orphan: member,
         moment,
         strike,
-        view: *view,
+        restarts: view.restarts,
     })
 }
 
@@ -208,12 +208,12 @@ fn is_fewer(first: MemberSet, other: MemberSet) -> bool
 }
 
 /// The least member of whose restarts the two have not as many.
-fn least_unlike(first: &View, other: &View) -> Option<u8>
-    ensures { MatchOption result (IsAlike first.now.restarts other.now.restarts)
-        (IsLeastUnlike first.now.restarts other.now.restarts) }
+fn least_unlike(first: &RestartCounts, other: &RestartCounts) -> Option<u8>
+    ensures { MatchOption result (IsAlike first.now.of_members other.now.of_members)
+        (IsLeastUnlike first.now.of_members other.now.of_members) }
 {
     for number in 0..16u8 {
-        if first.restarts[number as usize] != other.restarts[number as usize] {
+        if first.of_members[number as usize] != other.of_members[number as usize] {
             return Some(number);
         }
     }
@@ -221,15 +221,15 @@ fn least_unlike(first: &View, other: &View) -> Option<u8>
 }
 
 /// Whether the first has fewer restarts, or as many whose list comes first.
-fn has_fewer_restarts(first: &View, other: &View) -> bool
+fn has_fewer_restarts(first: &RestartCounts, other: &RestartCounts) -> bool
     ensures yes { result ≡ true → HasFewer first.now other.now }
     ensures no { result ≡ false → HasFewer other.now first.now }
 {
-    if first.count != other.count {
-        return first.count < other.count;
+    if first.total != other.total {
+        return first.total < other.total;
     }
     match least_unlike(first, other) {
-        Some(number) => first.restarts[number as usize] > other.restarts[number as usize],
+        Some(number) => first.of_members[number as usize] > other.of_members[number as usize],
         None => true,
     }
 }
@@ -247,23 +247,18 @@ fn comes_first(first: &Candidate, other: &Candidate) -> bool
         return false;
     }
     let (own, others) = (first.orphan.number(), other.orphan.number());
-    own < others || (own == others && has_fewer_restarts(&first.view, &other.view))
+    own < others || (own == others && has_fewer_restarts(&first.restarts, &other.restarts))
 }
 
-/// Of the two the candidate that comes first.
-fn earlier_candidate(first: Option<Candidate>, next: Option<Candidate>) -> Option<Candidate>
-    ensures { IsFirstOf first next result }
+/// Whether the next one is a candidate that comes before the first, if that is one.
+fn comes_before(next: &Option<Candidate>, first: &Option<Candidate>) -> bool
+    ensures yes { result ≡ true → IsFirstOf first.now next.now next.now }
+    ensures no { result ≡ false → IsFirstOf first.now next.now first.now }
 {
-    match (first, next) {
-        (None, _) => next,
-        (_, None) => first,
-        (Some(own), Some(other)) => {
-            if comes_first(&own, &other) {
-                Some(own)
-            } else {
-                Some(other)
-            }
-        }
+    match (next, first) {
+        (None, _) => false,
+        (Some(_), None) => true,
+        (Some(own), Some(other)) => comes_first(own, other),
     }
 }
 
@@ -283,7 +278,9 @@ fn first_in_view(
     let mut first = None;
     for number in 0..16u8 {
         let next = candidate_of(pasts, view, place, determinant, Member::at(number));
-        first = earlier_candidate(first, next);
+        if comes_before(&next, &first) {
+            first = next;
+        }
     }
     first
 }
@@ -297,7 +294,9 @@ fn first_candidate(pasts: &Pasts<'_>, place: usize, determinant: &Determinant) -
     let mut first = None;
     for view in pasts.views() {
         let next = first_in_view(pasts, view, place, determinant);
-        first = earlier_candidate(first, next);
+        if comes_before(&next, &first) {
+            first = next;
+        }
     }
     first
 }

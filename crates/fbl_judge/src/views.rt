@@ -9,7 +9,7 @@ ghost use Rattle.fbl_runs.specs.declared.causality.Causality.TheVariants.{Happen
 ghost use Rattle.fbl_runs.specs.declared.entry.Entry.TheVariants.{Restart};
 ghost use Rattle.fbl_judge.specs.Views.{AreViews, AreViewsOf, IsRestartPast, IsNextRestart, IsPastAndStepAt, IsWith, MayHave, MayHaveOf};
 
-use crate::view::View;
+use crate::view::{RestartCounts, View};
 use fbl_runs::{Clock, Clocks, Index};
 use fbl_trace::Member;
 use std::alloc::{AllocError, Global};
@@ -67,8 +67,10 @@ fn first_view(index: &Index<'_>) -> View
         base: Clock::none(),
         starts: [0; 16],
         tops,
-        restarts: [0; 16],
-        count: 0,
+        restarts: RestartCounts {
+            of_members: [0; 16],
+            total: 0,
+        },
     }
 }
 
@@ -101,8 +103,8 @@ fn may_have(view: &View, restart: &RestartPast) -> bool
 
 /// The view with the restart too.
 fn with_restart(view: &View, restart: &RestartPast) -> View
-    requires restarts { slice_index view.now.restarts restart.now.member < usize.MAX }
-    requires count { view.now.count < usize.MAX }
+    requires restarts { slice_index view.now.restarts.of_members restart.now.member < usize.MAX }
+    requires count { view.now.restarts.total < usize.MAX }
     ensures { IsWith view.now restart.now result }
 {
     let mut starts = view.starts;
@@ -111,13 +113,13 @@ fn with_restart(view: &View, restart: &RestartPast) -> View
     let at = restart.member.number() as usize;
     starts[at] = restart.number;
     tops[at] = restart.top;
-    restarts[at] += 1;
+    restarts.of_members[at] += 1;
+    restarts.total += 1;
     View {
         base: view.base.joined(restart.moment),
         starts,
         tops,
         restarts,
-        count: view.count + 1,
     }
 }
 

@@ -45,4 +45,4 @@ returns c i stands =
     let receipt = receipt_at run.entries c.args.place d i c.requires.receipt stands in
     let there : c.stands.result ≡ true = grind (arith, nat_tests, c.if-not-stands.false) in
     one_if_left run c.requires.run.lawful c.requires.run.strike i d receipt c.args.member (cut_of c.args.view.now.base) (cut_of c.in_ok-moment.moment) (c.in_ok-moment.ensures i stands)
-    (record { orphan = c.args.member; moment = c.in_ok-moment.moment; strike = c.in_ok-strike.strike; view = c.args.view.now }) refl refl refl c.requires.view ((c.stands.ensures i stands).0 there) c.in_ok-strike.ensures (sym c.has.ensures ∙ c.if-has.false)
+    (record { orphan = c.args.member; moment = c.in_ok-moment.moment; strike = c.in_ok-strike.strike; restarts = c.args.view.now.restarts }) refl refl c.requires.view.restarts ((c.stands.ensures i stands).0 there) c.in_ok-strike.ensures (sym c.has.ensures ∙ c.if-has.false)

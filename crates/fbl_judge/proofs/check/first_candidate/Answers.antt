@@ -1,11 +1,14 @@
-use Rattle.fbl_judge.proofs.Common.{List, SameRestarts, Some, arith, length, log_of, refl, slice_get, slice_get_read, subst, sym, take, ℕ, ◌+◌, ◌≡◌}
+use Rattle.fbl_judge.proofs.Common.{List, Option, SameRestarts, Some, arith, length, log_of, refl, slice_get, slice_get_read, subst, sym, take, ℕ, ◌+◌, ◌≡◌}
 use Rattle.std.proofs.lemmas.List.{take_all}
 use Rattle.fbl_runs.specs.Clocks.{cut_of}
+use Rattle.fbl_runs.specs.Logs.{run_of}
+use Rattle.fbl_judge.specs.declared.check.Candidate.{Candidate}
 use Rattle.fbl_judge.specs.declared.view.View.{View}
-use Rattle.fbl_judge.specs.Candidates.{IsAny, IsOfLesser, IsOfViews}
+use Rattle.fbl_judge.specs.Candidates.{IsAny, IsFirstAmong, IsFirstOf, IsOfLesser, IsOfViews}
 use Rattle.fbl_judge.proofs.DependLaws.{receipt_at}
 use Rattle.fbl_judge.proofs.UnsafeLaws.{first_of_two, first_wider, one_view_more, orphan_below}
 use Rattle.fbl_judge.proofs.check.first_candidate.Goals as goal
+use Rattle.fbl_judge.proofs.check.first_candidate.Goals.{then-comes_before, else-comes_before}
 
 pub first_in_view-next-requires-clause-view : goal.first_in_view-next-requires-clause-view
 first_in_view-next-requires-clause-view c =
@@ -20,10 +23,15 @@ loop-view-preserved c i stands =
     let views = c.views-view-items.result.now in
     let k = c.loop-view.view-index in
     let here = slice_get_read views (length views) k c.view-item.result refl c.loop-view-test.true c.view-item.is in
-    first_of_two run c.requires.run.lawful c.requires.run.strike i d (receipt_at run.entries c.args.place d i c.requires.receipt stands)
+    let first : (r : Option Candidate) → IsFirstOf c.loop-view.first c.first_in_view-next.result r → IsFirstAmong (run_of run) i d (IsOfViews logs (take (k + 1) views)) r =
+    λ r is. first_of_two run c.requires.run.lawful c.requires.run.strike i d (receipt_at run.entries c.args.place d i c.requires.receipt stands)
     (IsOfViews logs (take k views)) (IsOfLesser logs (cut_of c.view-item.result.base) 16) (IsOfViews logs (take (k + 1) views))
     (λ q cut is. one_view_more logs views k c.view-item.result here q cut is)
-    c.loop-view.first c.first_in_view-next.result c.earlier_candidate-first.result (c.loop-view.invariant i stands) (c.first_in_view-next.ensures i stands) c.earlier_candidate-first.ensures
+    c.loop-view.first c.first_in_view-next.result r (c.loop-view.invariant i stands) (c.first_in_view-next.ensures i stands) is in
+    elim c.if-comes_before.branch [
+      | then-comes_before w ↦ rw w.first-is (first c.first_in_view-next.result (c.comes_before.ensures.yes w.if-comes_before.true))
+      | else-comes_before w ↦ rw w.first-is (first c.loop-view.first (c.comes_before.ensures.no w.if-comes_before.false))
+    ]
 
 pub returns : goal.returns
 returns c i stands =

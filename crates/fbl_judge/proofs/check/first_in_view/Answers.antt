@@ -1,9 +1,12 @@
-use Rattle.fbl_judge.proofs.Common.{arith, cases_lt, inl, inr, log_of, ◌+◌}
+use Rattle.fbl_judge.proofs.Common.{Option, arith, cases_lt, inl, inr, log_of, ◌+◌}
 use Rattle.fbl_runs.specs.Clocks.{cut_of}
-use Rattle.fbl_judge.specs.Candidates.{IsOfLesser, IsOfMember}
+use Rattle.fbl_runs.specs.Logs.{run_of}
+use Rattle.fbl_judge.specs.declared.check.Candidate.{Candidate}
+use Rattle.fbl_judge.specs.Candidates.{IsFirstAmong, IsFirstOf, IsOfLesser, IsOfMember}
 use Rattle.fbl_judge.proofs.DependLaws.{receipt_at}
 use Rattle.fbl_judge.proofs.UnsafeLaws.{first_of_two, first_wider}
 use Rattle.fbl_judge.proofs.check.first_in_view.Goals as goal
+use Rattle.fbl_judge.proofs.check.first_in_view.Goals.{then-comes_before, else-comes_before}
 
 pub loop-number-preserved : goal.loop-number-preserved
 loop-number-preserved c i stands =
@@ -12,10 +15,15 @@ loop-number-preserved c i stands =
     let logs = log_of run.entries in
     let base = cut_of c.args.view.now.base in
     let member = c.at.ensures in
-    first_of_two run c.requires.run.lawful c.requires.run.strike i d (receipt_at run.entries c.args.place d i c.requires.receipt stands)
+    let first : (r : Option Candidate) → IsFirstOf c.loop-number.first c.candidate_of-next.result r → IsFirstAmong (run_of run) i d (IsOfLesser logs base (c.loop-number.number + 1)) r =
+    λ r is. first_of_two run c.requires.run.lawful c.requires.run.strike i d (receipt_at run.entries c.args.place d i c.requires.receipt stands)
     (IsOfLesser logs base c.loop-number.number) (IsOfMember logs base c.at.result) (IsOfLesser logs base (c.loop-number.number + 1))
     (λ q cut is. elim (cases_lt q c.loop-number.number) [ inl less ↦ inl (less, is.1) | inr last ↦ inr ((let below = is.0 in omega (arith, below, last, member)), is.1) ])
-    c.loop-number.first c.candidate_of-next.result c.earlier_candidate-first.result (c.loop-number.invariant i stands) (c.candidate_of-next.ensures i stands) c.earlier_candidate-first.ensures
+    c.loop-number.first c.candidate_of-next.result r (c.loop-number.invariant i stands) (c.candidate_of-next.ensures i stands) is in
+    elim c.if-comes_before.branch [
+      | then-comes_before w ↦ rw w.first-is (first c.candidate_of-next.result (c.comes_before.ensures.yes w.if-comes_before.true))
+      | else-comes_before w ↦ rw w.first-is (first c.loop-number.first (c.comes_before.ensures.no w.if-comes_before.false))
+    ]
 
 pub returns : goal.returns
 returns c i stands =

@@ -4,4 +4,4 @@ use Rattle.std.proofs.Common.{slice_index}
 use Rattle.fbl_judge.proofs.check.least_unlike.Given as goal
 
 abbrev pub invariant-loop-number : goal.invariant-loop-number
-invariant-loop-number l = (q : ℕ) → q < l.number → slice_index l.first.restarts q ≡ slice_index l.other.restarts q
+invariant-loop-number l = (q : ℕ) → q < l.number → slice_index l.first.of_members q ≡ slice_index l.other.of_members q
