@@ -7,10 +7,17 @@ use Rattle.fbl_runs.specs.Entries.{receipt_in}
 use Rattle.fbl_runs.specs.declared.fault.ControlRule.{ControlRule}
 use Rattle.fbl_runs.specs.declared.fault.ControlRule.TheVariants.{NotTold}
 use Rattle.fbl_runs.specs.declared.fault.LifeRule.{LifeRule}
-use Rattle.fbl_order.specs.Faults.{HasAllOf, LacksInTrace}
+use Rattle.fbl_order.specs.Faults.{HasAllOf, Hinders, LacksInTrace}
+use Rattle.fbl_order.specs.declared.fault.Obstacle.{Obstacle}
 use Rattle.fbl_order.specs.declared.known.BrokenRule.{BrokenRule}
 use Rattle.fbl_order.specs.declared.known.BrokenRule.TheVariants as broken
 use Rattle.fbl_order.proofs.Common.{MatchOption, MayCome, None, Option, is_some, subst}
+
+-- what hinders the entry where members restart, or where none does, hinders it
+pub hindered : (has lived : Bool) (n : ℕ) (entries run : List Entry) (e : Entry) (rule : BrokenRule) (obstacle : Obstacle) → has ≡ lived → Breaks has n run e rule
+    → (Breaks lived n run e rule → Hinders lived n entries run e obstacle) → Hinders has n entries run e obstacle
+hindered has lived n entries run e rule obstacle same breaks hinders =
+    subst (λ (b : Bool). Hinders b n entries run e obstacle) (sym same) (hinders (subst (λ (b : Bool). Breaks b n run e rule) same breaks))
 
 -- ---- where no member restarts
 

@@ -1,10 +1,10 @@
 -- The exit status of what was done, and whether a play was refused something.
 use Rattle.fbl_trace.specs.declared.trace.Note.{Note}
-use Rattle.fbl_program.proofs.Common.{◌≡◌, ℕ, ◌||◌, ◌&&◌, not, Bool, false, inl, refl, subst, IsScriptOf, Script, List, [], ◌∷◌, Option, Some, None, Result, Ok, Err, IfSome, arith, IsErrAnd, OutputFault, PutsOut, puts_as, ap, ◌∙◌, list_any, or-false, sym, RunFault}
+use Rattle.fbl_program.proofs.Common.{◌≡◌, ℕ, ◌||◌, ◌&&◌, not, Bool, false, inl, refl, IsScriptOf, Script, List, [], ◌∷◌, Option, Some, None, Result, Ok, Err, IfSome, arith, IsErrAnd, OutputFault, PutsOut, puts_as, ap, ◌∙◌, list_any, or-false, sym, RunFault}
 use Rattle.fbl_play.specs.Plays.{IsRecordPlay}
 use Rattle.fbl_input.specs.Faults.{run_result}
 use Rattle.fbl_records.specs.LogLines.{log_line}
-use Rattle.fbl_runs.specs.Logs.{IsLog, RunParts}
+use Rattle.fbl_runs.specs.Logs.{RunParts}
 use Rattle.fbl_program.specs.Outcomes.{DoesScript, EndsTask, IsRecorded, TriesScript}
 use Rattle.fbl_program.specs.declared.job.ScriptTask.{ScriptTask}
 use Rattle.fbl_program.proofs.Common.{Answer, AnswerFault, Answers, Output, is_refusal, Command, GroupRecord, Observes, PlaysScript, Ran, Transcript, Outline, PlaysWell, next_of, status_after, text, unobserved}
@@ -45,7 +45,7 @@ tries_err task s before after e (Err x) same does = rw same does
 module _ {O : Type 0} (seen_before : GroupRecord ℕ Note → Transcript → O → Command → O → Type 0) (seen_after : GroupRecord ℕ Note → Transcript → O → Command → Answer → O → Type 0) where
   module _ (workers : ℕ) (s : Outline) (old new : O) where
     pub recorded : (run : RunParts) (told : List ℕ) → IsRecordPlay seen_before seen_after workers s old new (Ok run) → told ≡ log_line run → IsRecorded workers s told
-    recorded run told (columns, plays, (raw, made, same, log)) is = (columns, raw, plays.0, made, subst IsLog same log, is ∙ ap log_line same)
+    recorded run told (columns, plays, made) is = (columns, run, plays.0, made, is)
 
 -- an observer that keeps whether some command was refused
 module _ {O : Type 0} (has : O → Bool) where

@@ -3,5 +3,4 @@ pub mod Apps
 pub mod Lines
 pub mod Endings
 pub mod Several
-pub mod Sayings
 pub mod Arounds

@@ -1,5 +1,4 @@
 -- Several files, in their order, and what they record.
-use Rattle.std.proofs.lemmas.List.{map-append}
 use Rattle.std.specs.List.{AllZip}
 use Rattle.std.specs.Prelude.{slice_get, take}
 use Rattle.clap.specs.Words.{Text}
@@ -15,7 +14,7 @@ use Rattle.fbl_input.specs.declared.input_fault.InputFault.{InputFault}
 use Rattle.fbl_order.specs.declared.files.FilesDiffer.TheVariants as differ
 use Rattle.fbl_program.specs.Statuses.{fault_status}
 use Rattle.std.proofs.Common.{cond, is_err, is_ok, length, true≢false}
-use Rattle.fbl_program.proofs.Common.{◌≡◌, ℕ, zero, suc, ◌+◌, ◌<◌, Bool, false, true, Bor, IfSome, List, [], ◌∷◌, ◌++◌, Some, None, Result, Ok, Err, ap, arith, drop, inl, inr, map, refl, subst, sym, unwrap_or, ◌∙◌}
+use Rattle.fbl_program.proofs.Common.{◌≡◌, ℕ, zero, suc, ◌+◌, ◌<◌, Bool, false, true, Bor, IfSome, List, [], ◌∷◌, ◌++◌, Some, None, Result, Ok, Err, ap, arith, drop, inl, inr, map, refl, subst, unwrap_or}
 
 -- ---- lists
 
@@ -46,10 +45,6 @@ module _ {A B C : Type 0} (f : A → B) (g : B → C) where
   known_split [] i x at = absurd (cc)
   known_split (y ∷ ys) zero x at = ap (λ z. g (f z) ∷ map g (map f ys)) (same_item y x at)
   known_split (y ∷ ys) (suc i) x at = ap (λ zs. g (f y) ∷ zs) (known_split ys i x at)
-
--- one more behind others that were seen by a function
-pub map_more : {A B : Type 0} (f : A → B) (xs : List A) (x : A) (found : List B) → found ≡ map f xs → found ++ f x ∷ [] ≡ map f (xs ++ x ∷ [])
-map_more f xs x found is = ap (λ all. all ++ f x ∷ []) is ∙ sym (map-append f xs (x ∷ []))
 
 -- ---- files that are read in turn
 

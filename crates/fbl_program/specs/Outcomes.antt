@@ -2,7 +2,7 @@
 use Rattle.std.specs.Prelude.{◌≡◌, ℕ, ◌&&◌, ◌⊎◌, not, Bool, true, List, [], ◌∷◌, Option, Some, None, Result, Ok, Err, length, map}
 use Rattle.std.specs.Io.KnownBytes.{Keeps}
 use Rattle.std.specs.List.{list_any}
-use Rattle.fbl_history.specs.Records.{HasNoRecord, IsRecordOf}
+use Rattle.fbl_history.specs.Records.{HasNoRecord, IsRecord}
 use Rattle.fbl_history.specs.declared.column.Column.{Column}
 use Rattle.fbl_history.specs.declared.record.RecordFault.{RecordFault}
 use Rattle.fbl_input.specs.Faults.{OverInput, PutsOut, run_result}
@@ -31,8 +31,7 @@ use Rattle.fbl_records.specs.declared.merge.Together.{Together}
 use Rattle.fbl_records.specs.declared.reader.Recording.{Recording}
 use Rattle.fbl_records.specs.declared.reader.Recording.TheVariants as checked
 use Rattle.fbl_records.specs.declared.reader.RawRecording.{RawRecording}
-use Rattle.fbl_runs.specs.Logs.{IsLog, RunParts, parts_of_log, run_of_dump}
-use Rattle.fbl_runs.specs.declared.run.RawLog.{RawLog}
+use Rattle.fbl_runs.specs.Logs.{RunParts, run_of_dump}
 use Rattle.fbl_scripts.specs.Scripts.{Outline, IsScriptFault, IsScriptOf, behaviour_word}
 use Rattle.fbl_program.specs.declared.fault.AnswerFault.{AnswerFault}
 use Rattle.fbl_program.specs.declared.fault.AnswerFault.TheVariants.{Output, Refused}
@@ -61,8 +60,8 @@ IsShown workers s shown =
 -- the text is the record of a history of the script, as a line, where so many workers make its runs: it is a log
 abbrev pub IsRecorded : ℕ → Outline → List ℕ → Type 0
 IsRecorded workers s told =
-    (columns : List Column) × (raw : RawLog) × PlaysUnobserved workers s (history None) (history (Some columns)) (Ok tt)
-    × IsRecordOf (next_of s.behaviour) s.config columns raw × IsLog (parts_of_log raw) × (told ≡ log_line (parts_of_log raw))
+    (columns : List Column) × (run : RunParts) × PlaysUnobserved workers s (history None) (history (Some columns)) (Ok tt)
+    × IsRecord (next_of s.behaviour) s.config columns (Ok run) × (told ≡ log_line run)
 
 -- a history of the script has no record in a log
 abbrev pub HasNoLog : ℕ → Outline → Type 0

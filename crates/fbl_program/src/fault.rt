@@ -9,7 +9,7 @@ use std::convert::From;
 pub(crate) enum AnswerFault {
     /// Memory ran out, or a write failed.
     Output(OutputFault),
-    /// What is asked for cannot be had, and that was told: no entry stands where a picture is to be drawn around one, or no log has
+    /// What is asked for cannot be had, as standard error says: no entry stands where a picture is to be drawn around one, or no log has
     /// the run.
     Refused,
 }

@@ -2,9 +2,7 @@
 
 ghost use Rattle.std.specs.Prelude.{◌≡◌, ◌<◌, [], IfOk, map, string_bytes};
 ghost use Rattle.fbl_input.specs.Faults.{PutsOut};
-ghost use Rattle.fbl_judge.specs.Audits.{AreNamed};
 ghost use Rattle.fbl_records.specs.Merges.{count_of};
-ghost use Rattle.fbl_records.specs.Texts.{IsChecked};
 ghost use Rattle.fbl_program.specs.Outcomes.{Answers, EndsMerged, EndsRecorded, EndsWith, IsAnswer, IsAnswerTo, IsPlaceMissing, IsPlaceMissingOf, run_line, run_of};
 
 use crate::around::place_asked;
@@ -15,12 +13,11 @@ use crate::streams::Named;
 use crate::teller::refuse_merge;
 use fbl_input::shapes::LONGEST;
 use fbl_input::{OutputFault, RunFault, Sources, put};
-use fbl_judge::{LostReceipt, Pasts, Reason, audit_of, loss_reasons, unsafe_reasons};
+use fbl_judge::{Pasts, audit_of};
 use fbl_pictures::{column_count, write_run_picture};
 use fbl_records::{
-    Checked, InputFiles, Overview, RawRecording, Recording, Together, Told, UndoneReason, Why,
-    WhyUndone, all_forgotten, dump_text, log_text, merge_of, undone_reasons, write_audit,
-    write_check,
+    InputFiles, RawRecording, Recording, RunExplanation, Together, dump_text, log_text, merge_of,
+    write_audit, write_check,
 };
 use fbl_runs::Run;
 use std::alloc::{AllocError, Global};
@@ -54,98 +51,10 @@ pub(crate) fn write_line<T: Eprint, W: Write>(
     done
 }
 
-/// Tells on standard error why receipts are lost, or could be. Where memory ran out for that it is left out.
-fn tell_why<R: Eprint>(
-    rt: &R,
-    alloc: Global,
-    pasts: &Pasts<'_>,
-    sources: &Sources<'_>,
-    reasons: Result<Vec<Reason>, AllocError>,
-) {
-    let Ok(reasons) = reasons else {
-        return;
-    };
-    let Ok(forgotten) = all_forgotten(alloc, pasts, reasons.as_slice()) else {
-        return;
-    };
-    let why = Why {
-        run: pasts.run(),
-        sources: *sources,
-        reasons: reasons.as_slice(),
-        forgotten: forgotten.as_slice(),
-    };
-    let _ = eprint!(rt; "{why}");
-}
-
-/// Tells on standard error why restarts undid receipts and left orphans of them. Where memory ran out for that it is left out.
-fn tell_undone<R: Eprint>(
-    rt: &R,
-    pasts: &Pasts<'_>,
-    sources: &Sources<'_>,
-    reasons: Result<Vec<UndoneReason>, AllocError>,
-) {
-    let Ok(reasons) = reasons else {
-        return;
-    };
-    let why = WhyUndone {
-        run: pasts.run(),
-        sources: *sources,
-        reasons: reasons.as_slice(),
-    };
-    let _ = eprint!(rt; "{why}");
-}
-
-/// Tells first on standard error what the check of a run with restarts found. Where memory ran out for that it is left out.
-fn tell_overview<R: Eprint>(
-    rt: &R,
-    pasts: &Pasts<'_>,
-    sources: &Sources<'_>,
-    overview: Result<Option<Overview>, AllocError>,
-) {
-    if let Ok(Some(overview)) = overview {
-        let told = Told {
-            overview: &overview,
-            run: pasts.run(),
-            sources: *sources,
-        };
-        let _ = eprint!(rt; "{told}");
-    }
-}
-
-/// Tells why these receipts are lost, where that is asked for.
-fn explain_losses<R: Eprint>(
-    rt: &R,
-    alloc: Global,
-    explain: bool,
-    pasts: &Pasts<'_>,
-    sources: &Sources<'_>,
-    lost: &[LostReceipt],
-)
-    requires { AreNamed pasts.now lost.now }
-{
-    if explain {
-        tell_why(rt, alloc, pasts, sources, loss_reasons(alloc, pasts, lost));
-    }
-}
-
-/// Tells why the check says what it says, where that is asked for.
-fn explain_check<R: Eprint>(
-    rt: &R,
-    alloc: Global,
-    explain: bool,
-    pasts: &Pasts<'_>,
-    sources: &Sources<'_>,
-    checked: &Checked,
-)
-    requires { IsChecked pasts.now checked.now }
-{
-    if explain {
-        let overview = Overview::of(alloc, pasts, checked);
-        tell_overview(rt, pasts, sources, overview);
-        let reasons = unsafe_reasons(alloc, pasts, checked.unsafe_receipts.as_slice());
-        tell_why(rt, alloc, pasts, sources, reasons);
-        let undone = undone_reasons(alloc, pasts, checked.undone_receipts.as_slice());
-        tell_undone(rt, pasts, sources, undone);
+/// Tells on standard error what explains an answer. Where memory ran out for that it is left out.
+fn tell<R: Eprint>(rt: &R, explanation: Result<RunExplanation<'_>, AllocError>) {
+    if let Ok(explanation) = explanation {
+        let _ = eprint!(rt; "{explanation}");
     }
 }
 
@@ -166,12 +75,20 @@ fn answer<T: Eprint, W: Write>(
         Question::Audit => {
             let audit = audit_of(alloc, pasts)?;
             write_audit(alloc, &audit, writer)?;
-            explain_losses(rt, alloc, explain, pasts, sources, audit.lost.as_slice());
+            if explain {
+                let lost = audit.lost.as_slice();
+                tell(rt, RunExplanation::of_losses(alloc, pasts, sources, lost));
+            }
             Ok(true)
         }
         Question::Check => {
             let checked = write_check(alloc, pasts, sources, writer)?;
-            explain_check(rt, alloc, explain, pasts, sources, &checked);
+            if explain {
+                tell(
+                    rt,
+                    RunExplanation::of_check(alloc, pasts, sources, &checked),
+                );
+            }
             Ok(checked.is_safe())
         }
         Question::Draw(words) => {

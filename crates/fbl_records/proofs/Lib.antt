@@ -8,5 +8,6 @@ pub mod LogValues
 pub mod Cuts
 pub mod ForgottenLaws
 pub mod UndoneLaws
+pub mod Sayings
 pub mod Zips
 pub mod Merges

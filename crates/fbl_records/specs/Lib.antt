@@ -8,3 +8,4 @@ pub mod Texts
 pub mod Merges
 pub mod Forgotten
 pub mod UndoneReasons
+pub mod RunExplanations

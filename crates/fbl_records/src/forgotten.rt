@@ -1,10 +1,10 @@
 //! In which restarts members forgot a receipt.
 
 ghost use Rattle.std.specs.Prelude.{◌≡◌, ◌<◌, ◌↔◌, true, IfOk, length};
-ghost use Rattle.std.specs.List.{AllZip};
 ghost use Rattle.fbl_runs.specs.Clocks.{StandsAt};
 ghost use Rattle.fbl_runs.specs.Entries.{log_of};
 ghost use Rattle.fbl_runs.specs.HappenedBefore.{Position};
+ghost use Rattle.fbl_records.specs.RunExplanations.{AreAllForgotten};
 ghost use Rattle.fbl_records.specs.Forgotten.{AreForgotten, HeldBefore, IsForgottenIn};
 
 use fbl_judge::{Pasts, Reason, recorded_at};
@@ -60,13 +60,12 @@ fn forgotten_of(alloc: Global, pasts: &Pasts<'_>, reason: &Reason) -> Result<For
 }
 
 /// The same of each of these reasons, in their order.
-pub fn all_forgotten(
+pub(crate) fn all_forgotten(
     alloc: Global,
     pasts: &Pasts<'_>,
     reasons: &[Reason],
 ) -> Result<Vec<Forgotten>, AllocError>
-    ensures { IfOk result
-        (λ v. AllZip (λ reason forgotten. AreForgotten pasts.now.entries reason forgotten.restarts.items) reasons.now v.items) }
+    ensures { IfOk result (λ v. AreAllForgotten pasts.now.entries reasons.now v.items) }
 {
     let mut all = Vec::new(alloc);
     for reason in reasons {

@@ -14,17 +14,18 @@ mod merge_words;
 mod overview;
 mod reader;
 mod reason_text;
+mod run_explanation;
 mod undone_text;
 
 pub use audit_text::{audit, write_audit};
 pub use check_text::{Checked, write_check};
-pub use forgotten::{Forgotten, all_forgotten};
+pub use forgotten::Forgotten;
 pub use lines::{dump_text, log_text};
 pub use merge::{MergeFault, Together, in_one_version, merge_of};
 pub use merge_words::{InputFiles, MergeExplanation, MergeLine};
-pub use overview::{Overview, Told};
+pub use overview::Overview;
 pub use reader::{
     RawRecording, RecordedInput, Recording, checked_input, read_checked, read_dump, read_recorded,
 };
-pub use reason_text::Why;
-pub use undone_text::{UndoneReason, WhyUndone, undone_reasons};
+pub use run_explanation::RunExplanation;
+pub use undone_text::UndoneReason;

@@ -139,7 +139,7 @@ impl Overview {
 
 /// An overview in a line.
 #[derive(Clone, Copy)]
-pub struct Told<'a> {
+pub(crate) struct Told<'a> {
     pub overview: &'a Overview,
     pub run: &'a Run,
     /// Where its entries stand.

@@ -10,7 +10,7 @@ use std::fmt;
 
 /// The reasons of receipts of a run, a line for each and for each path.
 #[derive(Clone, Copy)]
-pub struct Why<'a> {
+pub(crate) struct Why<'a> {
     pub run: &'a Run,
     /// Where its entries stand.
     pub sources: Sources<'a>,

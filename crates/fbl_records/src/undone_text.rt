@@ -101,7 +101,7 @@ fn undone_reason(
 }
 
 /// Why restarts undid these receipts, as `undone_receipts` says them, in their order.
-pub fn undone_reasons(
+pub(crate) fn undone_reasons(
     alloc: Global,
     pasts: &Pasts<'_>,
     receipts: &[UndoneReceipt],
@@ -118,7 +118,7 @@ pub fn undone_reasons(
 
 /// Why restarts undid receipts of a run, a line for each and for each path.
 #[derive(Clone, Copy)]
-pub struct WhyUndone<'a> {
+pub(crate) struct WhyUndone<'a> {
     pub run: &'a Run,
     /// Where its entries stand.
     pub sources: Sources<'a>,

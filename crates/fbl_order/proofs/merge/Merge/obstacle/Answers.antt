@@ -1,7 +1,6 @@
-use Rattle.fbl_order.proofs.Common.{Bool, Breaks, have_lives, placed_of, subst, sym}
-use Rattle.fbl_order.specs.Faults.{Hinders}
+use Rattle.fbl_order.proofs.Common.{Breaks, false, have_lives, placed_of, true}
 use Rattle.fbl_order.specs.declared.known.BrokenRule.TheVariants as broken
-use Rattle.fbl_order.proofs.Obstacles.{breaks_found, control_case, event_case, life_case}
+use Rattle.fbl_order.proofs.Obstacles.{breaks_found, control_case, event_case, hindered, life_case}
 use Rattle.fbl_order.proofs.merge.Merge.obstacle.Goals as goal
 
 event_breaks : (c : goal.In-Event) → Breaks (have_lives c.args.entries.now) c.args.n (placed_of c.args.entries.now c.args.self.now) c.args.entry.now (broken.Event c.in-Event.rule)
@@ -13,15 +12,11 @@ event_obstacle-requires-clause-plain c = event_case (have_lives c.args.entries.n
 
 pub returns-in-Event-clause-hinders : goal.returns-in-Event-clause-hinders
 returns-in-Event-clause-hinders c =
-    let n = c.args.n in
-    let entries = c.args.entries.now in
-    let run = placed_of entries c.args.self.now in
-    let e = c.args.entry.now in
-    let breaks = breaks_found (have_lives entries) n run e c.broken_rule.result (broken.Event c.in-Event.rule) c.in-Event.ensures
-    (c.broken_rule.ensures (have_lives entries) run c.requires.merges.known) in
-    let lived = event_case (have_lives entries) n run e c.in-Event.rule breaks in
-    subst (λ (b : Bool). Hinders b n entries run e c.event_obstacle.result) (sym lived)
-    (c.event_obstacle.ensures.hinders n (subst (λ (b : Bool). Breaks b n run e (broken.Event c.in-Event.rule)) lived breaks))
+    let has = have_lives c.args.entries.now in
+    let run = placed_of c.args.entries.now c.args.self.now in
+    let breaks = breaks_found has c.args.n run c.args.entry.now c.broken_rule.result (broken.Event c.in-Event.rule) c.in-Event.ensures (c.broken_rule.ensures has run c.requires.merges.known) in
+    hindered has false c.args.n c.args.entries.now run c.args.entry.now (broken.Event c.in-Event.rule) c.event_obstacle.result (event_case has c.args.n run c.args.entry.now c.in-Event.rule breaks) breaks
+    (c.event_obstacle.ensures.hinders c.args.n)
 
 control_breaks : (c : goal.In-Control) → Breaks (have_lives c.args.entries.now) c.args.n (placed_of c.args.entries.now c.args.self.now) c.args.entry.now (broken.Control c.in-Control.rule)
 control_breaks c = breaks_found (have_lives c.args.entries.now) c.args.n (placed_of c.args.entries.now c.args.self.now) c.args.entry.now c.broken_rule.result (broken.Control c.in-Control.rule)
@@ -32,15 +27,11 @@ control_obstacle-requires-clause-plain c = control_case (have_lives c.args.entri
 
 pub returns-in-Control-clause-hinders : goal.returns-in-Control-clause-hinders
 returns-in-Control-clause-hinders c =
-    let n = c.args.n in
-    let entries = c.args.entries.now in
-    let run = placed_of entries c.args.self.now in
-    let e = c.args.entry.now in
-    let breaks = breaks_found (have_lives entries) n run e c.broken_rule.result (broken.Control c.in-Control.rule) c.in-Control.ensures
-    (c.broken_rule.ensures (have_lives entries) run c.requires.merges.known) in
-    let lived = control_case (have_lives entries) n run e c.in-Control.rule breaks in
-    subst (λ (b : Bool). Hinders b n entries run e c.control_obstacle.result) (sym lived)
-    (c.control_obstacle.ensures.hinders n (subst (λ (b : Bool). Breaks b n run e (broken.Control c.in-Control.rule)) lived breaks))
+    let has = have_lives c.args.entries.now in
+    let run = placed_of c.args.entries.now c.args.self.now in
+    let breaks = breaks_found has c.args.n run c.args.entry.now c.broken_rule.result (broken.Control c.in-Control.rule) c.in-Control.ensures (c.broken_rule.ensures has run c.requires.merges.known) in
+    hindered has false c.args.n c.args.entries.now run c.args.entry.now (broken.Control c.in-Control.rule) c.control_obstacle.result (control_case has c.args.n run c.args.entry.now c.in-Control.rule breaks) breaks
+    (c.control_obstacle.ensures.hinders c.args.n)
 
 life_breaks : (c : goal.In-Life) → Breaks (have_lives c.args.entries.now) c.args.n (placed_of c.args.entries.now c.args.self.now) c.args.entry.now (broken.Life c.in-Life.rule)
 life_breaks c = breaks_found (have_lives c.args.entries.now) c.args.n (placed_of c.args.entries.now c.args.self.now) c.args.entry.now c.broken_rule.result (broken.Life c.in-Life.rule)
@@ -51,12 +42,8 @@ life_obstacle-requires-clause-lived c = life_case (have_lives c.args.entries.now
 
 pub returns-in-Life-clause-hinders : goal.returns-in-Life-clause-hinders
 returns-in-Life-clause-hinders c =
-    let n = c.args.n in
-    let entries = c.args.entries.now in
-    let run = placed_of entries c.args.self.now in
-    let e = c.args.entry.now in
-    let breaks = breaks_found (have_lives entries) n run e c.broken_rule.result (broken.Life c.in-Life.rule) c.in-Life.ensures
-    (c.broken_rule.ensures (have_lives entries) run c.requires.merges.known) in
-    let lived = life_case (have_lives entries) n run e c.in-Life.rule breaks in
-    subst (λ (b : Bool). Hinders b n entries run e c.life_obstacle.result) (sym lived)
-    (c.life_obstacle.ensures.hinders n (subst (λ (b : Bool). Breaks b n run e (broken.Life c.in-Life.rule)) lived breaks))
+    let has = have_lives c.args.entries.now in
+    let run = placed_of c.args.entries.now c.args.self.now in
+    let breaks = breaks_found has c.args.n run c.args.entry.now c.broken_rule.result (broken.Life c.in-Life.rule) c.in-Life.ensures (c.broken_rule.ensures has run c.requires.merges.known) in
+    hindered has true c.args.n c.args.entries.now run c.args.entry.now (broken.Life c.in-Life.rule) c.life_obstacle.result (life_case has c.args.n run c.args.entry.now c.in-Life.rule breaks) breaks
+    (c.life_obstacle.ensures.hinders c.args.n)

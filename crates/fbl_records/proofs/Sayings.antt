@@ -5,7 +5,7 @@ use Rattle.fbl_judge.specs.declared.check.UnsafeReceipt.{UnsafeReceipt}
 use Rattle.fbl_runs.specs.HappenedBefore.{Position}
 use Rattle.fbl_runs.specs.Logs.{RunParts}
 use Rattle.fbl_runs.specs.declared.entry.Entry.{Entry}
-use Rattle.fbl_program.proofs.Common.{ℕ, List, [], ◌∷◌, ◌+◌, arith, inl, inr}
+use Rattle.fbl_records.proofs.Common.{ℕ, List, [], ◌∷◌, ◌+◌, arith, inl, inr}
 use Rattle.std.proofs.lemmas.List.Elements.{All-cons}
 
 -- each is of a receipt of the run

@@ -1,5 +1,0 @@
-use Rattle.fbl_program.proofs.Sayings.{all_said}
-use Rattle.fbl_program.proofs.runs.explain_check.Goals as goal
-
-pub unsafe_reasons-reasons-requires : goal.unsafe_reasons-reasons-requires
-unsafe_reasons-reasons-requires g c = rw c.as_slice.ensures.value (all_said _ _ _ _ c.requires.says)
