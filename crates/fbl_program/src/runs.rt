@@ -2,7 +2,9 @@
 
 ghost use Rattle.std.specs.Prelude.{◌≡◌, ◌<◌, [], IfOk, map, string_bytes};
 ghost use Rattle.fbl_input.specs.Faults.{PutsOut};
+ghost use Rattle.fbl_judge.specs.Audits.{AreNamed};
 ghost use Rattle.fbl_records.specs.Merges.{count_of};
+ghost use Rattle.fbl_records.specs.Texts.{IsChecked};
 ghost use Rattle.fbl_program.specs.Outcomes.{Answers, EndsMerged, EndsRecorded, EndsWith, IsAnswer, IsAnswerTo, IsPlaceMissing, IsPlaceMissingOf, run_line, run_of};
 
 use crate::around::place_asked;
@@ -13,11 +15,11 @@ use crate::streams::Named;
 use crate::teller::refuse_merge;
 use fbl_input::shapes::LONGEST;
 use fbl_input::{OutputFault, RunFault, Sources, put};
-use fbl_judge::{Pasts, audit_of};
+use fbl_judge::{LostReceipt, Pasts, audit_of};
 use fbl_pictures::{column_count, write_run_picture};
 use fbl_records::{
-    InputFiles, RawRecording, Recording, RunExplanation, Together, dump_text, log_text, merge_of,
-    write_audit, write_check,
+    Checked, InputFiles, RawRecording, Recording, RunExplanation, Together, dump_text, log_text,
+    merge_of, write_audit, write_check,
 };
 use fbl_runs::Run;
 use std::alloc::{AllocError, Global};
@@ -58,6 +60,40 @@ fn tell<R: Eprint>(rt: &R, explanation: Result<RunExplanation<'_>, AllocError>) 
     }
 }
 
+/// Tells why these receipts are lost, where that is asked for.
+fn explain_losses<R: Eprint>(
+    rt: &R,
+    alloc: Global,
+    explain: bool,
+    pasts: &Pasts<'_>,
+    sources: &Sources<'_>,
+    lost: &[LostReceipt],
+)
+    requires { AreNamed pasts.now lost.now }
+{
+    if explain {
+        let explanation = RunExplanation::of_losses(alloc, pasts, sources, lost);
+        tell(rt, explanation);
+    }
+}
+
+/// Tells why the check says what it says, where that is asked for.
+fn explain_check<R: Eprint>(
+    rt: &R,
+    alloc: Global,
+    explain: bool,
+    pasts: &Pasts<'_>,
+    sources: &Sources<'_>,
+    checked: &Checked,
+)
+    requires { IsChecked pasts.now checked.now }
+{
+    if explain {
+        let explanation = RunExplanation::of_check(alloc, pasts, sources, checked);
+        tell(rt, explanation);
+    }
+}
+
 /// Answers the question of the run with these pasts, and whether all is well. Where that is asked for, why is told on standard error.
 fn answer<T: Eprint, W: Write>(
     rt: &T,
@@ -75,20 +111,12 @@ fn answer<T: Eprint, W: Write>(
         Question::Audit => {
             let audit = audit_of(alloc, pasts)?;
             write_audit(alloc, &audit, writer)?;
-            if explain {
-                let lost = audit.lost.as_slice();
-                tell(rt, RunExplanation::of_losses(alloc, pasts, sources, lost));
-            }
+            explain_losses(rt, alloc, explain, pasts, sources, audit.lost.as_slice());
             Ok(true)
         }
         Question::Check => {
             let checked = write_check(alloc, pasts, sources, writer)?;
-            if explain {
-                tell(
-                    rt,
-                    RunExplanation::of_check(alloc, pasts, sources, &checked),
-                );
-            }
+            explain_check(rt, alloc, explain, pasts, sources, &checked);
             Ok(checked.is_safe())
         }
         Question::Draw(words) => {

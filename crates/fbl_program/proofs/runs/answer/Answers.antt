@@ -27,8 +27,8 @@ returns-in_err-checked-in-Check g c =
     rw c.in-Check.is (cut_answer (λ (said : Checked) told. IsChecked run said × IsCheckText sources said told) (IsAnswerTo Check run sources) (IsPlaceMissing Check run sources) says_nothing
     (λ said _ told. (said, told.0, told.1, refl)) _ _ _ _ c.from_residual-in_err-checked-in-Check.ensures.1 c.in_err-checked-in-Check.ensures)
 
-pub of_check-requires : goal.of_check-requires
-of_check-requires g c = c.in_ok-checked-in-Check.ensures.1.0
+pub explain_check-requires : goal.explain_check-requires
+explain_check-requires g c = c.in_ok-checked-in-Check.ensures.1.0
 
 pub returns-in_ok-checked-in-Check : goal.returns-in_ok-checked-in-Check
 returns-in_ok-checked-in-Check g c =
