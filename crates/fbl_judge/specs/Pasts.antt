@@ -7,11 +7,13 @@ use Rattle.fbl_runs.specs.declared.clocks.Clocks.{Clocks}
 use Rattle.fbl_runs.specs.declared.entry.Entry.{Entry}
 use Rattle.fbl_runs.specs.declared.entry.Entry.TheVariants.{Restart, Told}
 use Rattle.fbl_runs.specs.declared.entry.Restart as restart
+use Rattle.fbl_runs.specs.declared.records.RecordPlaces.{RecordPlaces}
 use Rattle.fbl_runs.specs.Clocks.{cut_of}
 use Rattle.fbl_runs.specs.Entries.{Logs, log_of}
 use Rattle.fbl_runs.specs.HappenedBefore.{Position, Precedes, at}
 use Rattle.fbl_runs.specs.Logs.{IsRun, RunParts}
 use Rattle.fbl_runs.specs.Precedence.{AreClocks}
+use Rattle.fbl_runs.specs.Records.{AreRecordPlaces}
 use Rattle.fbl_judge.specs.Views.{AreViews}
 use Rattle.fbl_judge.specs.declared.view.View.{View}
 
@@ -43,11 +45,12 @@ pub record AreRestartPlaces (entries : List Entry) (places : List ℕ) : Type 0 
   pub each : (k place : ℕ) → slice_get places k ≡ Some place → IsRestartPlace entries place
   pub all : (place : ℕ) → IsRestartPlace entries place → (k : ℕ) × (slice_get places k ≡ Some place)
 
--- the run obeys its rules, the index is of its entries, a clock is that of all, it is known what happened before each entry and on what it
--- depends, and which restarts its moments have
-pub record AreOf (run : RunParts) (indexed : List Entry) (full : Clock) (befores : Clocks) (dependences : Option Clocks) (found : List View) (places : List ℕ) : Type 0 where
+-- the run obeys its rules, the index is of its entries, it is known where they hold and store each determinant, a clock is that of all, it is
+-- known what happened before each entry and on what it depends, and which restarts its moments have
+pub record AreOf (run : RunParts) (indexed : List Entry) (recorded : RecordPlaces) (full : Clock) (befores : Clocks) (dependences : Option Clocks) (found : List View) (places : List ℕ) : Type 0 where
   pub rules : IsRun run
   pub index : indexed ≡ run.entries
+  pub records : AreRecordPlaces run.entries 0 recorded
   pub last : (q : ℕ) → cut_of full q ≡ length (log_of run.entries q)
   pub before : AreClocks HappenedBefore run.entries befores
   pub depends : AreDependences run.entries dependences

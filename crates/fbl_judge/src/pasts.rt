@@ -1,6 +1,6 @@
 //! The pasts of a run's entries: which entries precede which.
 
-ghost use Rattle.std.specs.Prelude.{◌≡◌, ◌<◌, ◌≤◌, ◌↔◌, ℕ, true, IfOk, MatchOption, length};
+ghost use Rattle.std.specs.Prelude.{◌≡◌, ◌<◌, ◌≤◌, ◌+◌, ◌↔◌, ℕ, true, IfOk, MatchOption, length};
 ghost use Rattle.std.specs.List.{list_any};
 ghost use Rattle.std.specs.FinSet as set;
 ghost use Rattle.fbl_runs.specs.Clocks.{StandsAt, cut_of};
@@ -8,6 +8,7 @@ ghost use Rattle.fbl_runs.specs.Entries.{log_of};
 ghost use Rattle.fbl_runs.specs.HappenedBefore.{Position, Precedes, at};
 ghost use Rattle.fbl_runs.specs.Logs.{IsRun};
 ghost use Rattle.fbl_runs.specs.Moments.{DependsAt, Stands};
+ghost use Rattle.fbl_runs.specs.Records.{IsNextRecord, IsRecordAt};
 ghost use Rattle.fbl_runs.specs.Rules.{AreLawful};
 ghost use Rattle.fbl_runs.specs.declared.causality.Causality.TheVariants.{Dependence};
 ghost use Rattle.fbl_judge.specs.Pasts.{AreDependences, AreRestartPlaces, IsFirstInLife, is_told_or_restart};
@@ -15,8 +16,8 @@ ghost use Rattle.fbl_judge.specs.Views.{AreViews, IsOneLife, IsPastAndStepAt};
 
 use crate::view::View;
 use crate::views::{past_and_step, views_of};
-use fbl_runs::{Causality, Clock, Clocks, Entry, Index, Run};
-use fbl_trace::{Member, MemberSet};
+use fbl_runs::{Causality, Clock, Clocks, Entry, Index, RecordPlaces, Run};
+use fbl_trace::{Determinant, Member, MemberSet};
 use std::alloc::{AllocError, Global};
 use std::marker::Model;
 
@@ -26,6 +27,8 @@ use std::marker::Model;
 pub struct Pasts<'a> {
     run: &'a Run,
     index: Index<'a>,
+    /// Where the entries hold and store each determinant.
+    records: RecordPlaces,
     /// The clock at which all entries have come.
     last: Clock,
     /// What happened before each entry.
@@ -54,7 +57,7 @@ impl<'a> Model for Pasts<'a> {
 
     ghost view = { λ p. p.run.now };
 
-    ghost invariant = { λ p. AreOf p.run.now p.index p.last p.before p.depends p.views.items p.restarts.items };
+    ghost invariant = { λ p. AreOf p.run.now p.index p.records p.last p.before p.depends p.views.items p.restarts.items };
 }
 
 /// Whether the entry's member is told a control message, or is back after a crash.
@@ -107,6 +110,7 @@ impl<'a> Pasts<'a> {
     {
         let entries = run.entries();
         let index = Index::of(alloc, entries)?;
+        let records = RecordPlaces::of(alloc, entries)?;
         let before = Clocks::of(alloc, Causality::HappenedBefore, &index)?;
         let depends = dependences_of(alloc, &index)?;
         let views = views_of(alloc, &index, &before)?;
@@ -115,6 +119,7 @@ impl<'a> Pasts<'a> {
         Ok(Pasts {
             run,
             index,
+            records,
             last,
             before,
             depends,
@@ -144,6 +149,21 @@ impl<'a> Pasts<'a> {
         ensures { result.now ≡ self.now.entries }
     {
         &self.index
+    }
+
+    /// The place of the first hold or store of the determinant.
+    pub(crate) fn first_record(&self, determinant: &Determinant) -> Option<usize>
+        ensures { IsNextRecord self.now.entries determinant.now 0 result }
+    {
+        self.records.first(determinant)
+    }
+
+    /// The place of the next hold or store of what the entry at the place holds or stores.
+    pub(crate) fn next_record(&self, place: usize) -> Option<usize>
+        requires { place < length self.now.entries }
+        ensures { (d : _) → IsRecordAt self.now.entries d place → IsNextRecord self.now.entries d (place + 1) result }
+    {
+        self.records.next(place)
     }
 
     /// The clock at which all entries have come.

@@ -57,12 +57,12 @@ fn counts_at(moment: &Clock) -> [usize; 16]
 fn next_place(pasts: &Pasts<'_>, determinant: &Determinant, moment: &Clock) -> Option<usize>
     ensures { IsNextPlace pasts.now.entries (cut_of moment.now) determinant.now result }
 {
-    let mut next = pasts.index().first_record(determinant);
+    let mut next = pasts.first_record(determinant);
     while let Some(place) = next {
         if !has_come(pasts, place, moment) {
             return Some(place);
         }
-        next = pasts.index().next_record(place);
+        next = pasts.next_record(place);
     }
     None
 }

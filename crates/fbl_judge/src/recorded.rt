@@ -59,10 +59,10 @@ pub fn recorded_at(pasts: &Pasts<'_>, determinant: &Determinant, moment: &Clock)
         holders: MemberSet::empty(),
         is_stored: false,
     };
-    let mut next = pasts.index().first_record(determinant);
+    let mut next = pasts.first_record(determinant);
     while let Some(place) = next {
         recorded.add(pasts, place, moment);
-        next = pasts.index().next_record(place);
+        next = pasts.next_record(place);
     }
     recorded
 }

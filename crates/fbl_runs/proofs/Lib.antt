@@ -9,7 +9,6 @@ pub mod ClockLaws
 pub mod ClockPasses
 pub mod KnownLaws
 pub mod LivedLaws
-pub mod TableLaws
 pub mod DueLaws
 pub mod FewLaws
 pub mod PlainLaws

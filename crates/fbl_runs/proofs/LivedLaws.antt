@@ -16,8 +16,7 @@ use Rattle.fbl_runs.specs.declared.lives.Lives.{Lives}
 use Rattle.fbl_runs.specs.declared.lives.StandingEvent.{StandingEvent}
 use Rattle.fbl_runs.specs.Clocks.{StandsAt}
 use Rattle.fbl_runs.specs.ControlMessages.{AreEndsAllowed, same_control}
-use Rattle.fbl_runs.specs.Indexes.{ArePlaces}
-use Rattle.fbl_runs.specs.KnownLives.{AreEvents, HasLived, IsKnownLog, IsLastRestartBehind, IsLifeAt, IsLifeBehind, IsLifeOf, IsTellPlace, events_after, is_send_at, is_send_in, sends_behind, sent_now}
+use Rattle.fbl_runs.specs.KnownLives.{AreEvents, ArePlaces, HasLived, IsKnownLog, IsLastRestartBehind, IsLifeAt, IsLifeBehind, IsLifeOf, IsTellPlace, events_after, is_send_at, is_send_in, sends_behind, sent_now}
 use Rattle.fbl_runs.specs.Lives.{life_after, life_in, standing, stood_after}
 use Rattle.fbl_runs.specs.Rules.{AreLawful, IsLawful, is_restart, is_send, restarts}
 use Rattle.fbl_runs.proofs.LifeLaws.{LivesRise, get_from_take, life-push, life_le, standing-push, standing_below}

@@ -36,21 +36,21 @@ no_links entries lives links has none = record {
   each = λ p j link stands at_p. absurd (let wrong : None ≡ Some link = sym (ap (λ s. slice_get s p) none) ∙ at_p in cc);
 }
 
--- behind the last one they are those of all
+-- behind the last one all have come, and the links are those of all
+pub all_lived : (entries : List Entry) (place : ℕ) (lives : Lives) (links : List Link) → place ≡ length entries → HasLinks entries place lives links → HasLived entries lives
+all_lived entries place lives links end is = subst (λ (t : List Entry). HasLived t lives) (take_all place entries (omega (arith, end))) is.lived
+
 pub all_links : (entries : List Entry) (place : ℕ) (lives : Lives) (links : List Link) → place ≡ length entries → HasLinks entries place lives links → AreLinks entries links
 all_links entries place lives links end is = record {
   count = is.count ∙ end;
   each = λ p j link stands at_p. (let link_is = is.each p j link stands at_p in link_is.0.but_undone link.undone (undone_all entries place j link.undone (all_seen j) link_is.1));
-  life = λ p q i j a b at_i at_j at_p at_q. one_life entries lives lived i j a.life b.life (is.each p i a at_i at_p).0.life (is.each q j b at_j at_q).0.life;
+  life = λ p q i j a b at_i at_j at_p at_q. one_life entries lives (all_lived entries place lives links end is) i j a.life b.life (is.each p i a at_i at_p).0.life (is.each q j b at_j at_q).0.life;
   few = λ p link at_p. (
       let e = some_entry entries p (let w = slice_get_within links p link at_p in let count = is.count in omega (arith, w, count, end)) in
       (is.each p (at (entry_member e.0) (seen entries p (entry_member e.0))) link (here_stands entries p e.0 e.1) at_p).0.few);
 } where
   all_seen : (j : Position) → seen entries place j.member ≡ length (log_of entries j.member)
   all_seen j = ap (λ x. seen entries x j.member) end ∙ seen-all entries j.member
-
-  lived : HasLived entries lives
-  lived = subst (λ (t : List Entry). HasLived t lives) (take_all place entries (omega (arith, end))) is.lived
 
 -- the lives that are known behind one entry more
 pub lived_more : (entries : List Entry) (place : ℕ) (e : Entry) (lives : Lives) → slice_get entries place ≡ Some e → HasLived (take place entries ++ e ∷ []) lives → HasLived (take (place + 1) entries) lives

@@ -22,7 +22,7 @@ use Rattle.fbl_runs.specs.Logs.{FollowRules, IsBreachBy, IsLog, IsLogBreach, IsR
 use Rattle.fbl_runs.specs.Rules.{AreLawful, FollowsAt, IsLawful, MayFollow, has_life, have_lives}
 use Rattle.fbl_runs.proofs.Common.{IsAt, IsReceiptAt, Position, Precedes, itself, step, receipt_in, cases_eq}
 use Rattle.fbl_runs.specs.Clocks.{StandsAt}
-use Rattle.fbl_runs.specs.Indexes.{IsFirstReceipt, IsReceiptPlace}
+use Rattle.fbl_runs.specs.Receipts.{IsFirstReceipt, IsReceiptPlace}
 use Rattle.fbl_runs.proofs.ClockLaws.{Precedes-joined}
 use Rattle.fbl_runs.proofs.LeadsLaws.{here_stands, one_position}
 use Rattle.fbl_runs.proofs.Listing.{locate_all, seen-later, stands_at}
@@ -120,20 +120,20 @@ first_precedes entries d first p i j at_first at_p before stands_i stands_j = el
 pub known_first : (entries : List Entry) (place first : ℕ) (d : Determinant) (j : Position) → StandsAt entries place j → IsFirstReceipt entries d (Some first) → (b : Bool)
     → ((i : Position) → StandsAt entries first i → (b ≡ true) ↔ Precedes HappenedBefore (log_of entries) i j) → (b ≡ true) ↔ IsKnownTo (log_of entries) d j
 known_first entries place first d j stands is b precedes = (
-  λ yes'. (i, (is.0.0, stands_at entries first i is.0.0 stands_i is.0.1, is.0.2), (precedes i stands_i).0 yes'),
+  λ yes'. (i, (is.1.0, stands_at entries first i is.1.0 stands_i is.1.1, is.1.2), (precedes i stands_i).0 yes'),
   λ known.
       let w = receipt_place_of entries d known.0 known.1 in
-      let after : first ≤ w.0 = elim (cases_lt w.0 first) [ inl early ↦ absurd (is.1 w.0 early w.1) | inr late ↦ late ] in
-      (precedes i stands_i).1 (Precedes-joined (first_precedes entries d first w.0 i known.0 is.0 w.1 after stands_i w.2) known.2),
+      let after : first ≤ w.0 = elim (cases_lt w.0 first) [ inl early ↦ absurd (is.2 w.0 (omega arith) early w.1) | inr late ↦ late ] in
+      (precedes i stands_i).1 (Precedes-joined (first_precedes entries d first w.0 i known.0 is.1 w.1 after stands_i w.2) known.2),
 ) where
   i : Position
-  i = at (entry_member is.0.0) (seen entries first (entry_member is.0.0))
+  i = at (entry_member is.1.0) (seen entries first (entry_member is.1.0))
 
   stands_i : StandsAt entries first i
-  stands_i = here_stands entries first is.0.0 is.0.1
+  stands_i = here_stands entries first is.1.0 is.1.1
 
 pub known_none : (entries : List Entry) (d : Determinant) (j : Position) → IsFirstReceipt entries d None → ¬ (IsKnownTo (log_of entries) d j)
-known_none entries d j none known = (let w = receipt_place_of entries d known.0 known.1 in none w.0 w.1)
+known_none entries d j none known = (let w = receipt_place_of entries d known.0 known.1 in none w.0 (omega arith) w.1)
 
 -- so the entry at the place, which says that it is held or stored, is known
 pub is_known : (entries : List Entry) (place : ℕ) (e : Entry) (d : Determinant) (P : Type 0) → slice_get entries place ≡ Some e → recorded_in e ≡ Some d

@@ -16,7 +16,6 @@ use Rattle.fbl_runs.specs.Clocks.{StandsAt}
 use Rattle.fbl_runs.specs.ControlMessages.{Has, same_control}
 use Rattle.fbl_runs.specs.Entries.{log_of}
 use Rattle.fbl_runs.specs.HappenedBefore.{Position, at}
-use Rattle.fbl_runs.specs.Indexes.{ArePlaces}
 use Rattle.fbl_runs.specs.Links.{IsLink, IsPlaceOf}
 use Rattle.fbl_runs.specs.Lives.{IsUndoneBy, life_in, standing}
 use Rattle.fbl_runs.specs.Rules.{AreLawful, is_send, restarts}
@@ -75,6 +74,11 @@ IsLifeOf before life = (x : ℕ) × IsLifeBehind (log_of before life.member) x l
 -- the life with the number is this one of the member
 abbrev pub IsLifeAt : List Life → ℕ → ℕ → ℕ → Type 0
 IsLifeAt lives number member life = (l : Life) × (slice_get lives number ≡ Some l) × (l.member ≡ member) × (l.life ≡ life)
+
+-- the places are those of the entries of the member's log
+pub record ArePlaces (entries log : List Entry) (q : ℕ) (places : List ℕ) : Type 0 where
+  pub count : length places ≡ length log
+  pub each : (k p : ℕ) → slice_get places k ≡ Some p → StandsAt entries p (at q k)
 
 -- what is known of the member's log: where its entries stand, which of its events stand, and the number of its life
 pub record IsKnownLog (before : List Entry) (lives : List Life) (member : ℕ) (known : KnownLog) : Type 0 where

@@ -9,8 +9,9 @@ pub mod Clocks
 pub mod Links
 pub mod Precedence
 pub mod Records
-pub mod Indexes
+pub mod Receipts
 pub mod KnownLives
+pub mod Indexes
 pub mod LifeRules
 pub mod Lawful
 pub mod Logs

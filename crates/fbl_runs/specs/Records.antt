@@ -11,10 +11,13 @@ use Rattle.fbl_runs.specs.Entries.{recorded_in}
 abbrev pub IsRecordAt : List Entry → Determinant → ℕ → Type 0
 IsRecordAt entries d place = (e : Entry) × (slice_get entries place ≡ Some e) × (recorded_in e ≡ Some d)
 
--- it is the first such place from p on, if there is one
+-- it is the first place from p on at which P holds, if there is one
+abbrev pub IsFirstFrom : (ℕ → Type 0) → ℕ → Option ℕ → Type 0
+IsFirstFrom P p None = (place : ℕ) → p ≤ place → ¬ (P place)
+IsFirstFrom P p (Some next) = (p ≤ next) × P next × ((place : ℕ) → p ≤ place → place < next → ¬ (P place))
+
 abbrev pub IsNextRecord : List Entry → Determinant → ℕ → Option ℕ → Type 0
-IsNextRecord entries d p None = (place : ℕ) → p ≤ place → ¬ (IsRecordAt entries d place)
-IsNextRecord entries d p (Some next) = (p ≤ next) × IsRecordAt entries d next × ((place : ℕ) → p ≤ place → place < next → ¬ (IsRecordAt entries d place))
+IsNextRecord entries d p found = IsFirstFrom (IsRecordAt entries d) p found
 
 -- of the entries from p on, the places of the first hold or store of each determinant, and of the next one behind each
 pub record AreRecordPlaces (entries : List Entry) (p : ℕ) (records : RecordPlaces) : Type 0 where

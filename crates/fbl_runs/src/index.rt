@@ -1,118 +1,27 @@
-//! The members' logs, what leads to each entry at once, and where each determinant is held and stored.
+//! The members' logs, and what leads to each entry at once.
 
-ghost use Rattle.std.specs.Prelude.{◌≡◌, ◌<◌, ◌+◌, ℕ, IfOk, OnOk, [], ◌∷◌, ◌++◌, length, take};
+ghost use Rattle.std.specs.Prelude.{◌≡◌, ◌<◌, ℕ, IfOk, length};
 ghost use Rattle.fbl_runs.specs.Clocks.{StandsAt, cut_of};
-ghost use Rattle.fbl_runs.specs.Entries.{log_of, receipt_in};
+ghost use Rattle.fbl_runs.specs.Entries.{log_of};
 ghost use Rattle.fbl_runs.specs.HappenedBefore.{IsAt, Position, at};
-ghost use Rattle.fbl_runs.specs.Indexes.{AreTables, EndsStep, IsFirstReceipt, first_with, receipt_place};
+ghost use Rattle.fbl_runs.specs.Indexes.{EndsStep};
+ghost use Rattle.fbl_runs.specs.KnownLives.{ArePlaces};
 ghost use Rattle.fbl_runs.specs.Links.{AreLinks, IsLink};
-ghost use Rattle.fbl_runs.specs.Records.{IsNextRecord, IsRecordAt};
 ghost use Rattle.fbl_runs.specs.Rules.{AreLawful};
 
 use crate::clock::Clock;
 use crate::entry::Entry;
 use crate::links::{Link, Links};
-use crate::records::RecordPlaces;
-use fbl_trace::{Determinant, Member};
+use crate::lives::Lives;
+use fbl_trace::Member;
 use std::alloc::{AllocError, Global};
-use std::collections::HashMap;
-use std::hash::{BuildHasherDefault, FoldHasher};
 use std::marker::Model;
 
-/// Where the entries of a member's log stand among all.
-#[derive(Drop)]
-struct Places {
-    places: Vec<usize>,
-}
-
-impl Model for Places {
-    ghost use Rattle.std.specs.Prelude.{List, ℕ};
-
-    ghost Value = { List ℕ };
-
-    ghost view = { λ l. l.places.items };
-}
-
-impl Places {
-    fn new(alloc: Global) -> Places
-        ensures { result ≡ [] }
-    {
-        Places {
-            places: Vec::new(alloc),
-        }
-    }
-
-    fn push(&mut self, place: usize) -> Result<(), AllocError>
-        ensures { OnOk result (self.new ≡ self.old ++ place ∷ []) }
-    {
-        self.places.push(place)?;
-        Ok(())
-    }
-
-    fn as_slice(&self) -> &[usize]
-        ensures { result.now ≡ self.now }
-    {
-        self.places.as_slice()
-    }
-}
-
-#[derive(Drop)]
-pub(crate) struct Tables {
-    /// For each member, at its number, the places of its entries.
-    logs: Vec<Places>,
-    /// The place of the first receipt that each determinant names.
-    receipts: HashMap<Determinant, usize, BuildHasherDefault<FoldHasher>>,
-}
-
-impl Tables {
-    fn new(alloc: Global) -> Result<Tables, AllocError>
-        ensures { IfOk result (λ tables. (entries : _) → AreTables entries [] tables) }
-    {
-        let mut logs = Vec::new(alloc);
-        for _ in 0..16u8 {
-            logs.push(Places::new(alloc))?;
-        }
-        Ok(Tables {
-            logs,
-            receipts: HashMap::new(alloc),
-        })
-    }
-
-    /// Keeps the place of the entry, if it is the first receipt that its determinant names.
-    fn keep_receipt(&mut self, entry: &Entry, place: usize) -> Result<(), AllocError>
-        ensures logs { self.new.logs.items ≡ self.old.logs.items }
-        ensures receipts { OnOk result ((d : _) → receipt_place self.new d ≡ first_with (receipt_place self.old d) (receipt_in entry.now) place d) }
-    {
-        let Some(determinant) = entry.receipt() else {
-            return Ok(());
-        };
-        if self.receipts.get(&determinant).is_none() {
-            self.receipts.insert(determinant, place)?;
-        }
-        Ok(())
-    }
-
-    /// Takes in the entry at the place, the next one.
-    fn add(&mut self, entries: &[Entry], place: usize) -> Result<(), AllocError>
-        requires within { place < length entries.now }
-        requires tables { AreTables entries.now (take place entries.now) self.old }
-        ensures { OnOk result (AreTables entries.now (take (place + 1) entries.now) self.new) }
-    {
-        let entry = &entries[place];
-        let at = entry.member().number() as usize;
-        self.keep_receipt(entry, place)?;
-        self.logs[at].push(place)?;
-        Ok(())
-    }
-}
-
-/// The entries of a run, with the members' logs, what leads to each entry at once, and where each determinant is held and stored. Contracts
-/// see the entries.
+/// The entries of a run, with the members' logs and what leads to each entry at once. Contracts see the entries.
 #[derive(Drop)]
 pub struct Index<'a> {
     entries: &'a [Entry],
-    tables: Tables,
-    records: RecordPlaces,
+    lives: Lives,
     links: Links,
 }
 
@@ -125,7 +34,7 @@ impl<'a> Model for Index<'a> {
 
     ghost view = { λ i. i.entries.now };
 
-    ghost invariant = { λ i. IsIndex i.entries.now i.tables i.records i.links.links.items };
+    ghost invariant = { λ i. IsIndex i.entries.now i.lives i.links.links.items };
 }
 
 impl<'a> Index<'a> {
@@ -134,16 +43,10 @@ impl<'a> Index<'a> {
         requires { (n : ℕ) × AreLawful n entries.now }
         ensures { IfOk result (λ index. index ≡ entries.now) }
     {
-        let mut tables = Tables::new(alloc)?;
-        for place in 0..entries.len() {
-            tables.add(entries, place)?;
-        }
-        let records = RecordPlaces::of(alloc, entries)?;
-        let links = Links::of(alloc, entries)?;
+        let (links, lives) = Links::of(alloc, entries)?;
         Ok(Index {
             entries,
-            tables,
-            records,
+            lives,
             links,
         })
     }
@@ -162,11 +65,18 @@ impl<'a> Index<'a> {
         self.links.links.as_slice()
     }
 
+    /// The places of the member's entries.
+    fn places(&self, member: Member) -> &[usize]
+        ensures { ArePlaces self.now (log_of self.now member) member result.now }
+    {
+        self.lives.logs[member.number() as usize].places.as_slice()
+    }
+
     /// How many entries the member has.
     pub fn count(&self, member: Member) -> usize
         ensures { result ≡ length (log_of self.now member) }
     {
-        self.tables.logs[member.number() as usize].as_slice().len()
+        self.places(member).len()
     }
 
     /// The clock at which all entries have come.
@@ -187,7 +97,7 @@ impl<'a> Index<'a> {
         requires { number < length (log_of self.now member) }
         ensures { StandsAt self.now result (at member number) }
     {
-        self.tables.logs[member.number() as usize].as_slice()[number]
+        self.places(member)[number]
     }
 
     /// What leads to the entry at the place at once.
@@ -220,27 +130,5 @@ impl<'a> Index<'a> {
             }
         }
         count
-    }
-
-    /// The place of the first receipt that the determinant names.
-    pub fn receipt_place(&self, determinant: &Determinant) -> Option<usize>
-        ensures { IsFirstReceipt self.now determinant.now result }
-    {
-        self.tables.receipts.get(determinant).copied()
-    }
-
-    /// The place of the first hold or store of the determinant.
-    pub fn first_record(&self, determinant: &Determinant) -> Option<usize>
-        ensures { IsNextRecord self.now determinant.now 0 result }
-    {
-        self.records.first(determinant)
-    }
-
-    /// The place of the next hold or store of what the entry at the place holds or stores.
-    pub fn next_record(&self, place: usize) -> Option<usize>
-        requires { place < length self.now }
-        ensures { (d : _) → IsRecordAt self.now d place → IsNextRecord self.now d (place + 1) result }
-    {
-        self.records.next(place)
     }
 }

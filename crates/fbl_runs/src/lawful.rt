@@ -7,6 +7,7 @@ ghost use Rattle.fbl_runs.specs.declared.causality.Causality.TheVariants.{Happen
 ghost use Rattle.fbl_runs.specs.Lawful.{BreaksAt, IsEventPlace, IsFirstBad, IsKnownAt, ObeysAt, records};
 ghost use Rattle.fbl_runs.specs.Logs.{IsBreachBy, IsLog, IsLogBreach, RefusesLog, RefusesPlain, parts_of_log, trace_of};
 ghost use Rattle.fbl_runs.specs.Precedence.{AreClocks};
+ghost use Rattle.fbl_runs.specs.Receipts.{AreReceiptPlaces};
 ghost use Rattle.fbl_runs.specs.Rules.{AreLawful, has_life, have_lives};
 
 use crate::causality::Causality;
@@ -16,6 +17,7 @@ use crate::entry::Entry;
 use crate::fault::{LogBreach, RecordFault, RecordRule};
 use crate::index::Index;
 use crate::life_rules::first_life_fault;
+use crate::receipts::ReceiptPlaces;
 use crate::run::RawLog;
 use fbl_dumps::{DumpRefusal, RawDump, checked_dump};
 use fbl_trace::{Breach, EventFault, GroupRule, MOST_PAIRS, Mark, Outsider, group_breach};
@@ -64,14 +66,15 @@ fn trace_refusal(alloc: Global, raw: &RawLog) -> Option<(DumpRefusal, Breach)>
 
 /// Whether what the entry at the place says is held or stored, if it says so, is a receipt that happened before it. Of the receipts that a
 /// determinant names the first precedes the others: they are of one member.
-fn is_known(index: &Index<'_>, clocks: &Clocks, place: usize) -> bool
-    requires { place < length index.now }
+fn is_known(index: &Index<'_>, clocks: &Clocks, receipts: &ReceiptPlaces, place: usize) -> bool
+    requires place { place < length index.now }
+    requires receipts { AreReceiptPlaces index.now 0 receipts.now }
     ensures { AreClocks HappenedBefore index.now clocks.now → (result ≡ true) ↔ IsKnownAt index.now place }
 {
     let Some(determinant) = index.entries()[place].recorded() else {
         return true;
     };
-    match index.receipt_place(&determinant) {
+    match receipts.first(&determinant) {
         Some(first) => clocks.precedes(index, first, place),
         None => false,
     }
@@ -82,10 +85,12 @@ fn broken_rule(
     members: u8,
     index: &Index<'_>,
     clocks: &Clocks,
+    receipts: &ReceiptPlaces,
     place: usize,
     before: usize,
 ) -> Option<RecordRule>
-    requires { place < length index.now }
+    requires place { place < length index.now }
+    requires receipts { AreReceiptPlaces index.now 0 receipts.now }
     ensures { AreClocks HappenedBefore index.now clocks.now → before ≡ length (records (take place index.now))
         → MatchOption result (ObeysAt members index.now place) (BreaksAt members index.now place) }
 {
@@ -97,7 +102,7 @@ fn broken_rule(
     if member.number() >= members {
         return Some(RecordRule::Outside(Outsider { member, members }));
     }
-    if !is_known(index, clocks, place) {
+    if !is_known(index, clocks, receipts, place) {
         return Some(RecordRule::NotBefore);
     }
     None
@@ -114,9 +119,10 @@ fn first_bad(
 {
     let index = Index::of(alloc, entries)?;
     let clocks = Clocks::of(alloc, Causality::HappenedBefore, &index)?;
+    let receipts = ReceiptPlaces::of(alloc, entries)?;
     let mut count = 0;
     for (place, entry) in entries.iter().enumerate() {
-        if let Some(rule) = broken_rule(members, &index, &clocks, place, count) {
+        if let Some(rule) = broken_rule(members, &index, &clocks, &receipts, place, count) {
             let entry = *entry;
             return Ok(Some(RecordFault { place, entry, rule }));
         }

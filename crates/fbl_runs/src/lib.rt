@@ -14,6 +14,7 @@ mod lawful;
 mod life_rules;
 mod links;
 mod lives;
+mod receipts;
 mod records;
 mod run;
 
@@ -30,4 +31,5 @@ pub use judged::Judged;
 pub use lawful::{event_place, marks_of};
 pub use life_rules::{LifeRules, MOST_RESTARTS};
 pub use links::Link;
+pub use records::RecordPlaces;
 pub use run::{RawLog, Run, checked_log};

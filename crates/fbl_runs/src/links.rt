@@ -118,10 +118,11 @@ fn link_to(lives: &Lives, entry: &Entry) -> Link
 impl Links {
     ghost use Rattle.fbl_runs.specs.Links.{AreChanged, AreLinks, IsPlaceOfEvent, kept, undone_at};
 
-    /// Those of the entries. The time taken is that of the entries, by one more than the restarts.
-    pub(crate) fn of(alloc: Global, entries: &[Entry]) -> Result<Links, AllocError>
+    /// Those of the entries, and what the pass over all of them knows of the members' lives. The time taken is that of the entries, by one
+    /// more than the restarts.
+    pub(crate) fn of(alloc: Global, entries: &[Entry]) -> Result<(Links, Lives), AllocError>
         requires { (n : ℕ) × AreLawful n entries.now }
-        ensures { IfOk result (λ links. AreLinks entries.now links.links.items) }
+        ensures { IfOk result (λ found. AreLinks entries.now found.0.links.items × HasLived entries.now found.1) }
     {
         let mut lives = Lives::new(alloc)?;
         let mut links = Links {
@@ -136,7 +137,7 @@ impl Links {
             }
             links.links.push(link_to(&lives, entry))?;
         }
-        Ok(links)
+        Ok((links, lives))
     }
 
     /// Notes that the restart at the place undoes the entries of the log, but for those that were undone before.

@@ -11,7 +11,7 @@ use std::hash::{BuildHasherDefault, FoldHasher};
 
 /// The places of the holds and stores of each determinant.
 #[derive(Drop)]
-pub(crate) struct RecordPlaces {
+pub struct RecordPlaces {
     /// For each determinant that is held or stored, the place of the first hold or store of it.
     firsts: HashMap<Determinant, usize, BuildHasherDefault<FoldHasher>>,
     /// For each entry, at its place, that of the next hold or store of what it holds or stores.
@@ -19,8 +19,8 @@ pub(crate) struct RecordPlaces {
 }
 
 impl RecordPlaces {
-    /// Those of the entries, found by one pass from the last to the first.
-    pub(crate) fn of(alloc: Global, entries: &[Entry]) -> Result<RecordPlaces, AllocError>
+    /// Those of the entries, found by one pass from the last to the first. `Err` comes only where there is no memory for them.
+    pub fn of(alloc: Global, entries: &[Entry]) -> Result<RecordPlaces, AllocError>
         ensures { IfOk result (AreRecordPlaces entries.now 0) }
     {
         let mut records = RecordPlaces {
@@ -49,14 +49,14 @@ impl RecordPlaces {
     }
 
     /// The place of the first hold or store of the determinant.
-    pub(crate) fn first(&self, determinant: &Determinant) -> Option<usize>
+    pub fn first(&self, determinant: &Determinant) -> Option<usize>
         ensures { (entries : _) → AreRecordPlaces entries 0 self.now → IsNextRecord entries determinant.now 0 result }
     {
         self.firsts.get(determinant).copied()
     }
 
     /// The place of the next hold or store of what the entry at the place holds or stores.
-    pub(crate) fn next(&self, place: usize) -> Option<usize>
+    pub fn next(&self, place: usize) -> Option<usize>
         requires { place < length self.now.nexts.items }
         ensures { (entries : _) (d : _) → AreRecordPlaces entries 0 self.now → IsRecordAt entries d place
             → IsNextRecord entries d (place + 1) result }

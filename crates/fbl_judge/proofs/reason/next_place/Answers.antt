@@ -12,14 +12,13 @@ next c = subst (λ (o : Option ℕ). IsReached c.args.pasts.now.entries c.args.d
 -- and the one behind it
 behind : (c : After-next_record-next) → IsRecordAt c.args.pasts.now.entries c.args.determinant.now c.in-Some.place
     → IsNextRecord c.args.pasts.now.entries c.args.determinant.now (c.in-Some.place + 1) c.next_record-next.result
-behind c n =
-    subst (λ (es : List Entry). (d : Determinant) → IsRecordAt es d c.in-Some.place → IsNextRecord es d (c.in-Some.place + 1) c.next_record-next.result) c.index-in-Some.ensures c.next_record-next.ensures c.args.determinant.now n
+behind c n = c.next_record-next.ensures c.args.determinant.now n
 
 pub loop-next-init : goal.loop-next-init
 loop-next-init c =
     let es = c.args.pasts.now.entries in
     let d = c.args.determinant.now in
-    let first = subst (λ (es : List Entry). IsNextRecord es d 0 c.first_record-next.result) c.index.ensures c.first_record-next.ensures in record {
+    let first = c.first_record-next.ensures in record {
       reached = is_reached es d 0 c.first_record-next.result first;
       come = none_passed es d (HasNotCome es (cut_of c.args.moment.now)) c.first_record-next.result first;
     }
@@ -28,10 +27,7 @@ pub has_come-requires : goal.has_come-requires
 has_come-requires c = record_within c.args.pasts.now.entries c.args.determinant.now c.in-Some.place (next (goal.at.has_come-requires c).In-Some)
 
 pub next_record-next-requires : goal.next_record-next-requires
-next_record-next-requires c =
-    let within = record_within c.args.pasts.now.entries c.args.determinant.now c.in-Some.place (next (goal.at.next_record-next-requires c).In-Some) in
-    let same = ap (λ (es : List Entry). length es) c.index-in-Some.ensures in
-    omega (arith, within, same)
+next_record-next-requires c = record_within c.args.pasts.now.entries c.args.determinant.now c.in-Some.place (next (goal.at.next_record-next-requires c).In-Some)
 
 pub returns-then-not-has_come : goal.returns-then-not-has_come
 returns-then-not-has_come c =

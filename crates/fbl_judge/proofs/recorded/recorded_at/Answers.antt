@@ -14,8 +14,7 @@ next c = subst (λ (o : Option ℕ). IsReached c.args.pasts.now.entries c.args.d
 -- and the one behind it
 behind : (c : After-next_record-next) → IsRecordAt c.args.pasts.now.entries c.args.determinant.now c.in-Some.place
     → IsNextRecord c.args.pasts.now.entries c.args.determinant.now (c.in-Some.place + 1) c.next_record-next.result
-behind c n =
-    subst (λ (es : List Entry). (d : Determinant) → IsRecordAt es d c.in-Some.place → IsNextRecord es d (c.in-Some.place + 1) c.next_record-next.result) c.index-in-Some.ensures c.next_record-next.ensures c.args.determinant.now n
+behind c n = c.next_record-next.ensures c.args.determinant.now n
 
 pub loop-next-init : goal.loop-next-init
 loop-next-init c =
@@ -23,7 +22,7 @@ loop-next-init c =
     let d = c.args.determinant.now in
     let cut = cut_of c.args.moment.now in
     let o = c.first_record-next.result in
-    let first = subst (λ (es : List Entry). IsNextRecord es d 0 o) c.index.ensures c.first_record-next.ensures in record {
+    let first = c.first_record-next.ensures in record {
       reached = is_reached es d 0 o first;
       holders = λ q. (
         λ has. absurd (false≢true (sym (ap (λ s. set.contains s q) c.empty.ensures ∙ set.contains-empty nat_cmp q) ∙ has)),
@@ -36,10 +35,7 @@ pub add-requires : goal.add-requires
 add-requires c = record_within c.args.pasts.now.entries c.args.determinant.now c.in-Some.place (next (goal.at.add-requires c).In-Some)
 
 pub next_record-next-requires : goal.next_record-next-requires
-next_record-next-requires c =
-    let within = record_within c.args.pasts.now.entries c.args.determinant.now c.in-Some.place (next (goal.at.next_record-next-requires c).In-Some) in
-    let same = ap (λ (es : List Entry). length es) c.index-in-Some.ensures in
-    omega (arith, within, same)
+next_record-next-requires c = record_within c.args.pasts.now.entries c.args.determinant.now c.in-Some.place (next (goal.at.next_record-next-requires c).In-Some)
 
 pub loop-next-preserved : goal.loop-next-preserved
 loop-next-preserved c =

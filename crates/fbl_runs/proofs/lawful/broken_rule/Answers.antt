@@ -8,7 +8,7 @@ here c =
     let es = c.entries.result.now in
     let same_length = ap (λ (es : List Entry). length es) c.entries.ensures in
     subst (λ (es : List Entry). slice_get es c.args.place ≡ Some c.index-entries-place.result) c.entries.ensures
-    (slice_get_read es (length es) c.args.place c.index-entries-place.result refl (let within = c.requires in omega (arith, within, same_length)) c.index-entries-place.is)
+    (slice_get_read es (length es) c.args.place c.index-entries-place.result refl (let within = c.requires.place in omega (arith, within, same_length)) c.index-entries-place.is)
 
 -- the entry there is this one
 one : (c : After-is_some) (e : Entry) → slice_get c.args.index.now c.args.place ≡ Some e → c.index-entries-place.result ≡ e

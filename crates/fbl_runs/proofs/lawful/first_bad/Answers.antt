@@ -2,6 +2,7 @@ use Rattle.fbl_runs.proofs.Common.{arith, ◌≡◌, ◌∙◌, sym, refl, subst
 use Rattle.std.proofs.Common.{below_more}
 use Rattle.fbl_runs.specs.Lawful.{BreaksAt, ObeysAt, records}
 use Rattle.fbl_runs.specs.Precedence.{AreClocks}
+use Rattle.fbl_runs.specs.Receipts.{AreReceiptPlaces}
 use Rattle.fbl_runs.proofs.RunLaws.{good_all, records-is_none, records-is_some, records-le}
 use Rattle.fbl_runs.proofs.lawful.first_bad.Goals as goal
 use Rattle.fbl_runs.proofs.lawful.first_bad.Goals.{After-broken_rule, then-is_some, else-is_some}
@@ -45,3 +46,6 @@ loop-place-preserved c =
 
 pub returns : goal.returns
 returns c = good_all c.args.members c.args.entries.now c.loop-place.place c.loop-place-test.false c.loop-place.invariant.good
+
+pub broken_rule-requires-clause-receipts : goal.broken_rule-requires-clause-receipts
+broken_rule-requires-clause-receipts c = subst (λ (es : List Entry). AreReceiptPlaces es 0 c.in_ok-receipts.receipts) (sym c.in_ok-index.ensures) c.in_ok-receipts.ensures

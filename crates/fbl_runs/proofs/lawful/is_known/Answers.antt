@@ -1,6 +1,6 @@
-use Rattle.fbl_runs.proofs.Common.{◌≡◌, ◌∙◌, List, Entry, Option, ℕ, Some, at, ap, refl, sym, subst, arith, entry_member, false≢true, length, slice_get, slice_get_read}
+use Rattle.fbl_runs.proofs.Common.{◌≡◌, ◌∙◌, List, Entry, Option, ℕ, Some, at, ap, refl, sym, subst, arith, entry_member, false≢true, length, slice_get, slice_get_read, slice_get_within}
 use Rattle.fbl_runs.specs.Clocks.{seen}
-use Rattle.fbl_runs.specs.Indexes.{IsFirstReceipt}
+use Rattle.fbl_runs.specs.Receipts.{IsFirstReceipt}
 use Rattle.fbl_runs.proofs.LeadsLaws.{here_stands}
 use Rattle.fbl_runs.proofs.RunLaws.{is_known, known_first, known_none}
 use Rattle.fbl_runs.proofs.lawful.is_known.Goals as goal
@@ -11,18 +11,24 @@ here c =
     let es = c.entries.result.now in
     let same_length = ap (λ (es : List Entry). length es) c.entries.ensures in
     subst (λ (es : List Entry). slice_get es c.args.place ≡ Some c.index-entries-place.result) c.entries.ensures
-    (slice_get_read es (length es) c.args.place c.index-entries-place.result refl (let within = c.requires in omega (arith, within, same_length)) c.index-entries-place.is)
+    (slice_get_read es (length es) c.args.place c.index-entries-place.result refl (let within = c.requires.place in omega (arith, within, same_length)) c.index-entries-place.is)
 
-pub returns-in-Some-receipt_place : goal.returns-in-Some-receipt_place
-returns-in-Some-receipt_place c clocks =
-    let at_place = here (goal.at.returns-in-Some-receipt_place c).After-recorded in
+pub precedes-requires-clause-first : goal.precedes-requires-clause-first
+precedes-requires-clause-first c =
+    let es = c.args.index.now in
+    let first = subst (λ (o : Option ℕ). IsFirstReceipt es c.in-Some.determinant o) c.in-Some-first.is (c.first.ensures es c.requires.receipts) in
+    slice_get_within es c.in-Some-first.first first.1.0 first.1.1
+
+pub returns-in-Some-first : goal.returns-in-Some-first
+returns-in-Some-first c clocks =
+    let at_place = here (goal.at.returns-in-Some-first c).After-recorded in
     let es = c.args.index.now in
     let e = c.index-entries-place.result in
     let d = c.in-Some.determinant in
     let j = at (entry_member e) (seen es c.args.place (entry_member e)) in
     let stands = here_stands es c.args.place e at_place in
-    let first = subst (λ (o : Option ℕ). IsFirstReceipt es d o) c.in-Some-receipt_place.is c.receipt_place.ensures in
-    is_known es c.args.place e d (c.precedes.result ≡ _) at_place (sym c.recorded.ensures ∙ c.in-Some.is) (known_first es c.args.place c.in-Some-receipt_place.first d j stands first c.precedes.result (λ i stands_i. c.precedes.ensures _ i j clocks stands_i stands))
+    let first = subst (λ (o : Option ℕ). IsFirstReceipt es d o) c.in-Some-first.is (c.first.ensures es c.requires.receipts) in
+    is_known es c.args.place e d (c.precedes.result ≡ _) at_place (sym c.recorded.ensures ∙ c.in-Some.is) (known_first es c.args.place c.in-Some-first.first d j stands first c.precedes.result (λ i stands_i. c.precedes.ensures _ i j clocks stands_i stands))
 
 pub returns-in-None : goal.returns-in-None
 returns-in-None c clocks =
@@ -30,7 +36,7 @@ returns-in-None c clocks =
     let es = c.args.index.now in
     let e = c.index-entries-place.result in
     let d = c.in-Some.determinant in
-    let first = subst (λ (o : Option ℕ). IsFirstReceipt es d o) c.in-None.is c.receipt_place.ensures in (
+    let first = subst (λ (o : Option ℕ). IsFirstReceipt es d o) c.in-None.is (c.first.ensures es c.requires.receipts) in (
       λ no'. absurd (false≢true no'),
       λ known. absurd (known_none es d (at (entry_member e) (seen es c.args.place (entry_member e))) first (known e d at_place (sym c.recorded.ensures ∙ c.in-Some.is))),
     )

@@ -6,6 +6,6 @@ returns c q = elim (cases_lt q 16) [
   | inl below ↦ c.loop-number.invariant.come q (let t = c.loop-number-test.false in omega (arith, below, t))
   | inr past ↦
       let none = c.loop-number.invariant.none q (λ below. (let t = c.loop-number.auto.number-end in omega (arith, below, past, t))) in
-      let empty = ap length (c.self.invariant.tables.outside q past) in
+      let empty = ap length (c.self.invariant.lives.outside q past) in
       none ∙ subst (λ (es : List Entry). 0 ≡ length (log_of es q)) c.self.view_is (sym empty)
 ]

@@ -4,7 +4,7 @@ use Rattle.std.specs.Option.{is_some}
 use Rattle.fbl_runs.specs.declared.links.Link.{Link}
 use Rattle.fbl_runs.specs.Clocks.{StandsAt}
 use Rattle.fbl_runs.proofs.NewLinkLaws.{restart_none, restart_some}
-use Rattle.fbl_runs.proofs.PassLaws.{HasLinks, IsRight, all_links, front_size, has_entry, linked, lived_more, no_links, passed, restarted, restarted_count}
+use Rattle.fbl_runs.proofs.PassLaws.{HasLinks, IsRight, all_links, all_lived, front_size, has_entry, linked, lived_more, no_links, passed, restarted, restarted_count}
 use Rattle.fbl_runs.proofs.links.Links.of.Goals as goal
 use Rattle.fbl_runs.proofs.links.Links.of.Goals.{then-is_some, else-is_some}
 
@@ -64,4 +64,5 @@ loop-place-preserved c =
 pub returns : goal.returns
 returns c =
     let end : c.loop-place.place ≡ length c.args.entries.now = (let most = c.loop-place.auto.place-end in let past = c.loop-place-test.false in omega (arith, most, past)) in
-    all_links c.args.entries.now c.loop-place.place c.loop-place.lives c.loop-place.links.links.items end c.loop-place.invariant
+    (all_links c.args.entries.now c.loop-place.place c.loop-place.lives c.loop-place.links.links.items end c.loop-place.invariant,
+    all_lived c.args.entries.now c.loop-place.place c.loop-place.lives c.loop-place.links.links.items end c.loop-place.invariant)
