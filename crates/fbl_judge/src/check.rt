@@ -140,7 +140,7 @@ fn least_dependent(pasts: &Pasts<'_>, view: &View, place: usize, member: Member)
     let at = member.number() as usize;
     let first = pasts.first_in_life(place, member, view.starts[at], view.tops[at])?;
     let reached = pasts.moment_at(pasts.index().place(member, first));
-    let moment = view.base.joined(reached);
+    let moment = view.base.joined(&reached);
     if is_within(view, &moment) {
         Some(moment)
     } else {
@@ -240,18 +240,15 @@ fn comes_first(first: &Candidate, other: &Candidate) -> bool
     ensures yes { result ≡ true → IsBefore first.now other.now }
     ensures no { result ≡ false → IsBefore other.now first.now }
 {
-    if is_fewer(first.strike, other.strike) {
-        return true;
-    }
-    if is_fewer(other.strike, first.strike) {
-        return false;
+    if first.strike != other.strike {
+        return is_fewer(first.strike, other.strike);
     }
     let (own, others) = (first.orphan.number(), other.orphan.number());
     own < others || (own == others && has_fewer_restarts(&first.restarts, &other.restarts))
 }
 
-/// Whether the next one is a candidate that comes before the first, if that is one.
-fn comes_before(next: &Option<Candidate>, first: &Option<Candidate>) -> bool
+/// Whether the next one is a candidate, and comes before the first, if that is one.
+fn replaces(next: &Option<Candidate>, first: &Option<Candidate>) -> bool
     ensures yes { result ≡ true → IsFirstOf first.now next.now next.now }
     ensures no { result ≡ false → IsFirstOf first.now next.now first.now }
 {
@@ -278,7 +275,7 @@ fn first_in_view(
     let mut first = None;
     for number in 0..16u8 {
         let next = candidate_of(pasts, view, place, determinant, Member::at(number));
-        if comes_before(&next, &first) {
+        if replaces(&next, &first) {
             first = next;
         }
     }
@@ -294,7 +291,7 @@ fn first_candidate(pasts: &Pasts<'_>, place: usize, determinant: &Determinant) -
     let mut first = None;
     for view in pasts.views() {
         let next = first_in_view(pasts, view, place, determinant);
-        if comes_before(&next, &first) {
+        if replaces(&next, &first) {
             first = next;
         }
     }

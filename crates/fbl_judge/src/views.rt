@@ -116,7 +116,7 @@ fn with_restart(view: &View, restart: &RestartPast) -> View
     restarts.of_members[at] += 1;
     restarts.total += 1;
     View {
-        base: view.base.joined(restart.moment),
+        base: view.base.joined(&restart.moment),
         starts,
         tops,
         restarts,

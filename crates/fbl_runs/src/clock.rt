@@ -39,8 +39,8 @@ impl Clock {
     }
 
     /// The clock at which what is in either has come.
-    pub fn joined(self, other: Clock) -> Clock
-        ensures { (q : ℕ) → cut_of result q ≡ max (cut_of self q) (cut_of other q) }
+    pub fn joined(self, other: &Clock) -> Clock
+        ensures { (q : ℕ) → cut_of result q ≡ max (cut_of self q) (cut_of other.now q) }
     {
         let mut counts = self.counts;
         for number in 0..24usize {

@@ -151,7 +151,7 @@ impl Clocks {
             × ((q : ℕ) → cut_of result q ≡ max (cut_of clock q) (cut q)) }
     {
         match place {
-            Some(_) => clock.joined(self.source(links, place)),
+            Some(_) => clock.joined(&self.source(links, place)),
             None => clock,
         }
     }

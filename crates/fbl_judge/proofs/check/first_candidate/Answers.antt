@@ -8,7 +8,7 @@ use Rattle.fbl_judge.specs.Candidates.{IsAny, IsFirstAmong, IsFirstOf, IsOfLesse
 use Rattle.fbl_judge.proofs.DependLaws.{receipt_at}
 use Rattle.fbl_judge.proofs.UnsafeLaws.{first_of_two, first_wider, one_view_more, orphan_below}
 use Rattle.fbl_judge.proofs.check.first_candidate.Goals as goal
-use Rattle.fbl_judge.proofs.check.first_candidate.Goals.{then-comes_before, else-comes_before}
+use Rattle.fbl_judge.proofs.check.first_candidate.Goals.{then-replaces, else-replaces}
 
 pub first_in_view-next-requires-clause-view : goal.first_in_view-next-requires-clause-view
 first_in_view-next-requires-clause-view c =
@@ -28,9 +28,9 @@ loop-view-preserved c i stands =
     (IsOfViews logs (take k views)) (IsOfLesser logs (cut_of c.view-item.result.base) 16) (IsOfViews logs (take (k + 1) views))
     (λ q cut is. one_view_more logs views k c.view-item.result here q cut is)
     c.loop-view.first c.first_in_view-next.result r (c.loop-view.invariant i stands) (c.first_in_view-next.ensures i stands) is in
-    elim c.if-comes_before.branch [
-      | then-comes_before w ↦ rw w.first-is (first c.first_in_view-next.result (c.comes_before.ensures.yes w.if-comes_before.true))
-      | else-comes_before w ↦ rw w.first-is (first c.loop-view.first (c.comes_before.ensures.no w.if-comes_before.false))
+    elim c.if-replaces.branch [
+      | then-replaces w ↦ rw w.first-is (first c.first_in_view-next.result (c.replaces.ensures.yes w.if-replaces.true))
+      | else-replaces w ↦ rw w.first-is (first c.loop-view.first (c.replaces.ensures.no w.if-replaces.false))
     ]
 
 pub returns : goal.returns

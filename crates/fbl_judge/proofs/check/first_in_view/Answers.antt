@@ -6,7 +6,7 @@ use Rattle.fbl_judge.specs.Candidates.{IsFirstAmong, IsFirstOf, IsOfLesser, IsOf
 use Rattle.fbl_judge.proofs.DependLaws.{receipt_at}
 use Rattle.fbl_judge.proofs.UnsafeLaws.{first_of_two, first_wider}
 use Rattle.fbl_judge.proofs.check.first_in_view.Goals as goal
-use Rattle.fbl_judge.proofs.check.first_in_view.Goals.{then-comes_before, else-comes_before}
+use Rattle.fbl_judge.proofs.check.first_in_view.Goals.{then-replaces, else-replaces}
 
 pub loop-number-preserved : goal.loop-number-preserved
 loop-number-preserved c i stands =
@@ -20,9 +20,9 @@ loop-number-preserved c i stands =
     (IsOfLesser logs base c.loop-number.number) (IsOfMember logs base c.at.result) (IsOfLesser logs base (c.loop-number.number + 1))
     (λ q cut is. elim (cases_lt q c.loop-number.number) [ inl less ↦ inl (less, is.1) | inr last ↦ inr ((let below = is.0 in omega (arith, below, last, member)), is.1) ])
     c.loop-number.first c.candidate_of-next.result r (c.loop-number.invariant i stands) (c.candidate_of-next.ensures i stands) is in
-    elim c.if-comes_before.branch [
-      | then-comes_before w ↦ rw w.first-is (first c.candidate_of-next.result (c.comes_before.ensures.yes w.if-comes_before.true))
-      | else-comes_before w ↦ rw w.first-is (first c.loop-number.first (c.comes_before.ensures.no w.if-comes_before.false))
+    elim c.if-replaces.branch [
+      | then-replaces w ↦ rw w.first-is (first c.candidate_of-next.result (c.replaces.ensures.yes w.if-replaces.true))
+      | else-replaces w ↦ rw w.first-is (first c.loop-number.first (c.replaces.ensures.no w.if-replaces.false))
     ]
 
 pub returns : goal.returns

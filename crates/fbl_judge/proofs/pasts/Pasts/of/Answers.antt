@@ -7,8 +7,8 @@ of-requires c =
     let run = c.args.run.now in
     (run.members, subst (λ (es : List Entry). AreLawful run.members es) (sym c.entries-entries.ensures.entries) c.entries-entries.ensures.rules.lawful.lawful)
 
-pub of-requires-2 : goal.of-requires-2
-of-requires-2 c =
+pub of-requires-3 : goal.of-requires-3
+of-requires-3 c =
     let run = c.args.run.now in
     (run.members, subst (λ (es : List Entry). AreLawful run.members es) (sym (c.in_ok-index.ensures ∙ c.entries-entries.ensures.entries)) c.entries-entries.ensures.rules.lawful.lawful)
 
