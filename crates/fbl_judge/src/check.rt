@@ -240,8 +240,11 @@ fn comes_first(first: &Candidate, other: &Candidate) -> bool
     ensures yes { result ≡ true → IsBefore first.now other.now }
     ensures no { result ≡ false → IsBefore other.now first.now }
 {
-    if first.strike != other.strike {
-        return is_fewer(first.strike, other.strike);
+    if is_fewer(first.strike, other.strike) {
+        return true;
+    }
+    if is_fewer(other.strike, first.strike) {
+        return false;
     }
     let (own, others) = (first.orphan.number(), other.orphan.number());
     own < others || (own == others && has_fewer_restarts(&first.restarts, &other.restarts))
