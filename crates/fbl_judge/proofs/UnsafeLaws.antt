@@ -5,7 +5,6 @@ use Rattle.fbl_judge.proofs.Common.{Entry, Logs, log_of, receipt_in, Position, a
 use Rattle.fbl_judge.proofs.Common.{AreEntries, AreStruckOrHold, IsJudgedAt, IsSafe, LosesAt, Run, bound, last_cut, len-within}
 use Rattle.fbl_trace.specs.MemberSets.{same_from_contains}
 use Rattle.std.specs.FinSet as set
-use Rattle.std.proofs.Common.{slice_index}
 use Rattle.std.proofs.lemmas.Bool.{cases_order}
 use Rattle.fbl_runs.proofs.ClockLaws.{last_there}
 use Rattle.fbl_judge.specs.declared.check.Candidate.{Candidate}
@@ -15,7 +14,7 @@ use Rattle.fbl_judge.specs.declared.view.View.{View}
 use Rattle.fbl_runs.specs.Clocks.{StandsAt, cut_of}
 use Rattle.fbl_runs.specs.Rules.{restarts}
 use Rattle.fbl_runs.specs.Logs.{RunParts, run_of}
-use Rattle.fbl_judge.specs.Unsafe.{ComesFirst, HasFewerRestarts, IsCandidate, IsFewer, IsFirstCandidate, IsLeastLoss, IsLeastStrike, IsLeftOrphanAt, IsNamed, IsReceiptPlace, IsSaidAt, IsSaidOf, IsUnsafe, IsUnsafeAt, ListsFirst, RestartsFirst, SaysUnsafe, restarts_at, restarts_below}
+use Rattle.fbl_judge.specs.Unsafe.{ComesFirst, HasFewerRestarts, IsCandidate, IsFewer, IsFirstCandidate, IsLeastLoss, IsLeastStrike, IsLeftOrphanAt, IsNamed, IsReceiptPlace, IsSaidAt, IsSaidOf, IsUnsafe, IsUnsafeAt, ListsFirst, RestartsFirst, SaysUnsafe, restarts_at}
 use Rattle.fbl_judge.specs.Candidates.{HasFewer, IsAny, IsBefore, IsCandidateOf, IsFirstAmong, IsFirstOf, IsLeastIn, IsLeastOut, IsOfLesser, IsOfMember, IsOfViews, IsSaidAtEnd, IsSaidFirst, IsSaidWith, IsUnsafeAtEnd, NoneDepends}
 use Rattle.fbl_judge.specs.Views.{AreRestartsAt}
 use Rattle.fbl_runs.specs.declared.judged.Judged.{Judged}

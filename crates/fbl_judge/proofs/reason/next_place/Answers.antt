@@ -1,4 +1,4 @@
-use Rattle.fbl_judge.proofs.Common.{arith, ap, ◌<◌, ◌+◌, ◌∙◌, ℕ, Determinant, Option, List, Entry, inl, inr, length, subst, sym, cut_of, false≢true}
+use Rattle.fbl_judge.proofs.Common.{◌<◌, ◌+◌, ◌∙◌, ℕ, Option, inl, inr, subst, sym, cut_of, false≢true}
 use Rattle.fbl_runs.specs.Records.{IsNextRecord, IsRecordAt}
 use Rattle.fbl_judge.proofs.RecordedLaws.{IsOfPassed, IsReached, all_passed, fewer_left, is_reached, left, none_passed, one_more, record_within}
 use Rattle.fbl_judge.proofs.ReasonLaws.{HasNotCome, is_to_come}

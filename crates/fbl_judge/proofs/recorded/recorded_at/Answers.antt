@@ -1,4 +1,4 @@
-use Rattle.fbl_judge.proofs.Common.{arith, ap, ◌≡◌, ◌<◌, ◌+◌, ◌↔◌, ◌∙◌, ℕ, true, Determinant, Option, List, Entry, length, subst, sym, cut_of, false≢true}
+use Rattle.fbl_judge.proofs.Common.{ap, ◌≡◌, ◌<◌, ◌+◌, ◌↔◌, ◌∙◌, ℕ, true, Option, subst, sym, cut_of, false≢true}
 use Rattle.std.proofs.Common.{nat_cmp}
 use Rattle.std.specs.FinSet as set
 use Rattle.fbl_runs.specs.Records.{IsNextRecord, IsRecordAt}
