@@ -6,6 +6,7 @@ use Rattle.fbl_judge.specs.Reasons.{AreLossReasons, AreUnsafeReasons}
 use Rattle.fbl_judge.specs.declared.audit.LostReceipt.{LostReceipt}
 use Rattle.fbl_judge.specs.declared.reason.Reason.{Reason}
 use Rattle.fbl_records.specs.Forgotten.{AreForgotten}
+use Rattle.fbl_records.specs.Overviews.{IsOverviewOf}
 use Rattle.fbl_records.specs.UndoneReasons.{AreUndoneReasons}
 use Rattle.fbl_records.specs.declared.check_text.Checked.{Checked}
 use Rattle.fbl_records.specs.declared.run_explanation.RunExplanation.{RunExplanation}
@@ -26,10 +27,11 @@ pub record ExplainsLosses (run : RunParts) (sources : Sources) (lost : List Lost
   pub forgotten : AreAllForgotten run.entries told.reasons.items told.forgotten.items
   pub undone : told.undone.items ≡ []
 
--- it is of the run, whose entries stand there, and has the reason of each receipt that the check names
+-- it is of the run, whose entries stand there, has the overview, and has the reason of each receipt that the check names
 pub record ExplainsCheck (run : RunParts) (sources : Sources) (checked : Checked) (told : RunExplanation) : Type 0 where
   pub same_run : told.run.now ≡ run
   pub same_sources : told.sources ≡ sources
+  pub overview : IsOverviewOf run checked told.overview
   pub reasons : AreUnsafeReasons run checked.unsafe_receipts.items told.reasons.items
   pub forgotten : AreAllForgotten run.entries told.reasons.items told.forgotten.items
   pub undone : AreUndoneReasons run checked.undone_receipts.items told.undone.items
