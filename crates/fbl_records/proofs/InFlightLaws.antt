@@ -1,5 +1,6 @@
 -- Which messages are taken, and how many are in flight.
-use Rattle.fbl_records.proofs.Common.{ℕ, ◌≡◌, ◌<◌, ◌≤◌, ◌+◌, ◌∙◌, ◌↔◌, inl, inr, zero, suc, true, false, Bool, Option, Some, None, List, [], ◌∷◌, get_or, length, refl, sym, ap, subst, arith, cases_eq, false≢true}
+use Rattle.fbl_records.proofs.Common.{ℕ, ◌≡◌, ◌<◌, ◌≤◌, ◌+◌, ◌∙◌, ◌↔◌, inl, inr, zero, suc, true, false, Bool, Option, Some, None, List}
+use Rattle.fbl_records.proofs.Common.{get_or, length, refl, sym, ap, subst, arith, cases_eq, false≢true}
 use Rattle.std.proofs.Common.{not, replicate, set, slice_get, length-set}
 use Rattle.std.proofs.lemmas.Option.{slice_get-get_or}
 use Rattle.fbl_trace.specs.declared.trace.Mark.{Mark}
@@ -8,7 +9,6 @@ use Rattle.fbl_runs.specs.Clocks.{StandsAt}
 use Rattle.fbl_runs.specs.Entries.{log_of}
 use Rattle.fbl_runs.specs.HappenedBefore.{Carries, IsAt, Position}
 use Rattle.fbl_runs.specs.Links.{IsMessageOf, IsPlaceOf}
-use Rattle.fbl_runs.specs.Moments.{Stands, last_cut}
 use Rattle.fbl_runs.specs.declared.entry.Entry.{Entry}
 use Rattle.fbl_runs.specs.declared.entry.Entry.TheVariants.{Event, Tell}
 use Rattle.fbl_runs.proofs.LeadsLaws.{one_place_of, one_position}
@@ -16,29 +16,29 @@ use Rattle.fbl_runs.proofs.Listing.{stands_at}
 use Rattle.fbl_runs.proofs.LivedLaws.{set_here}
 use Rattle.fbl_judge.proofs.MomentLaws.{same_at}
 use Rattle.fbl_judge.proofs.Places.{one_entry, place_of, place_within, placed_at}
-use Rattle.fbl_records.specs.Overviews.{AreTaken, CountsInFlight, IsInFlight, IsInFlightFrom, IsTakenAtEnd}
+use Rattle.fbl_records.specs.Overviews.{AreTaken, CountsInFlight, IsInFlight, IsInFlightFrom, IsTakenAtEnd, StandsAtEnd, TakesAtEnd}
 use Rattle.fbl_records.proofs.OverviewLaws.{get_elsewhere}
 
 -- ---- which messages are taken
 
--- the position of what brings in a message with the entry, if this stands at the end
-abbrev pub IsTakenBy : List Entry → Position → Position → Type 0
-IsTakenBy entries j i = IsMessageOf (log_of entries) j i × Stands (log_of entries) (last_cut (log_of entries)) j
-
 -- the same positions have the same place
-pub same_place : (entries : List Entry) (Q R : Position → Type 0) (o : Option ℕ) → ((i : Position) → Q i ↔ R i) → IsPlaceOf entries Q o → IsPlaceOf entries R o
+pub same_place : (entries : List Entry) (Q R : Position → Type 0) (o : Option ℕ) → ((i : Position) → Q i ↔ R i) → IsPlaceOf entries Q o
+    → IsPlaceOf entries R o
 same_place entries Q R None same none = λ i r. none i ((same i).1 r)
 same_place entries Q R (Some p) same is = (is.0, is.1, (same is.0).0 is.2, λ k r. is.3 k ((same k).1 r))
 
--- one of the first n entries brings it in
+-- one of the first n entries takes the message, and stands at the end
 abbrev pub IsTakenBelow : List Entry → ℕ → Position → Type 0
-IsTakenBelow entries n i = (p : ℕ) × (j : Position) × (p < n) × StandsAt entries p j × IsTakenBy entries j i
+IsTakenBelow entries n i = (p : ℕ) × (j : Position) × (p < n) × StandsAt entries p j × TakesAtEnd (log_of entries) j i
 
+-- at each place it has whether that is so
 pub record AreTakenBelow (entries : List Entry) (n : ℕ) (taken : List Bool) : Type 0 where
   pub count : length taken ≡ length entries
-  pub each : (place : ℕ) (i : Position) (is_taken : Bool) → StandsAt entries place i → slice_get taken place ≡ Some is_taken → (is_taken ≡ true) ↔ IsTakenBelow entries n i
+  pub each : (place : ℕ) (i : Position) (is_taken : Bool) → StandsAt entries place i → slice_get taken place ≡ Some is_taken
+      → (is_taken ≡ true) ↔ IsTakenBelow entries n i
 
-pub none_taken : (entries : List Entry) (taken : List Bool) → length taken ≡ length entries → ((place : ℕ) (is_taken : Bool) → slice_get taken place ≡ Some is_taken → is_taken ≡ false) → AreTakenBelow entries 0 taken
+pub none_taken : (entries : List Entry) (taken : List Bool) → length taken ≡ length entries
+    → ((place : ℕ) (is_taken : Bool) → slice_get taken place ≡ Some is_taken → is_taken ≡ false) → AreTakenBelow entries 0 taken
 none_taken entries taken count none = record {
   count = count;
   each = λ place i b at_i here. (λ is. absurd (false≢true (sym (none place b here) ∙ is)), λ is. absurd (let below = is.2 in omega (arith, below)));
@@ -50,8 +50,8 @@ all_false (suc n) zero b here = cc
 all_false (suc n) (suc place) b here = all_false n place b here
 
 module _ (entries : List Entry) (n : ℕ) (taken : List Bool) (are : AreTakenBelow entries n taken) where
-  -- an entry that brings in none
-  pub taken_same : ((j : Position) → StandsAt entries n j → IsPlaceOf entries (IsTakenBy entries j) None) → AreTakenBelow entries (n + 1) taken
+  -- an entry that takes none, or does not stand
+  pub taken_same : ((j : Position) → StandsAt entries n j → IsPlaceOf entries (TakesAtEnd (log_of entries) j) None) → AreTakenBelow entries (n + 1) taken
   taken_same none = record {
     count = are.count;
     each = λ place i b at_i here. (
@@ -63,24 +63,28 @@ module _ (entries : List Entry) (n : ℕ) (taken : List Bool) (are : AreTakenBel
     );
   }
 
-  -- one that brings in that of the place
-  pub taken_more : (send : ℕ) (j : Position) → StandsAt entries n j → IsPlaceOf entries (IsTakenBy entries j) (Some send) → AreTakenBelow entries (n + 1) (set taken send true)
+  -- one that takes that of the place
+  pub taken_more : (send : ℕ) (j : Position) → StandsAt entries n j → IsPlaceOf entries (TakesAtEnd (log_of entries) j) (Some send)
+      → AreTakenBelow entries (n + 1) (set taken send true)
   taken_more send j at_j is = record {
     count = length-set taken send true ∙ are.count;
     each = λ place i b at_i here. elim (cases_eq place send) [
       | inl same ↦
-          let within : send < length taken = (let below = place_within entries send is.0 is.1 in let count = are.count in omega (arith, below, count)) in
-          let old = some_bool taken send within in
-          let true_is : true ≡ b = (let both : Some true ≡ Some b = sym (set_here taken send old.0 true old.1) ∙ ap (slice_get (set taken send true)) (sym same) ∙ here in cc) in
+          let below = place_within entries send is.0 is.1 in
+          let count = are.count in
+          let old = slice_get-get_or taken send false (omega (arith, below, count)) in
+          let new = set_here taken send (get_or taken send false) true old in
+          let both : Some true ≡ Some b = sym new ∙ ap (slice_get (set taken send true)) (sym same) ∙ here in
+          let true_is : true ≡ b = cc in
           let one = one_position entries send is.0 i is.1 (subst (λ (p : ℕ). StandsAt entries p i) same at_i) in
-          (λ h. (n, j, omega arith, at_j, subst (IsTakenBy entries j) one is.2), λ h. sym true_is)
+          (λ h. (n, j, omega arith, at_j, subst (TakesAtEnd (log_of entries) j) one is.2), λ h. sym true_is)
       | inr ne ↦
           let before = are.each place i b at_i (sym (get_elsewhere taken send place true ne) ∙ here) in (
             λ h. (let r = before.0 h in (r.0, r.1, (let below = r.2 in omega (arith, below)), r.3, r.4)),
             λ h. elim (cases_eq h.0 n) [
               | inl last ↦ absurd (
                   let own = one_position entries n h.1 j (subst (λ (p : ℕ). StandsAt entries p h.1) last h.3) at_j in
-                  elim (is.3 i (subst (λ (j : Position). IsTakenBy entries j i) own h.4)) [
+                  elim (is.3 i (subst (λ (j : Position). TakesAtEnd (log_of entries) j i) own h.4)) [
                     | inl same ↦ ne (one_place_of entries place send is.0 (subst (λ (i : Position). StandsAt entries place i) same at_i) is.1)
                     | inr none ↦ none
                   ])
@@ -88,11 +92,7 @@ module _ (entries : List Entry) (n : ℕ) (taken : List Bool) (are : AreTakenBel
             ],
           )
     ];
-  } where
-    some_bool : (bs : List Bool) (k : ℕ) → k < length bs → (b : Bool) × (slice_get bs k ≡ Some b)
-    some_bool [] k below = absurd (omega (arith, below))
-    some_bool (b ∷ bs) zero below = (b, refl)
-    some_bool (b ∷ bs) (suc k) below = some_bool bs k (omega (arith, below))
+  }
 
   -- where all entries are looked at
   pub taken_all : length entries ≤ n → AreTaken entries taken
@@ -104,12 +104,13 @@ module _ (entries : List Entry) (n : ℕ) (taken : List Bool) (are : AreTakenBel
           (r.1, carried i r.1 s (stands_at entries place i (Event s) at_i event) r.4.0, r.4.1),
       λ h.
           let j = place_of entries h.0 h.1.2 h.1.4 in
-          (are.each place i b at_i here).1 (j.0, h.0, (let below = place_within entries j.0 h.0 j.1 in omega (arith, below, all)), j.1, (inl h.1, h.2)),
+          let below = place_within entries j.0 h.0 j.1 in
+          (are.each place i b at_i here).1 (j.0, h.0, omega (arith, below, all), j.1, (inl h.1, h.2)),
     );
   } where
     carried : (i j : Position) (s : Mark) → IsAt (log_of entries) i (Event s) → IsMessageOf (log_of entries) j i → Carries (log_of entries) i j
     carried i j s at_i (inl carries) = carries
-    carried i j s at_i (inr tells) = absurd (let same : Event s ≡ Tell tells.0 = same_at (log_of entries) i (Event s) (Tell tells.0) at_i tells.1 in cc)
+    carried i j s at_i (inr tells) = (let same : Event s ≡ Tell tells.0 = same_at (log_of entries) i (Event s) (Tell tells.0) at_i tells.1 in absurd cc)
 
 -- ---- how many are in flight
 
@@ -122,16 +123,17 @@ module _ (entries : List Entry) (place : ℕ) (i : Position) (at_i : StandsAt en
   pub in_flight_sent : (e : Entry) → slice_get entries place ≡ Some e → IsInFlight (log_of entries) i → IsSend e
   in_flight_sent e here flight =
       let send = flight.send in
-      (send.0, send.1, send.2, one_entry entries place e (Event (Send send.0 send.1 send.2)) here (placed_at entries place i (Event (Send send.0 send.1 send.2)) at_i send.3))
+      let mark = Send send.0 send.1 send.2 in
+      (send.0, send.1, send.2, one_entry entries place e (Event mark) here (placed_at entries place i (Event mark) at_i send.3))
 
   -- a send that stands is in flight unless its message is taken
-  pub in_flight_untaken : (taken : List Bool) (e : Entry) → AreTaken entries taken → slice_get entries place ≡ Some e → IsSend e → Stands (log_of entries) (last_cut (log_of entries)) i
-      → (not (get_or taken place false) ≡ true) ↔ IsInFlight (log_of entries) i
+  pub in_flight_untaken : (taken : List Bool) (e : Entry) → AreTaken entries taken → slice_get entries place ≡ Some e → IsSend e
+      → StandsAtEnd (log_of entries) i → (not (get_or taken place false) ≡ true) ↔ IsInFlight (log_of entries) i
   in_flight_untaken taken e are here send stands = (
     λ free. record {
       send = (send.0, send.1, send.2, stands_at entries place i (Event mark) at_i event);
       stands = stands;
-      untaken = λ is. (let h = known.1 is in let no' : not (get_or taken place false) ≡ false = ap not h in false≢true (sym no' ∙ free));
+      untaken = λ is. false≢true (sym (ap not (known.1 is)) ∙ free);
     },
     λ flight. elim (get_or taken place false) as (λ b. ((b ≡ true) → IsTakenAtEnd (log_of entries) i) → not b ≡ true) [
       | true ↦ λ known. absurd (flight.untaken (known refl))
@@ -150,8 +152,11 @@ module _ (entries : List Entry) (place : ℕ) (i : Position) (at_i : StandsAt en
         are.each place i mark (get_or taken place false) at_i event (slice_get-get_or taken place false (omega (arith, below, count))))
 
 module _ (entries : List Entry) (n count : ℕ) (before : CountsInFlight entries n count) where
+  next : suc n ≡ n + 1
+  next = omega arith
+
   pub in_flight_more : IsInFlightFrom entries n → CountsInFlight entries (n + 1) (count + 1)
-  in_flight_more is = (let next : suc n ≡ n + 1 = omega arith in subst (λ (m : ℕ). CountsInFlight entries m (count + 1)) next (inl (is, (count, before, refl))))
+  in_flight_more is = subst (λ (m : ℕ). CountsInFlight entries m (count + 1)) next (inl (is, (count, before, refl)))
 
   pub in_flight_same : ¬ (IsInFlightFrom entries n) → CountsInFlight entries (n + 1) count
-  in_flight_same not = (let next : suc n ≡ n + 1 = omega arith in subst (λ (m : ℕ). CountsInFlight entries m count) next (inr (not, before)))
+  in_flight_same not = subst (λ (m : ℕ). CountsInFlight entries m count) next (inr (not, before))

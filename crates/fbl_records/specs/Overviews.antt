@@ -1,5 +1,5 @@
 -- What is told first of the check of a run with restarts.
-use Rattle.std.specs.Prelude.{ℕ, ◌≡◌, ◌<◌, ◌+◌, ◌++◌, ◌⊎◌, ◌↔◌, Bool, true, List, Option, Some, None, length, map, slice_get}
+use Rattle.std.specs.Prelude.{ℕ, ◌≡◌, ◌+◌, ◌++◌, ◌⊎◌, ◌↔◌, Bool, true, List, Option, Some, None, length, map, slice_get}
 use Rattle.fbl_trace.specs.declared.trace.Mark.{Mark}
 use Rattle.fbl_trace.specs.declared.trace.Mark.TheVariants.{Send}
 use Rattle.fbl_judge.specs.Pasts.{IsRestartPlace}
@@ -8,6 +8,7 @@ use Rattle.fbl_records.specs.declared.overview.Overview.{Overview}
 use Rattle.fbl_runs.specs.Clocks.{StandsAt}
 use Rattle.fbl_runs.specs.Entries.{Logs, log_of}
 use Rattle.fbl_runs.specs.HappenedBefore.{Carries, IsAt, Position, Precedes}
+use Rattle.fbl_runs.specs.Links.{IsMessageOf}
 use Rattle.fbl_runs.specs.Logs.{RunParts}
 use Rattle.fbl_runs.specs.Moments.{Stands, last_cut}
 use Rattle.fbl_runs.specs.declared.causality.Causality.TheVariants.{HappenedBefore}
@@ -39,11 +40,14 @@ pub record AreFirstOf (entries : List Entry) (places firsts : List ℕ) : Type 0
   pub exactly : (place : ℕ) → IsOneOf firsts place ↔ IsFirstOf entries places place
   pub once : (k l place : ℕ) → slice_get firsts k ≡ Some place → slice_get firsts l ≡ Some place → k ≡ l
 
--- it has for each member one of the places at most, where an entry of the member stands; and of the entries at these the one or the other
--- happened before each of the entries at the places
+-- the entry at the place is one of the member
+abbrev pub IsOfMember : List Entry → ℕ → ℕ → Type 0
+IsOfMember entries member place = (i : Position) × StandsAt entries place i × (i.member ≡ member)
+
+-- for each member it has one of the places at most, that of an entry of the member; and before the entry at each of the places, or with it,
+-- happened the entry at one that it has
 pub record AreEarliest (entries : List Entry) (places : List ℕ) (earliest : List (Option ℕ)) : Type 0 where
-  pub each : (member place : ℕ) → slice_get earliest member ≡ Some (Some place)
-      → IsOneOf places place × ((i : Position) × StandsAt entries place i × (i.member ≡ member))
+  pub each : (member place : ℕ) → slice_get earliest member ≡ Some (Some place) → IsOneOf places place × IsOfMember entries member place
   pub all : (place : ℕ) → IsOneOf places place
       → (member : ℕ) × (first : ℕ) × (slice_get earliest member ≡ Some (Some first)) × HappenedBeforeAt entries first place
 
@@ -54,14 +58,18 @@ NoneHappenedBefore entries others place =
 
 -- ---- messages in flight
 
+-- no restart has undone the entry at the end
+abbrev pub StandsAtEnd : Logs → Position → Type 0
+StandsAtEnd logs = Stands logs (last_cut logs)
+
 -- a receipt that stands at the end takes the message of the send
 abbrev pub IsTakenAtEnd : Logs → Position → Type 0
-IsTakenAtEnd logs i = (j : Position) × Carries logs i j × Stands logs (last_cut logs) j
+IsTakenAtEnd logs i = (j : Position) × Carries logs i j × StandsAtEnd logs j
 
 -- the message of the send is in flight at the end: the send stands, and no receipt that stands takes the message
 pub record IsInFlight (logs : Logs) (i : Position) : Type 0 where
   pub send : (from : ℕ) × (ssn : ℕ) × (to : ℕ) × IsAt logs i (Event (Send from ssn to))
-  pub stands : Stands logs (last_cut logs) i
+  pub stands : StandsAtEnd logs i
   pub untaken : ¬ (IsTakenAtEnd logs i)
 
 -- so is that of the send at the place
@@ -74,6 +82,10 @@ CountsInFlight entries ℕ.zero count = count ≡ 0
 CountsInFlight entries (ℕ.suc place) count =
     (IsInFlightFrom entries place × ((before : ℕ) × CountsInFlight entries place before × (count ≡ before + 1)))
     ⊎ (¬ (IsInFlightFrom entries place) × CountsInFlight entries place count)
+
+-- the entry at the first position takes the message, or the control message, of that at the second, and stands at the end
+abbrev pub TakesAtEnd : Logs → Position → Position → Type 0
+TakesAtEnd logs j i = IsMessageOf logs j i × StandsAtEnd logs j
 
 -- at the place of each send it has whether a receipt that stands at the end takes the message
 pub record AreTaken (entries : List Entry) (taken : List Bool) : Type 0 where

@@ -2,14 +2,12 @@
 //! happened before the others, and how many messages are in flight at the end.
 
 ghost use Rattle.std.specs.Prelude.{◌≡◌, ◌<◌, ◌↔◌, ◌++◌, ◌∷◌, [], ℕ, List, Some, true, IfOk, length, slice_get};
-ghost use Rattle.fbl_judge.specs.Pasts.{IsRestartPlace};
-ghost use Rattle.fbl_records.specs.Overviews.{AreEarliest, AreFirstOf, AreTaken, CountsInFlight, IsInFlight, IsOverviewOf, NoneHappenedBefore, said_places};
+ghost use Rattle.fbl_records.specs.Overviews.{AreEarliest, AreFirstOf, AreTaken, TakesAtEnd, CountsInFlight, IsInFlight, IsOverviewOf, NoneHappenedBefore, StandsAtEnd, said_places};
 ghost use Rattle.fbl_records.specs.Texts.{IsChecked};
 ghost use Rattle.fbl_runs.specs.Clocks.{StandsAt};
 ghost use Rattle.fbl_runs.specs.Entries.{log_of};
 ghost use Rattle.fbl_runs.specs.HappenedBefore.{Position};
-ghost use Rattle.fbl_runs.specs.Links.{IsMessageOf, IsPlaceOf};
-ghost use Rattle.fbl_runs.specs.Moments.{Stands, last_cut};
+ghost use Rattle.fbl_runs.specs.Links.{IsPlaceOf};
 ghost use Rattle.fbl_runs.specs.declared.entry.Entry.TheVariants.{Event};
 ghost use Rattle.fbl_trace.specs.declared.trace.Mark.TheVariants.{Send};
 
@@ -90,7 +88,7 @@ fn first_places(
     requires { IsChecked pasts.now checked.now }
     ensures { IfOk result (λ v. AreFirstOf pasts.now.entries (said_places checked.now) v.items) }
 {
-    // the run obeys its rules: of two entries one alone happened before the other
+    // the run obeys its rules: no two entries happened before one another
     let _run = pasts.run();
     let earliest = earliest_said(pasts, checked);
     let mut places = Vec::new(alloc);
@@ -108,20 +106,17 @@ fn first_places(
 fn stands_at_end(pasts: &Pasts<'_>, place: usize) -> bool
     requires { place < length pasts.now.entries }
     ensures { (i : Position) → StandsAt pasts.now.entries place i
-        → (result ≡ true) ↔ Stands (log_of pasts.now.entries) (last_cut (log_of pasts.now.entries)) i }
+        → (result ≡ true) ↔ StandsAtEnd (log_of pasts.now.entries) i }
 {
     let last = pasts.last();
     pasts.stands(place, &last)
 }
 
-/// The place of what brings in a message with the entry at the place, if one comes in and the entry stands at the end.
+/// The place of the send, or of the tell, whose message the entry at the place takes, if it takes one and stands at the end.
 fn taken_by(pasts: &Pasts<'_>, place: usize) -> Option<usize>
     requires { place < length pasts.now.entries }
     ensures { (j : Position) → StandsAt pasts.now.entries place j
-        → IsPlaceOf pasts.now.entries
-        (λ i. IsMessageOf (log_of pasts.now.entries) j i
-        × Stands (log_of pasts.now.entries) (last_cut (log_of pasts.now.entries)) j)
-        result }
+        → IsPlaceOf pasts.now.entries (TakesAtEnd (log_of pasts.now.entries) j) result }
 {
     if stands_at_end(pasts, place) {
         pasts.index().link(place).message

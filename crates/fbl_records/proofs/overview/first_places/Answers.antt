@@ -1,5 +1,5 @@
-use Rattle.fbl_records.proofs.Common.{ℕ, ◌≡◌, ◌∙◌, ◌<◌, ◌≤◌, Some, None, Option, length, arith, ap, sym, false≢true}
-use Rattle.std.proofs.Common.{rules, slice_get}
+use Rattle.fbl_records.proofs.Common.{◌≡◌, ◌∙◌, Some, None, length, arith, sym, false≢true}
+use Rattle.std.proofs.Common.{rules}
 use Rattle.std.proofs.lemmas.Option.{get_or_from_slice_get}
 use Rattle.fbl_judge.proofs.Places.{place_within}
 use Rattle.fbl_records.proofs.OverviewLaws.{chosen_all, chosen_more, chosen_same, none_chosen, some_at}
@@ -31,11 +31,13 @@ loop-first-preserved c =
     elim c.match-first.branch [
       | in-Some+then-is_first+in_ok-push w ↦
           rw (w.places-is, w.in_ok-push.ensures.items)
-          (chosen_more es _ earliest are n _ old w.in-Some.place (some_at earliest n w.in-Some.place w.in-Some.is) (w.is_first.ensures.0 w.if-is_first.true))
-      | in-Some+else-is_first w ↦ rw w.places-is (chosen_same es _ earliest are n _ old (λ place here none.
-          let is : w.in-Some.place ≡ place = (let both : Some w.in-Some.place ≡ Some place = sym w.in-Some.is ∙ get_or_from_slice_get earliest n (Some place) None here in cc) in
-          false≢true (sym w.if-is_first.false ∙ w.is_first.ensures.1 (rw is none))))
-      | in_default w ↦ rw w.places-is (chosen_same es _ earliest are n _ old (λ place here none. w.in_default.not-Some place (get_or_from_slice_get earliest n (Some place) None here)))
+          (chosen_more es _ earliest are n _ old w.in-Some.place (some_at earliest n w.in-Some.place w.in-Some.is, w.is_first.ensures.0 w.if-is_first.true))
+      | in-Some+else-is_first w ↦ rw w.places-is (chosen_same es _ earliest are n _ old (λ place chosen.
+          let both : Some w.in-Some.place ≡ Some place = sym w.in-Some.is ∙ get_or_from_slice_get earliest n (Some place) None chosen.0 in
+          let is : w.in-Some.place ≡ place = cc in
+          false≢true (sym w.if-is_first.false ∙ w.is_first.ensures.1 (rw is chosen.1))))
+      | in_default w ↦ rw w.places-is (chosen_same es _ earliest are n _ old
+          (λ place chosen. w.in_default.not-Some place (get_or_from_slice_get earliest n (Some place) None chosen.0)))
     ]
 
 pub returns : goal.returns
@@ -44,4 +46,5 @@ returns c =
     let earliest = c.earliest_said-earliest.result in
     let size : length earliest ≡ 16 = search rules in
     let end = c.loop-first-test.false in
-    chosen_all es _ earliest c.earliest_said-earliest.ensures c.loop-first.first-index _ c.loop-first.invariant c.args.pasts.now.members c.run-run.ensures.rules.lawful.lawful (omega (arith, size, end))
+    let lawful = c.run-run.ensures.rules.lawful.lawful in
+    chosen_all es _ earliest c.earliest_said-earliest.ensures c.loop-first.first-index _ c.loop-first.invariant _ lawful (omega (arith, size, end))

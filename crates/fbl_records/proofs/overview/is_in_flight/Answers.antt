@@ -1,4 +1,4 @@
-use Rattle.fbl_records.proofs.Common.{List, ◌≡◌, ◌∙◌, Some, sym, true, false≢true}
+use Rattle.fbl_records.proofs.Common.{◌≡◌, ◌∙◌, Some, sym, false≢true}
 use Rattle.std.proofs.Common.{slice_get}
 use Rattle.fbl_judge.proofs.Places.{read_at}
 use Rattle.fbl_records.proofs.InFlightLaws.{in_flight_sent, in_flight_untaken}
@@ -6,7 +6,9 @@ use Rattle.fbl_records.proofs.overview.is_in_flight.Goals as goal
 use Rattle.fbl_records.proofs.overview.is_in_flight.Goals.{After-is_send, then-is_send, else-is_send}
 
 here : (c : After-is_send) → slice_get c.args.pasts.now.entries c.args.place ≡ Some c.index-entries-place.result
-here c = read_at c.args.pasts.now.entries c.entries.result.now c.args.place c.index-entries-place.result c.entries.ensures.entries c.requires.place c.index-entries-place.is
+here c =
+    let es = c.args.pasts.now.entries in
+    read_at es c.entries.result.now c.args.place c.index-entries-place.result c.entries.ensures.entries c.requires.place c.index-entries-place.is
 
 pub returns-then-stands_at_end : goal.returns-then-stands_at_end
 returns-then-stands_at_end c i at_i = elim c.if-is_send.branch [
@@ -23,6 +25,7 @@ returns-else-stands_at_end c i at_i = (
   λ flight. elim c.if-is_send.branch [
     | then-is_send w ↦ w.value-is ∙ (w.stands_at_end.ensures i at_i).1 flight.stands
     | else-is_send w ↦
-        w.value-is ∙ c.is_send.ensures.1 (in_flight_sent c.args.pasts.now.entries c.args.place i at_i c.index-entries-place.result (here (goal.at.returns-else-stands_at_end c).After-is_send) flight)
+        let there = here (goal.at.returns-else-stands_at_end c).After-is_send in
+        w.value-is ∙ c.is_send.ensures.1 (in_flight_sent c.args.pasts.now.entries c.args.place i at_i c.index-entries-place.result there flight)
   ],
 )

@@ -1,4 +1,4 @@
-use Rattle.fbl_records.proofs.Common.{ℕ, ◌≡◌, ◌↔◌, true, subst}
+use Rattle.fbl_records.proofs.Common.{◌≡◌, ◌↔◌, true, subst}
 use Rattle.fbl_runs.specs.Clocks.{cut_of}
 use Rattle.fbl_runs.specs.Entries.{log_of}
 use Rattle.fbl_runs.specs.Moments.{Cut, Stands, last_cut}

@@ -1,4 +1,4 @@
-use Rattle.fbl_records.proofs.Common.{ℕ, ◌≡◌, ◌==◌, ◌<◌, ◌∙◌, false, List, length, arith, sym, eqb-true}
+use Rattle.fbl_records.proofs.Common.{◌≡◌, ◌==◌, ◌<◌, ◌∙◌, false, length, arith, sym, eqb-true}
 use Rattle.std.proofs.Common.{rules, vec_len}
 use Rattle.fbl_trace.proofs.Common.{nat_tests, slice_get_within}
 use Rattle.std.proofs.lemmas.Option.{slice_get-get_or}
@@ -17,8 +17,14 @@ returns c =
     let none : (length restarts == 0) ≡ false = sym c.is_empty.ensures ∙ c.if-is_empty.false in
     let some : 0 < length restarts = grind (arith, nat_tests, none) in
     let here = slice_get-get_or restarts 0 0 some in
-    let unsafe_count : vec_len c.args.checked.now.unsafe_receipts ≡ length c.args.checked.now.unsafe_receipts.items = search rules in
-    let undone_count : vec_len c.args.checked.now.undone_receipts ≡ length c.args.checked.now.undone_receipts.items = search rules in (
+    let checked = c.args.checked.now in
+    let unsafe_count : vec_len checked.unsafe_receipts ≡ length checked.unsafe_receipts.items = search rules in
+    let undone_count : vec_len checked.undone_receipts ≡ length checked.undone_receipts.items = search rules in (
       (_, c.restarts.ensures.each 0 _ here),
-      record { unsafe_receipts = c.len.ensures ∙ unsafe_count; undone_receipts = c.len-2.ensures ∙ undone_count; first = c.in_ok-first_places.ensures; in_flight = c.in_ok-count_in_flight.ensures },
+      record {
+        unsafe_receipts = c.len.ensures ∙ unsafe_count;
+        undone_receipts = c.len-2.ensures ∙ undone_count;
+        first = c.in_ok-first_places.ensures;
+        in_flight = c.in_ok-count_in_flight.ensures;
+      },
     )
