@@ -51,7 +51,8 @@ all_false (suc n) (suc place) b here = all_false n place b here
 
 module _ (entries : List Entry) (n : ℕ) (taken : List Bool) (are : AreTakenBelow entries n taken) where
   -- an entry that takes none, or does not stand
-  pub taken_same : ((j : Position) → StandsAt entries n j → IsPlaceOf entries (TakesAtEnd (log_of entries) j) None) → AreTakenBelow entries (n + 1) taken
+  pub taken_same : ((j : Position) → StandsAt entries n j → IsPlaceOf entries (TakesAtEnd (log_of entries) j) None)
+      → AreTakenBelow entries (n + 1) taken
   taken_same none = record {
     count = are.count;
     each = λ place i b at_i here. (
@@ -110,7 +111,9 @@ module _ (entries : List Entry) (n : ℕ) (taken : List Bool) (are : AreTakenBel
   } where
     carried : (i j : Position) (s : Mark) → IsAt (log_of entries) i (Event s) → IsMessageOf (log_of entries) j i → Carries (log_of entries) i j
     carried i j s at_i (inl carries) = carries
-    carried i j s at_i (inr tells) = (let same : Event s ≡ Tell tells.0 = same_at (log_of entries) i (Event s) (Tell tells.0) at_i tells.1 in absurd cc)
+    carried i j s at_i (inr tells) =
+        let same : Event s ≡ Tell tells.0 = same_at (log_of entries) i (Event s) (Tell tells.0) at_i tells.1 in
+        absurd cc
 
 -- ---- how many are in flight
 

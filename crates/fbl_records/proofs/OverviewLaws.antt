@@ -114,7 +114,8 @@ module _ (entries : List Entry) (places : List ℕ) (old : List (Option ℕ)) (a
     | inl less ↦ subst IsWith (sym (min_comm other place ∙ min-eq_left (omega (arith, less)))) (kept (Some other) place there last own itself
         (λ o same. subst (HappenedBeforeAt entries place) (some_is same) (own_before_at entries number place other own r.1 (omega (arith, less)))))
     | inr more ↦ subst IsWith (sym (min-eq_left (omega (arith, more))))
-        (kept (Some other) other there (r.0.0, At-front places (place ∷ []) r.0.0 other r.0.1) r.1 (own_before_at entries number other place r.1 own more)
+        (kept (Some other) other there (r.0.0, At-front places (place ∷ []) r.0.0 other r.0.1) r.1
+        (own_before_at entries number other place r.1 own more)
         (λ o same. subst (HappenedBeforeAt entries other) (some_is same) (own_before_at entries number other other r.1 r.1 (omega arith))))
   ] where
     r : IsOneOf places other × IsOfMember entries number other

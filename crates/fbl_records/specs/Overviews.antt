@@ -30,7 +30,7 @@ abbrev pub HappenedBeforeAt : List Entry → ℕ → ℕ → Type 0
 HappenedBeforeAt entries first second =
     (i : Position) × (j : Position) × StandsAt entries first i × StandsAt entries second j × Precedes HappenedBefore (log_of entries) i j
 
--- the place is one of these, and of the entries at the others none happened before the entry at it
+-- the place is one of these, and none of the entries at the others happened before the entry at it
 pub record IsFirstOf (entries : List Entry) (places : List ℕ) (place : ℕ) : Type 0 where
   pub one : IsOneOf places place
   pub first : (other : ℕ) → IsOneOf places other → HappenedBeforeAt entries other place → other ≡ place
@@ -40,25 +40,9 @@ pub record AreFirstOf (entries : List Entry) (places firsts : List ℕ) : Type 0
   pub exactly : (place : ℕ) → IsOneOf firsts place ↔ IsFirstOf entries places place
   pub once : (k l place : ℕ) → slice_get firsts k ≡ Some place → slice_get firsts l ≡ Some place → k ≡ l
 
--- the entry at the place is one of the member
-abbrev pub IsOfMember : List Entry → ℕ → ℕ → Type 0
-IsOfMember entries member place = (i : Position) × StandsAt entries place i × (i.member ≡ member)
-
--- for each member it has one of the places at most, that of an entry of the member; and before the entry at each of the places, or with it,
--- happened the entry at one that it has
-pub record AreEarliest (entries : List Entry) (places : List ℕ) (earliest : List (Option ℕ)) : Type 0 where
-  pub each : (member place : ℕ) → slice_get earliest member ≡ Some (Some place) → IsOneOf places place × IsOfMember entries member place
-  pub all : (place : ℕ) → IsOneOf places place
-      → (member : ℕ) × (first : ℕ) × (slice_get earliest member ≡ Some (Some first)) × HappenedBeforeAt entries first place
-
--- of the entries at the other places none happened before the entry at the place
-abbrev pub NoneHappenedBefore : List Entry → List (Option ℕ) → ℕ → Type 0
-NoneHappenedBefore entries others place =
-    (member other : ℕ) → slice_get others member ≡ Some (Some other) → HappenedBeforeAt entries other place → other ≡ place
-
 -- ---- messages in flight
 
--- no restart has undone the entry at the end
+-- at the end the entry stands: no restart undid it
 abbrev pub StandsAtEnd : Logs → Position → Type 0
 StandsAtEnd logs = Stands logs (last_cut logs)
 
@@ -72,26 +56,16 @@ pub record IsInFlight (logs : Logs) (i : Position) : Type 0 where
   pub stands : StandsAtEnd logs i
   pub untaken : ¬ (IsTakenAtEnd logs i)
 
--- so is that of the send at the place
+-- the entry at the place sends such a message
 abbrev pub IsInFlightFrom : List Entry → ℕ → Type 0
 IsInFlightFrom entries place = (i : Position) × StandsAt entries place i × IsInFlight (log_of entries) i
 
--- at so many of the first places stand sends whose messages are in flight
+-- so many of the first entries send such messages
 abbrev pub CountsInFlight : List Entry → ℕ → ℕ → Type 0
 CountsInFlight entries ℕ.zero count = count ≡ 0
 CountsInFlight entries (ℕ.suc place) count =
     (IsInFlightFrom entries place × ((before : ℕ) × CountsInFlight entries place before × (count ≡ before + 1)))
     ⊎ (¬ (IsInFlightFrom entries place) × CountsInFlight entries place count)
-
--- the entry at the first position takes the message, or the control message, of that at the second, and stands at the end
-abbrev pub TakesAtEnd : Logs → Position → Position → Type 0
-TakesAtEnd logs j i = IsMessageOf logs j i × StandsAtEnd logs j
-
--- at the place of each send it has whether a receipt that stands at the end takes the message
-pub record AreTaken (entries : List Entry) (taken : List Bool) : Type 0 where
-  pub count : length taken ≡ length entries
-  pub each : (place : ℕ) (i : Position) (s : Mark) (is_taken : Bool) → StandsAt entries place i → slice_get entries place ≡ Some (Event s)
-      → slice_get taken place ≡ Some is_taken → (is_taken ≡ true) ↔ IsTakenAtEnd (log_of entries) i
 
 -- ---- the overview
 
@@ -107,3 +81,31 @@ pub record IsOverview (run : RunParts) (checked : Checked) (overview : Overview)
 abbrev pub IsOverviewOf : RunParts → Checked → Option Overview → Type 0
 IsOverviewOf run checked None = (place : ℕ) → ¬ (IsRestartPlace run.entries place)
 IsOverviewOf run checked (Some overview) = ((place : ℕ) × IsRestartPlace run.entries place) × IsOverview run checked overview
+
+-- ---- how these are found
+
+-- the entry at the place is one of the member
+abbrev pub IsOfMember : List Entry → ℕ → ℕ → Type 0
+IsOfMember entries member place = (i : Position) × StandsAt entries place i × (i.member ≡ member)
+
+-- for each member it has one of the places at most, that of an entry of the member; and before the entry at each of the places, or with it,
+-- happened the entry at one that it has
+pub record AreEarliest (entries : List Entry) (places : List ℕ) (earliest : List (Option ℕ)) : Type 0 where
+  pub each : (member place : ℕ) → slice_get earliest member ≡ Some (Some place) → IsOneOf places place × IsOfMember entries member place
+  pub all : (place : ℕ) → IsOneOf places place
+      → (member : ℕ) × (first : ℕ) × (slice_get earliest member ≡ Some (Some first)) × HappenedBeforeAt entries first place
+
+-- none of the entries at the other places happened before the entry at the place
+abbrev pub NoneHappenedBefore : List Entry → List (Option ℕ) → ℕ → Type 0
+NoneHappenedBefore entries others place =
+    (member other : ℕ) → slice_get others member ≡ Some (Some other) → HappenedBeforeAt entries other place → other ≡ place
+
+-- the entry at the first position takes the message, or the control message, of that at the second, and stands at the end
+abbrev pub TakesAtEnd : Logs → Position → Position → Type 0
+TakesAtEnd logs j i = IsMessageOf logs j i × StandsAtEnd logs j
+
+-- at the place of each send it has whether a receipt that stands at the end takes the message
+pub record AreTaken (entries : List Entry) (taken : List Bool) : Type 0 where
+  pub count : length taken ≡ length entries
+  pub each : (place : ℕ) (i : Position) (s : Mark) (is_taken : Bool) → StandsAt entries place i → slice_get entries place ≡ Some (Event s)
+      → slice_get taken place ≡ Some is_taken → (is_taken ≡ true) ↔ IsTakenAtEnd (log_of entries) i

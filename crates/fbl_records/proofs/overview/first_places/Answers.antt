@@ -30,8 +30,9 @@ loop-first-preserved c =
     let old = c.loop-first.invariant in
     elim c.match-first.branch [
       | in-Some+then-is_first+in_ok-push w ↦
+          let place = w.in-Some.place in
           rw (w.places-is, w.in_ok-push.ensures.items)
-          (chosen_more es _ earliest are n _ old w.in-Some.place (some_at earliest n w.in-Some.place w.in-Some.is, w.is_first.ensures.0 w.if-is_first.true))
+          (chosen_more es _ earliest are n _ old place (some_at earliest n place w.in-Some.is, w.is_first.ensures.0 w.if-is_first.true))
       | in-Some+else-is_first w ↦ rw w.places-is (chosen_same es _ earliest are n _ old (λ place chosen.
           let both : Some w.in-Some.place ≡ Some place = sym w.in-Some.is ∙ get_or_from_slice_get earliest n (Some place) None chosen.0 in
           let is : w.in-Some.place ≡ place = cc in

@@ -22,7 +22,8 @@ loop-place-init c =
     let es = c.args.pasts.now.entries in
     let n = length c.entries-count.result.now in
     let items : c.in_ok-taken.taken.items ≡ replicate n false = c.in_ok-taken.ensures.items_if_clones_equal (λ y same. same) in
-    let count = ap (λ (bs : List Bool). length bs) items ∙ length-replicate n false ∙ ap (λ (es : List Entry). length es) c.entries-count.ensures.entries in
+    let same = ap (λ (es : List Entry). length es) c.entries-count.ensures.entries in
+    let count = ap (λ (bs : List Bool). length bs) items ∙ length-replicate n false ∙ same in
     none_taken es c.in_ok-taken.taken.items count
     (λ place b here. all_false n place b (ap (λ (bs : List Bool). slice_get bs place) (sym items) ∙ here))
 
