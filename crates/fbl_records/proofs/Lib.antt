@@ -8,6 +8,8 @@ pub mod LogValues
 pub mod Cuts
 pub mod ForgottenLaws
 pub mod UndoneLaws
+pub mod OverviewLaws
+pub mod InFlightLaws
 pub mod Sayings
 pub mod Zips
 pub mod Merges

@@ -8,4 +8,5 @@ pub mod Texts
 pub mod Merges
 pub mod Forgotten
 pub mod UndoneReasons
+pub mod Overviews
 pub mod RunExplanations

@@ -42,7 +42,7 @@ impl<'a> RunExplanation<'a> {
         lost: &[LostReceipt],
     ) -> Result<RunExplanation<'a>, AllocError>
         requires { AreNamed pasts.now lost.now }
-        ensures { IfOk result (ExplainsLosses pasts.now lost.now) }
+        ensures { IfOk result (ExplainsLosses pasts.now sources.now lost.now) }
     {
         let reasons = loss_reasons(alloc, pasts, lost)?;
         let forgotten = all_forgotten(alloc, pasts, reasons.as_slice())?;
@@ -64,7 +64,7 @@ impl<'a> RunExplanation<'a> {
         checked: &Checked,
     ) -> Result<RunExplanation<'a>, AllocError>
         requires { IsChecked pasts.now checked.now }
-        ensures { IfOk result (ExplainsCheck pasts.now checked.now) }
+        ensures { IfOk result (ExplainsCheck pasts.now sources.now checked.now) }
     {
         let reasons = unsafe_reasons(alloc, pasts, checked.unsafe_receipts.as_slice())?;
         let forgotten = all_forgotten(alloc, pasts, reasons.as_slice())?;
