@@ -194,14 +194,14 @@ impl Overview {
 
 /// An overview in a line.
 #[derive(Clone, Copy)]
-pub(crate) struct Told<'a> {
+pub(crate) struct OverviewLine<'a> {
     pub overview: &'a Overview,
     pub run: &'a Run,
     /// Where its entries stand.
     pub sources: Sources<'a>,
 }
 
-impl Told<'_> {
+impl OverviewLine<'_> {
     /// Writes of which of several receipts none happened before, as `; none of them happened before receipt 1 of member 1, at 4`.
     fn write_first<W: fmt::Write>(&self, f: &mut fmt::Formatter<W>) -> fmt::Result {
         let mut before = "; none of them happened before";
@@ -220,7 +220,7 @@ impl Told<'_> {
     }
 }
 
-impl fmt::Display for Told<'_> {
+impl fmt::Display for OverviewLine<'_> {
     fn fmt<W: fmt::Write>(&self, f: &mut fmt::Formatter<W>) -> fmt::Result {
         let unsafe_receipts = self.overview.unsafe_receipts;
         let undone_receipts = self.overview.undone_receipts;

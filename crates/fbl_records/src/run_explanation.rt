@@ -7,7 +7,7 @@ ghost use Rattle.fbl_records.specs.Texts.{IsChecked};
 
 use crate::check_text::Checked;
 use crate::forgotten::{Forgotten, all_forgotten};
-use crate::overview::{Overview, Told};
+use crate::overview::{Overview, OverviewLine};
 use crate::reason_text::Why;
 use crate::undone_text::{UndoneReason, WhyUndone, undone_reasons};
 use fbl_input::Sources;
@@ -83,7 +83,7 @@ impl fmt::Display for RunExplanation<'_> {
     fn fmt<W: fmt::Write>(&self, f: &mut fmt::Formatter<W>) -> fmt::Result {
         let (run, sources) = (self.run, self.sources);
         if let Some(overview) = &self.overview {
-            Told {
+            OverviewLine {
                 overview,
                 run,
                 sources,

@@ -63,6 +63,7 @@ loop-place-preserved c =
 
 pub returns : goal.returns
 returns c =
-    let end : c.loop-place.place ≡ length c.args.entries.now = (let most = c.loop-place.auto.place-end in let past = c.loop-place-test.false in omega (arith, most, past)) in
-    (all_links c.args.entries.now c.loop-place.place c.loop-place.lives c.loop-place.links.links.items end c.loop-place.invariant,
-    all_lived c.args.entries.now c.loop-place.place c.loop-place.lives c.loop-place.links.links.items end c.loop-place.invariant)
+    let end : c.loop-place.place ≡ length c.args.entries.now = (let most = c.loop-place.auto.place-end in let past = c.loop-place-test.false in omega (arith, most, past)) in (
+      all_links c.args.entries.now c.loop-place.place c.loop-place.lives c.loop-place.links.links.items end c.loop-place.invariant,
+      all_lived c.args.entries.now c.loop-place.place c.loop-place.lives c.loop-place.links.links.items end c.loop-place.invariant,
+    )
