@@ -7,6 +7,7 @@ pub mod PastLaws
 pub mod LifeLaws
 pub mod ViewLaws
 pub mod UnsafeLaws
+pub mod StrikeLaws
 pub mod OrderLaws
 pub mod LeastMoments
 pub mod Untold

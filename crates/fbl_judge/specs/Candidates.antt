@@ -111,6 +111,17 @@ IsBefore first other =
     IsFewer first.strike other.strike
     ⊎ ((first.strike ≡ other.strike) × ((first.orphan < other.orphan) ⊎ ((first.orphan ≡ other.orphan) × HasFewer first.restarts other.restarts)))
 
+-- each of the receipt's candidates with just these restarts has the members struck
+abbrev pub AreStruckInAll : Run → Position → Determinant → Cut → Members → Type 0
+AreStruckInAll run i d base least =
+    (q : ℕ) (cut : Cut) (members : Members) → SameRestarts run.logs base cut → IsCandidate run i d q cut members
+    → (r : ℕ) → set.contains least r ≡ true → set.contains members r ≡ true
+
+-- it is a candidate, and those are all that it has struck
+abbrev pub IsStruckWithin : Members → Option Candidate → Type 0
+IsStruckWithin least None = ⊥
+IsStruckWithin least (Some candidate) = (r : ℕ) → set.contains candidate.strike r ≡ true → set.contains least r ≡ true
+
 -- of two the result is the one that comes first
 abbrev pub IsFirstOf : Option Candidate → Option Candidate → Option Candidate → Type 0
 IsFirstOf None next result = result ≡ next

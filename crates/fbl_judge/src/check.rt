@@ -1,13 +1,13 @@
 //! Which receipts of a run are unsafe where it is judged.
 
-ghost use Rattle.std.specs.Prelude.{◌≡◌, ◌↔◌, ◌<◌, ◌≤◌, ◌⊎◌, ℕ, true, false, [], IfOk, MatchOption, length};
+ghost use Rattle.std.specs.Prelude.{◌≡◌, ◌↔◌, ◌<◌, ◌≤◌, ◌⊎◌, ℕ, true, false, [], IfOk, IfSome, MatchOption, length};
 ghost use Rattle.std.specs.FinSet as set;
 ghost use Rattle.fbl_runs.specs.Clocks.{StandsAt, cut_of};
 ghost use Rattle.fbl_runs.specs.Entries.{log_of};
 ghost use Rattle.fbl_runs.specs.HappenedBefore.{Position};
 ghost use Rattle.fbl_runs.specs.Logs.{IsRun, run_of};
 ghost use Rattle.fbl_runs.specs.Runs.{IsSafe};
-ghost use Rattle.fbl_judge.specs.Candidates.{HasFewer, IsAlike, IsAny, IsBefore, IsFirstAmong, IsFirstOf, IsLeastIn, IsLeastOut, IsLeastUnlike, IsOfLesser, IsOfMember, IsReceiptHere, IsSaidAtEnd, IsSaidFirst, IsUnsafeAtEnd, IsWithin, NoneDepends};
+ghost use Rattle.fbl_judge.specs.Candidates.{AreStruckInAll, HasFewer, IsAlike, IsAny, IsBefore, IsFirstAmong, IsFirstOf, IsLeastIn, IsLeastOut, IsLeastUnlike, IsOfLesser, IsOfMember, IsReceiptHere, IsSaidAtEnd, IsSaidFirst, IsStruckWithin, IsUnsafeAtEnd, IsWithin, NoneDepends};
 ghost use Rattle.fbl_judge.specs.Unsafe.{IsFewer, IsFirstUnsafe, IsLeastStrike, IsLeftOrphanAt, IsSaidOf, IsUnsafe, ListsFirst, SaysUnsafe};
 ghost use Rattle.fbl_judge.specs.Views.{IsView};
 
@@ -159,8 +159,9 @@ fn candidate_of(
     requires run { IsRun pasts.now }
     requires view { IsView (log_of pasts.now.entries) view.now }
     requires receipt { IsReceiptHere pasts.now.entries place determinant.now }
-    ensures { (i : Position) → StandsAt pasts.now.entries place i
+    ensures first { (i : Position) → StandsAt pasts.now.entries place i
         → IsFirstAmong (run_of pasts.now) i determinant.now (IsOfMember (log_of pasts.now.entries) (cut_of view.now.base) member) result }
+    ensures orphan { IfSome result (λ candidate. candidate.orphan ≡ member) }
 {
     let moment = least_dependent(pasts, view, place, member)?;
     if !pasts.stands(place, &moment) {
@@ -262,7 +263,48 @@ fn replaces(next: &Option<Candidate>, first: &Option<Candidate>) -> bool
     }
 }
 
-/// Of the receipt's candidates with the view's restarts the one that comes first.
+/// Whether it is a candidate with none but these members struck.
+fn is_struck_within(candidate: &Option<Candidate>, least: MemberSet) -> bool
+    ensures { result ≡ true → IsStruckWithin least candidate.now }
+{
+    match candidate {
+        Some(candidate) => candidate.strike.without(least).is_empty(),
+        None => false,
+    }
+}
+
+/// Of the receipt's candidates with the view's restarts, each of which has these members struck, the one that comes first. Where one has
+/// no others struck, no member behind its orphan has one that comes before it.
+fn first_struck(
+    pasts: &Pasts<'_>,
+    view: &View,
+    place: usize,
+    determinant: &Determinant,
+    least: MemberSet,
+) -> Option<Candidate>
+    requires run { IsRun pasts.now }
+    requires view { IsView (log_of pasts.now.entries) view.now }
+    requires receipt { IsReceiptHere pasts.now.entries place determinant.now }
+    requires least { (i : Position) → StandsAt pasts.now.entries place i
+        → AreStruckInAll (run_of pasts.now) i determinant.now (cut_of view.now.base) least }
+    ensures { (i : Position) → StandsAt pasts.now.entries place i
+        → IsFirstAmong (run_of pasts.now) i determinant.now (IsOfLesser (log_of pasts.now.entries) (cut_of view.now.base) 16) result }
+{
+    let mut first = None;
+    for number in 0..16u8 {
+        let next = candidate_of(pasts, view, place, determinant, Member::at(number));
+        if replaces(&next, &first) {
+            first = next;
+        }
+        if is_struck_within(&first, least) {
+            return first;
+        }
+    }
+    first
+}
+
+/// Of the receipt's candidates with the view's restarts the one that comes first. At each of their moments has come the least one at which
+/// its receiver depends on it, and who holds it there holds it at theirs.
 fn first_in_view(
     pasts: &Pasts<'_>,
     view: &View,
@@ -275,14 +317,10 @@ fn first_in_view(
     ensures { (i : Position) → StandsAt pasts.now.entries place i
         → IsFirstAmong (run_of pasts.now) i determinant.now (IsOfLesser (log_of pasts.now.entries) (cut_of view.now.base) 16) result }
 {
-    let mut first = None;
-    for number in 0..16u8 {
-        let next = candidate_of(pasts, view, place, determinant, Member::at(number));
-        if replaces(&next, &first) {
-            first = next;
-        }
-    }
-    first
+    let receiver = pasts.entries()[place].member();
+    let moment = least_dependent(pasts, view, place, receiver)?;
+    let least = least_strike(pasts, determinant, &moment)?;
+    first_struck(pasts, view, place, determinant, least)
 }
 
 /// Of the receipt's candidates the one that comes first.

@@ -4,8 +4,8 @@ use Rattle.fbl_judge.proofs.DependLaws.{receipt_at}
 use Rattle.fbl_judge.proofs.UnsafeLaws.{none_if_many, none_if_none, none_if_struck, none_if_undone, one_if_left}
 use Rattle.fbl_judge.proofs.check.candidate_of.Goals as goal
 
-pub returns-in_err-moment : goal.returns-in_err-moment
-returns-in_err-moment c i stands =
+pub returns-in_err-moment-clause-first : goal.returns-in_err-moment-clause-first
+returns-in_err-moment-clause-first c i stands =
     let run = c.args.pasts.now in
     let d = c.args.determinant.now in
     let receipt = receipt_at run.entries c.args.place d i c.requires.receipt stands in
@@ -14,8 +14,8 @@ returns-in_err-moment c i stands =
 pub stands-requires : goal.stands-requires
 stands-requires c = slice_get_within c.args.pasts.now.entries c.args.place c.requires.receipt.0 c.requires.receipt.1
 
-pub returns-then-not-stands : goal.returns-then-not-stands
-returns-then-not-stands c i stands =
+pub returns-then-not-stands-clause-first : goal.returns-then-not-stands-clause-first
+returns-then-not-stands-clause-first c i stands =
     let run = c.args.pasts.now in
     let d = c.args.determinant.now in
     let receipt = receipt_at run.entries c.args.place d i c.requires.receipt stands in
@@ -23,23 +23,23 @@ returns-then-not-stands c i stands =
     none_if_undone run c.requires.run.lawful c.requires.run.strike i d receipt c.args.member (cut_of c.args.view.now.base) (cut_of c.in_ok-moment.moment) (c.in_ok-moment.ensures i stands)
     (λ s. false≢true (sym undone ∙ (c.stands.ensures i stands).1 s))
 
-pub returns-in_err-strike : goal.returns-in_err-strike
-returns-in_err-strike c i stands =
+pub returns-in_err-strike-clause-first : goal.returns-in_err-strike-clause-first
+returns-in_err-strike-clause-first c i stands =
     let run = c.args.pasts.now in
     let d = c.args.determinant.now in
     let receipt = receipt_at run.entries c.args.place d i c.requires.receipt stands in
     rw c.from_residual-in_err-strike.ensures (none_if_many run c.requires.run.lawful c.requires.run.strike i d receipt c.args.member (cut_of c.args.view.now.base) (cut_of c.in_ok-moment.moment) (c.in_ok-moment.ensures i stands) c.in_err-strike.ensures)
 
-pub returns-then-has : goal.returns-then-has
-returns-then-has c i stands =
+pub returns-then-has-clause-first : goal.returns-then-has-clause-first
+returns-then-has-clause-first c i stands =
     let run = c.args.pasts.now in
     let d = c.args.determinant.now in
     let receipt = receipt_at run.entries c.args.place d i c.requires.receipt stands in
     none_if_struck run c.requires.run.lawful c.requires.run.strike i d receipt c.args.member (cut_of c.args.view.now.base) (cut_of c.in_ok-moment.moment) (c.in_ok-moment.ensures i stands)
     c.in_ok-strike.strike c.in_ok-strike.ensures (sym c.has.ensures ∙ c.if-has.true)
 
-pub returns : goal.returns
-returns c i stands =
+pub returns-clause-first : goal.returns-clause-first
+returns-clause-first c i stands =
     let run = c.args.pasts.now in
     let d = c.args.determinant.now in
     let receipt = receipt_at run.entries c.args.place d i c.requires.receipt stands in

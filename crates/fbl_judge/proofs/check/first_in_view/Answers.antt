@@ -1,35 +1,37 @@
-use Rattle.fbl_judge.proofs.Common.{Option, arith, cases_lt, inl, inr, log_of, ◌+◌}
+use Rattle.fbl_judge.proofs.Common.{slice_get_within, sym, ◌≡◌, ◌∙◌, Position, StandsAt}
 use Rattle.fbl_runs.specs.Clocks.{cut_of}
-use Rattle.fbl_runs.specs.Logs.{run_of}
-use Rattle.fbl_judge.specs.declared.check.Candidate.{Candidate}
-use Rattle.fbl_judge.specs.Candidates.{IsFirstAmong, IsFirstOf, IsOfLesser, IsOfMember}
 use Rattle.fbl_judge.proofs.DependLaws.{receipt_at}
-use Rattle.fbl_judge.proofs.UnsafeLaws.{first_of_two, first_wider}
+use Rattle.fbl_judge.proofs.Places.{member_is, read_at}
+use Rattle.fbl_judge.proofs.StrikeLaws.{none_if_lost_nowhere, none_if_nowhere, struck_in_all}
 use Rattle.fbl_judge.proofs.check.first_in_view.Goals as goal
-use Rattle.fbl_judge.proofs.check.first_in_view.Goals.{then-replaces, else-replaces}
+use Rattle.fbl_judge.proofs.check.first_in_view.Goals.{After-member-receiver}
 
-pub loop-number-preserved : goal.loop-number-preserved
-loop-number-preserved c i stands =
+-- the receipt is of the receiver
+own : (c : After-member-receiver) (i : Position) → StandsAt c.args.pasts.now.entries c.args.place i → i.member ≡ c.member-receiver.result
+own c i stands =
+    let es = c.args.pasts.now.entries in
+    let within = slice_get_within es c.args.place c.requires.receipt.0 c.requires.receipt.1 in
+    let here = read_at es c.entries.result.now c.args.place c.index-entries-place.result c.entries.ensures.entries within c.index-entries-place.is in
+    sym (member_is es c.args.place c.index-entries-place.result i here stands) ∙ sym c.member-receiver.ensures
+
+pub returns-in_err-moment : goal.returns-in_err-moment
+returns-in_err-moment c i stands =
     let run = c.args.pasts.now in
     let d = c.args.determinant.now in
-    let logs = log_of run.entries in
-    let base = cut_of c.args.view.now.base in
-    let member = c.at.ensures in
-    let first : (r : Option Candidate) → IsFirstOf c.loop-number.first c.candidate_of-next.result r → IsFirstAmong (run_of run) i d (IsOfLesser logs base (c.loop-number.number + 1)) r =
-    λ r is. first_of_two run c.requires.run.lawful c.requires.run.strike i d (receipt_at run.entries c.args.place d i c.requires.receipt stands)
-    (IsOfLesser logs base c.loop-number.number) (IsOfMember logs base c.at.result) (IsOfLesser logs base (c.loop-number.number + 1))
-    (λ q cut is. elim (cases_lt q c.loop-number.number) [ inl less ↦ inl (less, is.1) | inr last ↦ inr ((let below = is.0 in omega (arith, below, last, member)), is.1) ])
-    c.loop-number.first c.candidate_of-next.result r (c.loop-number.invariant i stands) (c.candidate_of-next.ensures i stands) is in
-    elim c.if-replaces.branch [
-      | then-replaces w ↦ rw w.first-is (first c.candidate_of-next.result (c.replaces.ensures.yes w.if-replaces.true))
-      | else-replaces w ↦ rw w.first-is (first c.loop-number.first (c.replaces.ensures.no w.if-replaces.false))
-    ]
+    rw c.from_residual.ensures (none_if_nowhere run c.requires.run.lawful c.requires.run.strike i d (receipt_at run.entries c.args.place d i c.requires.receipt stands)
+    (cut_of c.args.view.now.base) c.member-receiver.result (own (goal.at.returns-in_err-moment c).After-member-receiver i stands) (c.in_err-moment.ensures i stands))
 
-pub returns : goal.returns
-returns c i stands =
+pub returns-in_err-least : goal.returns-in_err-least
+returns-in_err-least c i stands =
     let run = c.args.pasts.now in
     let d = c.args.determinant.now in
-    let logs = log_of run.entries in
-    let base = cut_of c.args.view.now.base in
-    first_wider run c.requires.run.lawful c.requires.run.strike i d (receipt_at run.entries c.args.place d i c.requires.receipt stands)
-    (IsOfLesser logs base c.loop-number.number) (IsOfLesser logs base 16) (λ q cut members is candidate. ((let below = is.0 in let t = c.loop-number-test.false in omega (arith, below, t)), is.1)) c.loop-number.first (c.loop-number.invariant i stands)
+    rw c.from_residual-in_err-least.ensures (none_if_lost_nowhere run c.requires.run.lawful c.requires.run.strike i d (receipt_at run.entries c.args.place d i c.requires.receipt stands)
+    (cut_of c.args.view.now.base) c.member-receiver.result (own (goal.at.returns-in_err-least c).After-member-receiver i stands) (cut_of c.in_ok-moment.moment) (c.in_ok-moment.ensures i stands) c.in_err-least.ensures)
+
+pub first_struck-requires-clause-least : goal.first_struck-requires-clause-least
+first_struck-requires-clause-least c i stands =
+    let run = c.args.pasts.now in
+    let d = c.args.determinant.now in
+    struck_in_all run c.requires.run.lawful c.requires.run.strike i d (receipt_at run.entries c.args.place d i c.requires.receipt stands)
+    (cut_of c.args.view.now.base) c.member-receiver.result (own (goal.at.first_struck-requires-clause-least c).After-member-receiver i stands) (cut_of c.in_ok-moment.moment) (c.in_ok-moment.ensures i stands)
+    c.in_ok-least.least c.in_ok-least.ensures
