@@ -273,8 +273,8 @@ fn is_struck_within(candidate: &Option<Candidate>, least: MemberSet) -> bool
     }
 }
 
-/// Of the receipt's candidates with the view's restarts, each of which has these members struck, the one that comes first. Where one has
-/// no others struck, no member behind its orphan has one that comes before it.
+/// Of the receipt's candidates with the view's restarts, each of which has these members struck, the one that comes first. Behind one with
+/// no others struck none comes before it.
 fn first_struck(
     pasts: &Pasts<'_>,
     view: &View,
@@ -388,10 +388,10 @@ fn unsafe_receipt(
 /// strike set are lost already, so the question is of all sets that have these and at most `f` members, or as many as are struck.
 ///
 /// Of a run that is judged at each moment it looks, for each receipt, each set of restarts that some moment has, and each member that
-/// depends on the receipt there, at one moment, the least at which the member does; each receipt is said at the one where the fewest
-/// members are struck, then at the one whose list of members comes first, then at that of the least member, then where the fewest restarts
-/// have come. So the time taken is that of the entries times the square of the members and the sets of restarts, but for a logarithm. `Err`
-/// comes only where there is no memory for the answer.
+/// depends on the receipt there, at one moment, the least at which the member does, but at none of the members behind one where no more are
+/// struck than at each; each receipt is said at the one where the fewest members are struck, then at the one whose list of members comes
+/// first, then at that of the least member, then where the fewest restarts have come. So the time taken is at most that of the entries times
+/// the square of the members and the sets of restarts, but for a logarithm. `Err` comes only where there is no memory for the answer.
 pub fn unsafe_receipts(alloc: Global, pasts: &Pasts<'_>) -> Result<Vec<UnsafeReceipt>, AllocError>
     ensures said { IfOk result (λ v. SaysUnsafe pasts.now 0 pasts.now.entries v.items) }
     ensures safe { IfOk result (λ v. (v.items ≡ []) ↔ IsSafe (run_of pasts.now)) }
