@@ -113,11 +113,6 @@ module _ (n : ℕ) (entries : List Entry) (obeys : WellFormed n (marks entries))
             (carries.1, v, at_v, refl, omega arith, base.step path (earlier_sent v carries.0 carries.1 at_v carries.6, inr carries.6))
       ]
 
-  -- so one between events is one between them
-  pub marks_precede : {i j : Position} (a b : Mark) → IsAt (log_of entries) i (Event a) → IsAt (log_of entries) j (Event b) → Precedes Dependence (log_of entries) i j → base.Precedes t a b
-  unfolding LastEvent
-  marks_precede {i} {j} a b at_i at_j p = (let r = to_marks a at_i p in to_later a j b at_j r.0 r.1 r.2 r.3 r.4 r.5)
-
   -- where an event of the list stands in its member's log
   position_of : (p : ℕ) (a : Mark) → slice_get entries p ≡ Some (Event a) → IsAt (log_of entries) (at (member_of a) (seen entries p (member_of a))) (Event a)
   position_of p a here = placed entries p (Event a) (member_of a) here refl

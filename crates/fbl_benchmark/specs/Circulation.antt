@@ -1,5 +1,5 @@
 -- What the benchmark's behaviours do that never end.
-use Rattle.std.specs.Prelude.{ℕ, ◌+◌, ◌*◌, ◌%◌, ◌<◌, ◌≤◌}
+use Rattle.std.specs.Prelude.{ℕ, ◌+◌, ◌*◌, ◌%◌}
 use Rattle.std.proofs.Common.{zero, suc}
 use Rattle.fbl_trace.specs.Steps.{Next, SendsWell, numbered_from_0, relay_step, relay_sends_allowed, modulus}
 use Rattle.fbl_trace.specs.Numeric.{IsNumeric, by_sends}

@@ -12,4 +12,3 @@ pub use Rattle.fbl_channels.specs.declared.channels.Channels.{Channels}
 pub use Rattle.fbl_law.proofs.Common.{IsConfig, IsOnce-none, Settings, StartAllowed, between, filter-append, filter_map, filter_map-append, get_or_past, is_on, message_of_send, slice_get-get_or, start_events}
 pub use Rattle.fbl_trace.specs.declared.trace.Start.{Start}
 pub use Rattle.fbl_trace.proofs.Common.{length-replicate}
-pub use Rattle.fbl_member.proofs.Common.{rules}

@@ -1,7 +1,7 @@
 -- Which determinants a trace has, and whose its events are.
-use Rattle.fbl_dumps.proofs.Common.{ℕ, ◌≡◌, Bool, ◌&&◌, ◌||◌, refl, Decides, arith, nat_tests, Any-from_list_any, list_any-from_Any, Determinant, and_parts, Parts}
+use Rattle.fbl_dumps.proofs.Common.{ℕ, ◌≡◌, ◌||◌, refl, Decides, Any-from_list_any, list_any-from_Any, Determinant}
 use Rattle.fbl_dumps.proofs.Common.{same_determinant, ◌+◌, ◌<◌, true, List, [], ◌∷◌, length, take, get_or, Some, ap, ◌∙◌, list_any, cons_option, take_more, list_any-append}
-use Rattle.fbl_dumps.proofs.Common.{filter_map-append, get_or_from_slice_get, Mark, determinant_of, Has, is_received, slice_get-get_or, receipt_of, receipts, ◌==◌, ◌↔◌, map}
+use Rattle.fbl_dumps.proofs.Common.{filter_map-append, get_or_from_slice_get, Mark, determinant_of, Has, is_received, slice_get-get_or, receipt_of, receipts}
 use Rattle.fbl_dumps.proofs.Common.{At, WellFormed, member_of, Send, Receipt}
 use Rattle.fbl_trace.proofs.Gets.{At-below, At-filter_map, filter_map-At}
 use Rattle.fbl_trace.proofs.RulesLaws.{Decides-same_determinant, is_receipt}

@@ -1,13 +1,13 @@
-pub use Rattle.std.proofs.Common.{All, Bool, Fits, IfSome, List, None, Option, Some, [], add-one, ap, append-nil, append_assoc, arith, cond, count_by, deque_items, drop, drop_of_length-le, false, get_or, inl, inr, length, length-append, map, nat_lt, not, refl, replicate, rules, slice_get, slice_index_or, slice_set, subst, suc, sum_by, sym, take, true, vec_capacity, vec_len, w32, w64, zero, ℕ, ◌*◌, ◌++◌, ◌+◌}
+pub use Rattle.std.proofs.Common.{All, Bool, Fits, IfSome, List, None, Option, Some, [], add-one, ap, append-nil, append_assoc, arith, cond, count_by, deque_items, drop, drop_of_length-le, false, get_or, inl, inr, length, length-append, map, nat_lt, not, refl, rules, slice_get, slice_index_or, slice_set, subst, suc, sum_by, sym, take, true, vec_capacity, vec_len, w32, w64, zero, ℕ, ◌*◌, ◌++◌, ◌+◌}
 pub use Rattle.fbl_trace.proofs.Common.{◌-◌, ◌<◌, ◌==◌, ◌^◌, ◌||◌, ◌↔◌, ◌∙◌, ◌∷◌, ◌≡◌, ◌≢◌, ◌≤◌, ◌⊎◌, common_steps, nat_cmp_total, unsigned_tied, eq_by_cmp, nat_cmp}
 pub use Rattle.std.proofs.lemmas.Bool.{false≢true, true_from_ne_false}
-pub use Rattle.fbl_law.proofs.Common.{nat_tests, filter-append, filter_map-append, Any-from_list_any, list_any-from_Any, get_or_from_slice_get, slice_get-get_or, filter, filter_map, list_any, after_notes-state, eqb-self}
-pub use Rattle.fbl_law.proofs.Common.{length-filter_map, length-left, IsConfig, Settings, StartAllowed, determinant_of, mark_of, receipt_of, Next, step_events, AllBelow, Members, Has, itself, in_flight, sent_on}
-pub use Rattle.fbl_law.proofs.Common.{taken_on, pairs_from, pairs_of, IsCheckpoint, IsDelivery, IsRecovery, IsStrike, delivery_events, message_of_send, start_events, step_of, between, gathered_all, is_on, recovery_table}
+pub use Rattle.fbl_law.proofs.Common.{nat_tests, filter-append, Any-from_list_any, list_any-from_Any, get_or_from_slice_get, filter, filter_map, list_any, after_notes-state, eqb-self}
+pub use Rattle.fbl_law.proofs.Common.{length-filter_map, length-left, Settings, determinant_of, mark_of, receipt_of, Next, step_events, AllBelow, Members, Has, itself, in_flight, sent_on}
+pub use Rattle.fbl_law.proofs.Common.{taken_on, pairs_from, pairs_of, IsCheckpoint, IsDelivery, IsRecovery, IsStrike, delivery_events, step_of, between, gathered_all, is_on, recovery_table}
 pub use Rattle.fbl_law.proofs.Common.{saved_tables, taken_off, IsRebuilt, IsReplaying, is_replayed, recovered_trace, replayed_in, resent, resent_to, sent_again, stays_by, working, IsDown, IsInFlight, IsUp, send_mark}
 pub use Rattle.fbl_law.proofs.Common.{table, IsOnce, found, piggybacked}
 pub use Rattle.std.proofs.lemmas.Fn.{filter_same}
-pub use Rattle.std.proofs.lemmas.List.{at_drop_more, get_or-replicate, get_or-set_other, get_or-set_same, get_or_default, get_or_past, length-map, length-replicate, length-set, map-append, set-get_or, length-take, map_more, take_all}
+pub use Rattle.std.proofs.lemmas.List.{at_drop_more, get_or-set_other, get_or-set_same, get_or_default, get_or_past, length-map, length-set, map-append, set-get_or, length-take, map_more, take_all}
 pub use Rattle.std.proofs.lemmas.List.Sums.{AllPass-from_list_all, count_by_more_no, count_by_more_yes, fold-append, list_all-from_AllPass, sum_by-cons, count_by-le-length}
 pub use Rattle.std.specs.FinSet.{contains, empty_of_len, len-empty}
 pub use Rattle.fbl_dumps.specs.Losses.{IsDumpOrphan}
@@ -19,7 +19,6 @@ pub use Rattle.fbl_trace.specs.declared.trace.Event.{Event}
 pub use Rattle.fbl_trace.specs.declared.trace.Event.TheVariants.{Receipt}
 pub use Rattle.fbl_trace.specs.declared.trace.Mark.{Mark}
 pub use Rattle.fbl_trace.specs.declared.trace.Mark.TheVariants.{Send}
-pub use Rattle.fbl_trace.specs.declared.trace.Start.{Start}
 pub use Rattle.fbl_law.proofs.Lists.{sent_again-short, some-at, sum_below-agree, sum_below-none}
 pub use Rattle.fbl_law.proofs.Channels.{flight_at, flight_ends}
 pub use Rattle.fbl_law.proofs.Keeping.{checkpoint_is_recorded, group_checkpoint_keeps, group_strike_keeps, recorded_test}
@@ -35,7 +34,7 @@ pub use Rattle.fbl_law.proofs.Safe.{IsRecorded-before, down_or_both_up, down_or_
 pub use Rattle.fbl_law.proofs.WeightKept.{flow, into, out, weight_in, weight_on}
 pub use Rattle.fbl_law.specs.Groups.{GroupRecord, HasChannels, channel, channel_in, is_recorded, knowledge, marks, member, member_checkpoint, messages_in, messages_in_flight, receipts, sum_below, IsSound, received_notes}
 pub use Rattle.fbl_member.proofs.Made.{Made, made-more, made_none}
-pub use Rattle.fbl_member.proofs.Once.{IsOnce-none, IsOnce-piggybacked}
+pub use Rattle.fbl_member.proofs.Once.{IsOnce-piggybacked}
 pub use Rattle.fbl_member.specs.Members.{MemberRecord, Message, blank, logged_note, messages_from, received_by, replayed_by, table_after}
 pub use Rattle.fbl_table.specs.Receipts.{IsByNumber, receipt_at}
 pub use Rattle.fbl_table.specs.declared.entry.Entry.{Entry}

@@ -1,5 +1,5 @@
 -- Channels as queues: what is left of them by a start and a delivery.
-pub use Rattle.fbl_group.proofs.Common.{◌≡◌, ℕ, zero, suc, ◌+◌, ◌<◌, ◌≤◌, Bool, List, [], ◌∷◌, ◌++◌, length, map, drop, replicate, refl, sym, ap, ◌∙◌, arith, Some, slice_get, get_or, append_assoc, All, map-append, get_or_past, filter-append, Entry, Message, messages_from, between, is_on, taken_off, HasChannels, channel_in, room_in, each, with_sent, taken_and_sent, send_of_message, append-nil, get_or-replicate, length-replicate, step_events, first_message, with_at, Made, made-more, filter_map-append, Event, message_of_send, filter_map, Start, Settings, IsConfig, StartAllowed, slice_get-get_or, at_drop_more, start_events, drop_of_length-le, IsOnce-none, IsSound, group_delivery_keeps, in-channels, reads, put-in, written-shape}
+pub use Rattle.fbl_group.proofs.Common.{◌≡◌, ℕ, zero, suc, ◌+◌, ◌<◌, ◌≤◌, Bool, List, [], ◌∷◌, ◌++◌, length, map, drop, refl, sym, ap, ◌∙◌, arith, Some, slice_get, get_or, append_assoc, All, map-append, filter-append, Entry, Message, messages_from, between, is_on, taken_off, HasChannels, channel_in, room_in, each, with_sent, taken_and_sent, send_of_message, append-nil, step_events, first_message, with_at, Made, made-more, IsSound, group_delivery_keeps, reads, put-in, written-shape}
 use Rattle.fbl_group.proofs.Common.{◌⊎◌, inl, inr, true, false, Option, None, channel, sum_below, nat_tests, len-empty, take_refusal, deliver_refusal, is_full, step_of, Next, GroupRecord, IsDeliverRefusal, if◌then◌else◌, cases_eq, some-at}
 use Rattle.std.specs.FinSet as set
 use Rattle.fbl_group.specs.declared.refusals.DeliverRefusal.{DeliverRefusal}

@@ -3,8 +3,6 @@ pub use Rattle.fbl_law.proofs.Common.{◌&&◌, ◌+◌, ◌-◌, ◌<◌, ◌==
 pub use Rattle.fbl_law.proofs.Common.{after_notes-state, note_of-front, receipts-noted, At-below, At-front, At-push, map-At, take-more, one_place, Settings, Has, SendsWell, MayFollow, WellFormed, is_receipt_of}
 pub use Rattle.fbl_law.proofs.Common.{is_send_of, receipts_of, sends_of, IsCheckpoint, IsDelivery, IsGroupStart, IsRecovery, IsStrike, delivery_events, start_events, receiver, stays_by, step_of, GroupRecord, marks}
 pub use Rattle.fbl_law.proofs.Common.{member, member_checkpoint, receipts_at, IsReplayed, IsSound, received_notes, length-numbered, MemberRecord, Message, blank, logged_note, replayed_by}
-pub use Rattle.std.proofs.lemmas.Iterator.Adapters.{YieldsList-from_skip, YieldsList-from_vec, items_from_extend}
-pub use Rattle.std.proofs.lemmas.Iterator.Consumers.{YieldsList-at}
 pub use Rattle.std.proofs.lemmas.List.{map-append, take_more, get_or-set_other, get_or-set_same, get_or_default, length-map, length-set, take-take}
 pub use Rattle.std.proofs.lemmas.Map.Keys.{any_passes_from_place}
 pub use Rattle.std.proofs.lemmas.Map.Views.{any-filter_same}
@@ -44,7 +42,7 @@ pub use Rattle.fbl_history.specs.Turns.{IsAfterCrash, IsAfterRecoveryRecord, IsA
 pub use Rattle.fbl_history.specs.Traces.{CountsAsBefore, IsAfterRecovery, IsHistoryOf, IsRecoveryColumn, event_column, go_on_to, replay_of, replays_of, send_column, start_columns, state_after_receipt, trace_columns}
 pub use Rattle.fbl_history.specs.declared.column.Column.{Column}
 pub use Rattle.fbl_history.specs.declared.column.Column.TheVariants.{Checkpoint, Receipt, Recovery, Send, Strike}
-pub use Rattle.std.proofs.Common.{◌||◌, Decides, ◌≢◌, ◌↔◌, max}
+pub use Rattle.std.proofs.Common.{Decides, ◌≢◌, ◌↔◌, max}
 pub use Rattle.std.proofs.lemmas.Bool.{not-false, cases_lt, le-ltb, lt-ltb, ne_eqb, or_left, or_right}
 pub use Rattle.std.proofs.lemmas.Bool.Decides.{Decides-and, Decides-eqb, Decides-not, Decides-or}
 pub use Rattle.std.proofs.lemmas.List.Sums.{fold_push}

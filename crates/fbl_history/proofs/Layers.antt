@@ -10,8 +10,8 @@ use Rattle.std.specs.Prelude.{◌-◌}
 use Rattle.fbl_history.proofs.Common.{ℕ, zero, suc, ◌+◌, ◌*◌, ◌/◌, ◌<◌, ◌≡◌, ◌≢◌, Bool, true, false, cond, List, [], ◌∷◌, ◌++◌, map, Option, Some, None, slice_get, filter, filter-append}
 use Rattle.std.proofs.lemmas.List.FromFn.{length-range_with_len}
 use Rattle.fbl_history.proofs.Common.{append-nil, slice_get-get_or, flat_map, range_with_len, refl, ap, ◌∙◌, arith, length, option_to_list, Column, Shape, MessageName, arrow_between, arrow_from, back_before}
-use Rattle.fbl_history.proofs.Common.{column_marks, drawn, has_standing_receipt, history_member_shapes, is_down_after, label_and_names, last_sent, line_kind_of, line_parts, members_shapes}
-use Rattle.fbl_history.proofs.Common.{nat_lt, arrow_kind, receipt_arrow, recovery_mark, sent_before, strike_mark, stub, stub_where}
+use Rattle.fbl_history.proofs.Common.{drawn, has_standing_receipt, history_member_shapes, is_down_after, label_and_names, last_sent, line_kind_of, line_parts, members_shapes}
+use Rattle.fbl_history.proofs.Common.{nat_lt, arrow_kind, receipt_arrow, sent_before, stub, stub_where}
 
 -- what is drawn of each number, seen as drawn in columns
 numbers-drawn : (f : ℕ → List Shape) (k n : ℕ) → flat_map f (range_with_len k n) ≡ drawn (λ q _. f q) k (range_with_len k n)

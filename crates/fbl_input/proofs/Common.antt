@@ -1,13 +1,12 @@
-pub use Rattle.std.proofs.Common.{Err, IfErr, IfSome, List, None, Ok, OnErr, OnOk, Option, Result, Some, String, [], add-one, ap, append_assoc, arith, below_more, cond, drop, drop-cons, false, get_or, inl, inr, length}
-pub use Rattle.std.proofs.Common.{length-drop, length-take, map, option_and_then, option_map, refl, slice_get, string_bytes, subst, suc, sym, take, true, vec_len, ℕ, ◌++◌, ◌+◌, ◌-◌, ◌<◌, ◌∙◌, ◌∷◌, ◌≡◌, ◌≤◌, ◌⊎◌, rules}
+pub use Rattle.std.proofs.Common.{Err, IfErr, IfSome, List, None, Ok, OnErr, OnOk, Option, Result, Some, String, [], add-one, ap, append_assoc, arith, cond, drop, drop-cons, false, get_or, inl, inr, length}
+pub use Rattle.std.proofs.Common.{length-drop, length-take, map, option_and_then, option_map, refl, string_bytes, subst, suc, sym, take, true, vec_len, ℕ, ◌++◌, ◌+◌, ◌-◌, ◌<◌, ◌∙◌, ◌∷◌, ◌≡◌, ◌≤◌}
 pub use Rattle.std.proofs.Math.Seq.{take-add}
-pub use Rattle.fbl_trace.proofs.Common.{common_steps, length-map, take_all, nat_cmp_total, nat_cmp}
-pub use Rattle.std.proofs.lemmas.Option.{slice_get-get_or, slice_get-map}
+pub use Rattle.fbl_trace.proofs.Common.{common_steps, take_all, nat_cmp_total, nat_cmp}
 pub use Rattle.std.proofs.lemmas.Result.{IfOk-weaker}
 pub use Rattle.std.proofs.lemmas.Str.{IsUtf8-from_is_utf8, is_utf8-from_IsUtf8}
 pub use Rattle.std.specs.Io.KnownBytes.{Appends, Consumes, IsAtEnd, Keeps}
 pub use Rattle.std.specs.List.{find}
-pub use Rattle.std.specs.Prelude.{is_some, not, IfOk}
+pub use Rattle.std.specs.Prelude.{not}
 pub use Rattle.std.specs.Result.{IsErrAnd}
 pub use Rattle.std.specs.Str.{IsUtf8}
 pub use Rattle.std.specs.declared.alloc.Global.{Global}
@@ -19,8 +18,7 @@ pub use Rattle.serde_json.specs.declared.value.Value.{Value}
 pub use Rattle.fbl_input.specs.Shapes.{Fails, Gives, all_shaped, as_list, count_shape, elements, field, is_key_of, json_of, list_of, longest, member_shape, name_of, number_within, or_fault, other_key, value_of_input, ◌>>=◌}
 pub use Rattle.fbl_input.specs.declared.key.Key.{Key}
 pub use Rattle.fbl_input.specs.declared.fault.RunFault.{RunFault}
-pub use Rattle.fbl_input.specs.declared.fault.RunFault.TheVariants.{NotJson}
-pub use Rattle.fbl_input.specs.Faults.{HasInput, IsFaultOf, IsFirstFault, IsUnread, OverInput, PutsOut, run_result}
+pub use Rattle.fbl_input.specs.Faults.{IsFaultOf, IsUnread, OverInput, PutsOut, run_result}
 pub use Rattle.fbl_input.specs.declared.input_fault.InputFault.{InputFault}
 pub use Rattle.fbl_input.specs.declared.input_kind.InputKind.{InputKind}
 pub use Rattle.fbl_input.specs.declared.output.OutputFault.{OutputFault}

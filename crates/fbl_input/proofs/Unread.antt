@@ -58,8 +58,3 @@ refused_known IsGiven IsFault known (Err e) given is = IfSome_then known given i
 pub known_only : (b : Bool) → ◌≡◌ {A = Result (Unit {0}) RunFault} (cond b (Err faults.UnknownKey) (Ok tt)) (Ok tt) → b ≡ false
 known_only false is = refl
 known_only true is = absurd cc
-
--- what two steps give, each gives
-pub each_gives : {A B : Type 0} (a : Result A RunFault) (f : A → Result B RunFault) (b : B) → (a >>= f) ≡ Ok b → (x : A) × (a ≡ Ok x) × (f x ≡ Ok b)
-each_gives (Ok x) f b is = (x, refl, is)
-each_gives (Err e) f b is = absurd cc

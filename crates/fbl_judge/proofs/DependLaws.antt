@@ -10,12 +10,9 @@ use Rattle.fbl_judge.specs.Candidates.{IsLeastIn, IsReceiptHere, IsWithin, NoneD
 use Rattle.fbl_judge.specs.Pasts.{IsFirstInLife}
 use Rattle.fbl_judge.specs.Views.{IsBase, IsLifeAt, IsOneLife, IsPastAndStep, IsPastAndStepAt, IsView}
 use Rattle.fbl_judge.proofs.LifeLaws.{first_arrives, first_least, first_none, none_depends, one_life, same_within, within_same}
-use Rattle.fbl_judge.proofs.MomentLaws.{meet, stands_less, within_moment}
+use Rattle.fbl_judge.proofs.MomentLaws.{meet, min_and, stands_less, within_moment}
 use Rattle.fbl_judge.proofs.PastLaws.{past_length}
 use Rattle.fbl_judge.proofs.ViewLaws.{nobody_beyond}
-
-min_both : (x y k : ℕ) → k < x → k < y → k < min x y
-min_both x y k below below' = grind arith
 
 min_left : (x y : ℕ) → min x y ≤ x
 min_left x y = grind arith
@@ -26,7 +23,7 @@ min_right x y = grind arith
 -- up to the ends of the logs a cut has the same
 same_upto : (logs : Logs) (cut : Cut) → SameRestarts logs cut (meet cut (last_cut logs))
 same_upto logs cut r = (
-  λ h. (h.0, h.1, (let x = slice_get_within (logs r.member) r.number _ h.1 in min_both (cut r.member) (length (logs r.member)) r.number h.2 x)),
+  λ h. (h.0, h.1, (let x = slice_get_within (logs r.member) r.number _ h.1 in (min_and (cut r.member) (length (logs r.member)) r.number).1 (h.2, x))),
   λ h. (h.0, h.1, (let x = h.2 in let y = min_left (cut r.member) (length (logs r.member)) in omega (arith, x, y))),
 )
 
@@ -34,7 +31,7 @@ depends_upto : (logs : Logs) (cut : Cut) (i : Position) (q : ℕ) → DependsAt 
 depends_upto logs cut i q depends =
     let there = last_there depends.1 in
     let within = slice_get_within (logs q) depends.0 there.0 there.1 in
-    (depends.0, depends.1, stands_less (logs q) depends.0 (min (cut q) (length (logs q))) (cut q) (min_both (cut q) (length (logs q)) depends.0 depends.2.0 within) (min_left (cut q) (length (logs q))) depends.2)
+    (depends.0, depends.1, stands_less (logs q) depends.0 (min (cut q) (length (logs q))) (cut q) ((min_and (cut q) (length (logs q)) depends.0).1 (depends.2.0, within)) (min_left (cut q) (length (logs q))) depends.2)
 
 -- so the least has no more
 pub least_within : (logs : Logs) (i : Position) (q : ℕ) (cut : Cut) → IsLeastDependent logs i q cut → (p : ℕ) → cut p ≤ length (logs p)

@@ -28,7 +28,7 @@ own_before logs i k a b same behind at_i at_k = elim (cases_eq i.number k.number
 
 -- ---- kinds of entries
 
-no_record : (e : Entry) → recorded_in e ≡ None → ¬ (IsRecord e)
+pub no_record : (e : Entry) → recorded_in e ≡ None → ¬ (IsRecord e)
 no_record e none record' = (let some : None ≡ Some record'.0 = sym none ∙ record'.1 in cc)
 
 pub arrival_no_record : (a : Entry) → IsArrival a → ¬ (IsRecord a)
@@ -110,7 +110,7 @@ last_is_moment logs = record {
 abbrev pub meet : Cut → Cut → Cut
 meet a b q = min (a q) (b q)
 
-min_and : (a b k : ℕ) → (k < min a b) ↔ (k < a) × (k < b)
+pub min_and : (a b k : ℕ) → (k < min a b) ↔ (k < a) × (k < b)
 min_and a b k = grind arith
 
 pub meet_moment : (logs : Logs) (a b : Cut) → IsMoment logs a → IsMoment logs b → IsMoment logs (meet a b)

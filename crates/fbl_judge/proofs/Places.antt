@@ -1,7 +1,6 @@
 -- Where entries stand in the list and in their members' logs.
-use Rattle.fbl_judge.proofs.Common.{ℕ, ◌≡◌, ◌<◌, ◌≤◌, ◌⊎◌, ◌∙◌, inl, inr, List, length, Some, slice_get, refl, sym, ap, subst, arith, cases_order, slice_get_read, slice_get_within}
+use Rattle.fbl_judge.proofs.Common.{ℕ, ◌≡◌, ◌<◌, ◌⊎◌, ◌∙◌, inl, inr, List, length, Some, slice_get, refl, sym, ap, subst, arith, cases_order, slice_get_read, slice_get_within}
 use Rattle.std.proofs.Common.{get_or}
-use Rattle.fbl_judge.proofs.Common.{zero, suc, true, false, cond, take, [], ◌∷◌, ◌==◌}
 use Rattle.fbl_judge.proofs.Common.{Causality, Entry, entry_member, log_of, IsAt, Position, Precedes, StandsAt, at, itself, step, seen}
 use Rattle.fbl_runs.specs.Rules.{AreLawful}
 use Rattle.fbl_runs.proofs.Listing.{locate_all, seen-later, some_entry, stands_at}
@@ -59,13 +58,6 @@ read_at entries list p e same within is =
 -- it is of its member
 pub member_is : (entries : List Entry) (p : ℕ) (e : Entry) (i : Position) → slice_get entries p ≡ Some e → StandsAt entries p i → entry_member e ≡ i.member
 member_is entries p e i here stands = ap entry_member (one_entry entries p e stands.0 here stands.1) ∙ stands.2
-
--- no more entries of a member stand before a place than entries
-pub seen_below : (entries : List Entry) (p m : ℕ) → seen entries p m ≤ p
-seen_below entries zero m = omega arith
-seen_below [] (suc p) m = omega arith
-seen_below (e ∷ t) (suc p) m = (let rest = seen_below t p m in
-    elim (entry_member e == m) as (λ c. length (cond c (e ∷ log_of (take p t) m) (log_of (take p t) m)) ≤ suc p) [ true ↦ omega (arith, rest) | false ↦ omega (arith, rest) ])
 
 -- what precedes stands no later
 module _ (n : ℕ) (entries : List Entry) (lawful : AreLawful n entries) where

@@ -79,7 +79,7 @@ IsLastIn run cut j places n (Some place) =
     (l : Position) × StandsAt run.entries place l × IsLastRestart (run_of run) cut j l
     × ((k other : ℕ) (r : Position) → k < n → slice_get places k ≡ Some other → StandsAt run.entries other r → IsLastRestart (run_of run) cut j r → l.member ≤ r.member)
 
-some_is : {a b : ℕ} → Some a ≡ Some b → a ≡ b
+pub some_is : {a b : ℕ} → Some a ≡ Some b → a ≡ b
 some_is same = cc
 
 module _ (run : RunParts) (cut : Cut) (j : Position) (places : List ℕ) (n : ℕ) where

@@ -8,7 +8,7 @@ use Rattle.std.proofs.Common.{min, nat_cmp}
 use Rattle.std.specs.FinSet as set
 use Rattle.fbl_runs.proofs.Listing.{locate_all, some_entry}
 use Rattle.fbl_runs.proofs.ClockLaws.{last_there}
-use Rattle.fbl_judge.proofs.MomentLaws.{happened, holds_later, meet, meet_moment, moment_closed, stands_earlier, stands_less, stored_later, within_moment}
+use Rattle.fbl_judge.proofs.MomentLaws.{happened, holds_later, meet, meet_moment, min_and, moment_closed, stands_earlier, stands_less, stored_later, within_moment}
 
 -- ---- sets of members
 
@@ -152,7 +152,7 @@ module _ (run : Run) (entries : List Entry) (is : run.logs ≡ log_of entries) (
   alike_meets cut i q a b of_a of_b = (
     meet_moment run.logs a b of_a.0 of_b.0,
     λ r. (
-      λ h. (let in_a = (of_a.1 r).0 h in let in_b = (of_b.1 r).0 h in (h.0, h.1, (let x = in_a.2 in let y = in_b.2 in lesser (a r.member) (b r.member) r.number x y))),
+      λ h. (let in_a = (of_a.1 r).0 h in let in_b = (of_b.1 r).0 h in (h.0, h.1, (let x = in_a.2 in let y = in_b.2 in (min_and (a r.member) (b r.member) r.number).1 (x, y)))),
       λ h. (of_a.1 r).1 (h.0, h.1, (let x = h.2 in let y = min_left (a r.member) (b r.member) in omega (arith, x, y))),
     ),
     elim (one_of (a q) (b q)) [
@@ -160,9 +160,6 @@ module _ (run : Run) (entries : List Entry) (is : run.logs ≡ log_of entries) (
       | inr same ↦ subst (λ (x : ℕ). (k : ℕ) × Precedes Dependence run.logs i (at q k) × StandsBehind (run.logs q) k x) (sym same) of_b.2
     ],
   ) where
-    lesser : (x y k : ℕ) → k < x → k < y → k < min x y
-    lesser x y k below below' = grind arith
-
     one_of : (x y : ℕ) → (min x y ≡ x) ⊎ (min x y ≡ y)
     one_of x y = elim (cases_lt x y) [ inl less ↦ inl (grind arith) | inr more ↦ inr (grind arith) ]
 
@@ -173,9 +170,9 @@ module _ (run : Run) (entries : List Entry) (is : run.logs ≡ log_of entries) (
       let upto : Cut = meet cut (last_cut run.logs) in
       let there = last_there depends.1 in
       let within = slice_get_within (run.logs q) depends.0 there.0 there.1 in
-      let come : depends.0 < upto q = both (cut q) (length (run.logs q)) depends.0 depends.2.0 within in
+      let come : depends.0 < upto q = (min_and (cut q) (length (run.logs q)) depends.0).1 (depends.2.0, within) in
       let same : SameRestarts run.logs cut upto = λ r. (
-        λ h. (h.0, h.1, (let x = slice_get_within (run.logs r.member) r.number _ h.1 in both (cut r.member) (length (run.logs r.member)) r.number h.2 x)),
+        λ h. (h.0, h.1, (let x = slice_get_within (run.logs r.member) r.number _ h.1 in (min_and (cut r.member) (length (run.logs r.member)) r.number).1 (h.2, x))),
         λ h. (h.0, h.1, (let x = h.2 in let y = min_left (cut r.member) (length (run.logs r.member)) in omega (arith, x, y))),
       ) in
       let stands = stands_less (run.logs q) depends.0 (upto q) (cut q) come (min_left (cut q) (length (run.logs q))) depends.2 in
@@ -184,9 +181,6 @@ module _ (run : Run) (entries : List Entry) (is : run.logs ≡ log_of entries) (
       (λ least is_least under below. no' least
       (record { moment = is_least.0; depends = is_least.2; least = λ other moment' same' depends' p. under other (moment', (λ r. (λ h. (same' r).0 ((is_least.1 r).0 h), λ h. (is_least.1 r).1 ((same' r).1 h))), depends') p })
       is_least.1 (λ p. (let x = below p in let y = min_left (cut p) (length (run.logs p)) in omega (arith, x, y)))) where
-        both : (x y k : ℕ) → k < x → k < y → k < min x y
-        both x y k below below' = grind arith
-
         zero_min : (x y : ℕ) → y ≡ 0 → min x y ≡ 0
         zero_min x y none = grind arith
 

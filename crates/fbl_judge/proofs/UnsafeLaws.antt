@@ -97,12 +97,6 @@ not_both a b (inr ab) (inr ba) = itself (lists_joined a b a ab.1 ba.1) where
   itself : ListsFirst a a → ⊥
   itself l = false≢true (sym l.2 ∙ l.1)
 
--- where neither is before the other they are the same
-pub same_strike_of : (a b : Members) → (a ≡ b) ⊎ IsFewer b a → (b ≡ a) ⊎ IsFewer a b → a ≡ b
-same_strike_of a b (inl same) other = same
-same_strike_of a b (inr before) (inl same) = sym same
-same_strike_of a b (inr before) (inr after) = absurd (not_both a b after before)
-
 -- of three moments, with as many restarts each, the list of the first comes before that of the third
 restarts_joined : (logs : Logs) (a b c : Cut) → RestartsFirst logs a b → RestartsFirst logs b c → RestartsFirst logs a c
 restarts_joined logs a b c ab bc = elim (cases_order ab.0 bc.0) [
@@ -200,10 +194,6 @@ module _ (log : RunParts) (rules : AreEntries log.members log.entries) (struck :
       loses = loses run entries refl rules struck cut d strike least.least least.unstored;
       least = λ members may lost r has. lost_contains run entries refl rules struck cut members may d lost r ((least.least r).0 has);
     }
-
-    -- where it does not stand, or has none of the least members, or they leave nobody, it is safe there
-    pub undone_safe : (cut : Cut) → ¬ (Stands run.logs cut i) → ¬ (IsUnsafeAt run cut i)
-    undone_safe cut undone u = undone u.2.0
 
     pub safe_at : (cut : Cut) → ((strike : Members) → ¬ (IsLeastStrike run cut d strike)) → ¬ (IsUnsafeAt run cut i)
     safe_at cut none u = unsafe_has cut u (λ strike least left. none strike least)
@@ -466,15 +456,3 @@ says_safe log said says = (
   λ none. none_unsafe log (λ p i below at. (says_none log 0 log.entries said says).0 none p i below (let same : p ≡ 0 + p = omega arith in subst (λ (x : ℕ). IsReceiptPlace log x i) same at)),
   λ safe. (says_none log 0 log.entries said says).1 (λ k i below at u. safe u.0 u.1 u.2.0 u.2.1 u.2.3.0 (u.2.3.1.0, (i, u.2.2, u.2.3.1.1))),
 )
-
--- each that is said is said of its receipt
-pub says_each : (log : RunParts) (p : ℕ) (es : List Entry) (said : List UnsafeReceipt) → SaysUnsafe log p es said → (k : ℕ) (one : UnsafeReceipt) → slice_get said k ≡ Some one → (i : Position) × IsSaidOf log i one
-says_each log p [] said says k one here = absurd (let none : slice_get [] k ≡ Some one = subst (λ (s : List UnsafeReceipt). slice_get s k ≡ Some one) says here in cc)
-says_each log p (e ∷ es) said says k one here = elim says [
-  | inl safe ↦ says_each log (p + 1) es said safe.1 k one here
-  | inr un ↦ at_place un.0 un.1 un.2 un.5 (says_each log (p + 1) es un.2 un.6) k (subst (λ (s : List UnsafeReceipt). slice_get s k ≡ Some one) un.3 here)
-] where
-  at_place : (i : Position) (first : UnsafeReceipt) (rest : List UnsafeReceipt) → IsSaidOf log i first → ((k : ℕ) (one : UnsafeReceipt) → slice_get rest k ≡ Some one → (i : Position) × IsSaidOf log i one)
-      → (k : ℕ) → slice_get (first ∷ rest) k ≡ Some one → (i : Position) × IsSaidOf log i one
-  at_place i first rest is others zero here = (let same : first ≡ one = cc in (i, subst (λ (x : UnsafeReceipt). IsSaidOf log i x) same is))
-  at_place i first rest is others (suc k) here = others k one here

@@ -443,13 +443,6 @@ module _ (n : ℕ) (entries : List Entry) (are : AreEntries n entries) where
     not_among : ¬ (IsAmong entries place (at back.member back.number))
     not_among among = (let number = is_back.stands.3 in omega (arith, number, among))
 
-    among_it : IsAmong entries (place + 1) (at back.member back.number)
-    among_it =
-        let own : entry_member (Restart r) ≡ back.member = (let s : is_back.stands.0 ≡ Restart r = (let some : Some is_back.stands.0 ≡ Some (Restart r) = sym is_back.stands.1 ∙ here in cc) in ap entry_member (sym s) ∙ is_back.stands.2) in
-        let later = seen-later entries place (place + 1) back.member (Restart r) here own (omega arith) in
-        let number = is_back.stands.3 in
-        omega (arith, later, number)
-
     -- what precedes it is it, or among the entries before it
     before_among : (i : Position) → Precedes HappenedBefore logs i (at back.member back.number) → IsAmong entries (place + 1) i
     before_among i p =
@@ -564,9 +557,6 @@ index_zeros (suc n) (suc q) = index_zeros n q
 
 pub zeros_16 : (q : ℕ) → slice_index (replicate 16 0) q ≡ 0
 zeros_16 q = index_zeros 16 q
-
-pub with_none : (back : RestartPast) → AreWith [] back []
-with_none back = record { from = λ k w here. absurd cc; kept = λ j v here. absurd cc; added = λ j v here may. absurd cc }
 
 -- a view that may not have it
 pub with_kept : (views more : List View) (back : RestartPast) (k : ℕ) (v : View) → slice_get views k ≡ Some v → ¬ (MayHave v back) → AreWith (take k views) back more → AreWith (take (k + 1) views) back (more ++ v ∷ [])

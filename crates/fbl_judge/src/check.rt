@@ -387,11 +387,12 @@ fn unsafe_receipt(
 /// The receipts that are unsafe where the run is judged, in the order of the entries: none exactly where the run is safe. Those of the
 /// strike set are lost already, so the question is of all sets that have these and at most `f` members, or as many as are struck.
 ///
-/// Of a run that is judged at each moment it looks, for each receipt, each set of restarts that some moment has, and each member that
-/// depends on the receipt there, at one moment, the least at which the member does, but at none of the members behind one where no more are
-/// struck than at each; each receipt is said at the one where the fewest members are struck, then at the one whose list of members comes
-/// first, then at that of the least member, then where the fewest restarts have come. So the time taken is at most that of the entries times
-/// the square of the members and the sets of restarts, but for a logarithm. `Err` comes only where there is no memory for the answer.
+/// Of a run that is judged at each moment it looks, for each receipt and each set of restarts that some moment has, at the least moment at
+/// which the receipt's own member depends on it, and then at the least moment of each member in turn, up to one at which no more members
+/// are struck than at the first. Each receipt is said at the moment where the fewest are struck, then at the one whose list of members
+/// comes first, then at that of the least member, then where the fewest restarts have come. So the time taken is at most that of the
+/// entries times the square of the members and the sets of restarts, but for a logarithm. `Err` comes only where there is no memory for
+/// the answer.
 pub fn unsafe_receipts(alloc: Global, pasts: &Pasts<'_>) -> Result<Vec<UnsafeReceipt>, AllocError>
     ensures said { IfOk result (λ v. SaysUnsafe pasts.now 0 pasts.now.entries v.items) }
     ensures safe { IfOk result (λ v. (v.items ≡ []) ↔ IsSafe (run_of pasts.now)) }

@@ -1,4 +1,4 @@
-pub use Rattle.std.proofs.Common.{Ok, Err, MatchResult, Result, Bor, IfSome, List, None, Option, Some, [], ap, arith, cond, drop, false, if◌then◌else◌, length, map, refl, rules, slice_get, slice_set, suc, sym, true, zero}
+pub use Rattle.std.proofs.Common.{Ok, Err, MatchResult, Result, Bor, IfSome, List, None, Option, Some, [], ap, arith, cond, drop, false, if◌then◌else◌, length, map, refl, slice_get, slice_set, suc, sym, true, zero}
 pub use Rattle.fbl_trace.proofs.Common.{get_or, ℕ, ◌++◌, ◌+◌, ◌-◌, ◌<◌, ◌==◌, ◌∙◌, ◌∷◌, ◌≡◌, ◌≤◌, common_steps}
 pub use Rattle.std.proofs.Math.ListN.{length-set}
 pub use Rattle.fbl_table.proofs.Common.{nat_tests, get_or_from_slice_get, slice_get-get_or, slice_get_past, slice_get_within, length-filter_map, same_determinant, is_open, piggybacked}

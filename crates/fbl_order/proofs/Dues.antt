@@ -4,7 +4,6 @@ use Rattle.fbl_order.proofs.Common.{length, length-append, take, take_all, take-
 use Rattle.fbl_order.proofs.Common.{Mark, Send, Receipt, Entry, Event, entry_member, mark_in, marks, member_of, send_of, LogsBegin}
 use Rattle.fbl_order.proofs.Own.{own-front}
 use Rattle.fbl_order.proofs.Marks.{mark_member}
-use Rattle.fbl_trace.proofs.Gets.{At-append}
 use Rattle.fbl_runs.specs.declared.entry.Restart as restart
 use Rattle.fbl_runs.specs.declared.entry.Entry.TheVariants.{Restart}
 use Rattle.fbl_runs.specs.Clocks.{seen}
@@ -15,19 +14,17 @@ use Rattle.fbl_runs.specs.Lives.{StandsBehind, StandsInLife, life_in, standing}
 use Rattle.fbl_runs.specs.Rules.{FollowsAt, IsDue, IsReached, IsSentInLife, IsTaken, KeepsReceipts, MayFollow, MayTake, next_in, receipts_standing, restarts, sends_standing}
 use Rattle.fbl_runs.proofs.LifeLaws.{LivesRise, StandsBehind-earlier, restart_is, stands_in_life}
 use Rattle.fbl_runs.proofs.Listing.{locate_all}
+use Rattle.fbl_runs.proofs.LivedLaws.{get_below}
 use Rattle.fbl_runs.proofs.SendLaws.{SendsNumbered, one_in_life, send_stands_at, sends_standing_is}
 
 -- ---- a front of a log
-
-At-shorter : {X : Type 0} (xs ys : List X) (i : ℕ) (x : X) → i < length xs → slice_get (xs ++ ys) i ≡ Some x → slice_get xs i ≡ Some x
-At-shorter xs ys i x below is = elim (At-append xs ys i x is) [ inl here ↦ here | inr there ↦ absurd (omega (arith, below, there.1)) ]
 
 -- what stands in it
 stands_longer : (a rest : List Entry) (k x : ℕ) → x ≤ length a → StandsBehind a k x → StandsBehind (a ++ rest) k x
 stands_longer a rest k x within stands = (
   stands.0,
   λ number r after below here.
-      let there = At-shorter a rest number (Restart r) (omega (arith, below, within)) here in
+      let there = get_below a rest number (Restart r) (omega (arith, below, within)) here in
       subst (λ (l : List Entry). Contains (standing l) k) (sym (take-append-le (number + 1) a rest (omega (arith, below, within)))) (stands.1 number r after below there),
 )
 
@@ -149,7 +146,7 @@ module _ (n : ℕ) (s t : List Entry) (obeys_s : (i : ℕ) → FollowsAt n s i) 
         let stands' : StandsBehind (log_of s from ++ (logs from).0) k x = subst (λ (l : List Entry). StandsBehind l k x) (logs from).1 stands in
         let is' : life_in (take x (log_of s from ++ (logs from).0)) ≡ life = subst (λ (l : List Entry). life_in (take x l) ≡ life) (logs from).1 is in
         let here' : slice_get (log_of s from ++ (logs from).0) k ≡ Some (Event (Send from number to)) = subst (λ (l : List Entry). slice_get l k ≡ Some (Event (Send from number to))) (logs from).1 sent.0 in (
-          At-shorter (log_of s from) (logs from).0 k (Event (Send from number to)) (omega (arith, stands.0, within)) here',
+          get_below (log_of s from) (logs from).0 k (Event (Send from number to)) (omega (arith, stands.0, within)) here',
           (
             x,
             within,

@@ -14,7 +14,8 @@ use Rattle.fbl_runs.proofs.RunLaws.{lawful_by}
 use Rattle.fbl_order.specs.Answers.{SameAnswers}
 use Rattle.fbl_order.proofs.Independence.{same_answers}
 use Rattle.fbl_order.proofs.LogLaws.{filter-At}
-use Rattle.fbl_order.proofs.Own.{At-some, same_own-permutation}
+use Rattle.fbl_order.proofs.Own.{same_own-permutation}
+use Rattle.fbl_runs.proofs.Listing.{some_item}
 use Rattle.std.proofs.lemmas.List.Sorted.{sum_by-IsPermutation}
 
 -- ---- how many holds and stores there are
@@ -31,7 +32,7 @@ records-none es k e at is = (rw (add-one, take-more es k e at, filter_map-append
 few_records : (es : List Entry) → ((i : ℕ) → IsFewAt es i) → (k : ℕ) → k ≤ length es → length (records (take k es)) ≤ 131072
 few_records es few zero within = omega arith
 few_records es few (suc k) within =
-    let e = At-some es k (omega arith) in
+    let e = some_item es k (omega arith) in
     let before = few_records es few k (omega arith) in
     rw (← add-one k) ((elim (recorded_in e.0) as (λ o. recorded_in e.0 ≡ o → length (records (take (k + 1) es)) ≤ 131072) [
       | None ↦ λ is. omega (arith, before, records-none es k e.0 e.1 is)

@@ -12,7 +12,8 @@ use Rattle.std.proofs.lemmas.List.Sums.{sum_by_push}
 use Rattle.fbl_runs.specs.declared.entry.Restart as restart
 use Rattle.fbl_runs.specs.Rules as rules
 use Rattle.fbl_runs.proofs.LifeLaws.{restart_is}
-use Rattle.fbl_order.proofs.Own.{At-some, own-front, own-push, own-push_other, own-take}
+use Rattle.fbl_order.proofs.Own.{own-front, own-push, own-push_other, own-take}
+use Rattle.fbl_runs.proofs.Listing.{some_item}
 use Rattle.fbl_runs.specs.declared.control.ControlMessage.{ControlMessage}
 use Rattle.fbl_runs.specs.ControlMessages.{AreTold, Has, MayBeTold}
 use Rattle.fbl_runs.specs.HappenedBefore.{IsAt, at}
@@ -72,7 +73,7 @@ obeyed lived n P none more s obeys = subst P (take_all (length s) s (omega arith
   front : (k : ℕ) → k ≤ length s → Obeys lived n (take k s) × P (take k s)
   front zero within = (obeys-none lived n, none)
   front (suc k) within =
-      let e = At-some s k (omega (arith, within)) in
+      let e = some_item s k (omega (arith, within)) in
       let before = front k (omega (arith, within)) in
       let may = may_come lived n s obeys k e.0 e.1 in
       subst (λ (t : List Entry). Obeys lived n t × P t) (sym (take-more s k e.0 e.1)) (obeys-push lived n (take k s) e.0 before.0 may, more (take k s) e.0 before.0 may before.1)

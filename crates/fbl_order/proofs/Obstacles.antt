@@ -1,9 +1,8 @@
 -- What keeps an entry from coming.
-use Rattle.fbl_order.proofs.Common.{ℕ, List, Mark, Send, Receipt, Determinant, Entry, Event, Hold, LaterReceipt, Restart, Store, Tell, Told, Some, ◌≡◌, ◌≤◌, ◌∙◌, inl, inr, refl, sym, ap, entry_member, mark_in, marks, send_of, receipt_of}
-use Rattle.fbl_order.proofs.Common.{Bool, true, false, BreaksControl, BreaksEvent, Breaks, LacksInLife, Merge, Merges, Passes, cursor_of, placed_of, own, length, take_all}
+use Rattle.fbl_order.proofs.Common.{ℕ, List, Mark, Send, Receipt, Entry, Event, Hold, LaterReceipt, Restart, Store, Tell, Told, Some, ◌≡◌, ◌≤◌, ◌∙◌, inl, inr, refl, sym, ap, entry_member, mark_in, marks, send_of}
+use Rattle.fbl_order.proofs.Common.{Bool, true, false, BreaksControl, BreaksEvent, Breaks, Merge, Merges, Passes, cursor_of, placed_of, own, length, take_all}
 use Rattle.fbl_trace.specs.declared.fault.EventRule.{EventRule}
 use Rattle.fbl_trace.specs.declared.fault.EventRule.TheVariants.{NothingInFlight}
-use Rattle.fbl_runs.specs.Entries.{receipt_in}
 use Rattle.fbl_runs.specs.declared.fault.ControlRule.{ControlRule}
 use Rattle.fbl_runs.specs.declared.fault.ControlRule.TheVariants.{NotTold}
 use Rattle.fbl_runs.specs.declared.fault.LifeRule.{LifeRule}
@@ -11,7 +10,7 @@ use Rattle.fbl_order.specs.Faults.{HasAllOf, Hinders, LacksInTrace}
 use Rattle.fbl_order.specs.declared.fault.Obstacle.{Obstacle}
 use Rattle.fbl_order.specs.declared.known.BrokenRule.{BrokenRule}
 use Rattle.fbl_order.specs.declared.known.BrokenRule.TheVariants as broken
-use Rattle.fbl_order.proofs.Common.{MatchOption, MayCome, None, Option, is_some, subst}
+use Rattle.fbl_order.proofs.Common.{MatchOption, MayCome, None, Option, subst}
 
 -- what hinders the entry where members restart, or where none does, hinders it
 pub hindered : (has lived : Bool) (n : ℕ) (entries run : List Entry) (e : Entry) (rule : BrokenRule) (obstacle : Obstacle) → has ≡ lived → Breaks has n run e rule
@@ -49,22 +48,7 @@ told_passes n before (Store q d) broken = absurd broken
 
 -- ---- where members restart
 
-received : (e : Entry) (d : Determinant) → receipt_in e ≡ Some d → (sent : Entry) × Passes sent e
-received (Event (Receipt to rsn from ssn)) d is = (Event (Send from ssn to), inl (Send from ssn to, Receipt to rsn from ssn, refl, refl, refl))
-received (Event (Send from ssn to)) d is = cc
-received (LaterReceipt r life) d is = (Event (Send r.from r.ssn r.to), inl (Send r.from r.ssn r.to, receipt_of r, refl, refl, refl))
-received (Hold q r) d is = cc
-received (Store q r) d is = cc
-received (Tell m) d is = cc
-received (Told m) d is = cc
-received (Restart r) d is = cc
-
--- what lacks its message takes one
-pub lacking_passes : (n : ℕ) (before : List Entry) (e : Entry) → LacksInLife n before e → (sent : Entry) × Passes sent e
-lacking_passes n before e (inl lacks) = received e lacks.1.0 lacks.1.1
-lacking_passes n before e (inr broken) = (told_passes n before e broken).1
-
--- and that alone
+-- an entry takes one message at most
 pub passes_one : (a b e : Entry) → Passes a e → Passes b e → a ≡ b
 passes_one a b e (inl x) (inl y) =
     let r : x.1 ≡ y.1 = (let some : Some x.1 ≡ Some y.1 = sym x.3 ∙ y.3 in cc) in
@@ -98,9 +82,3 @@ pub breaks_found : (lived : Bool) (n : ℕ) (before : List Entry) (e : Entry) (o
     → MatchOption o (MayCome lived n before e) (λ b. Breaks lived n before e b × ¬ (MayCome lived n before e)) → Breaks lived n before e rule
 breaks_found lived n before e None rule is found = cc
 breaks_found lived n before e (Some b) rule is found = (let same : b ≡ rule = cc in subst (λ (b : BrokenRule). Breaks lived n before e b) same found.0)
-
--- so one is found where the entry may not come
-pub some_found : (lived : Bool) (n : ℕ) (before : List Entry) (e : Entry) (o : Option BrokenRule)
-    → MatchOption o (MayCome lived n before e) (λ b. Breaks lived n before e b × ¬ (MayCome lived n before e)) → ¬ (MayCome lived n before e) → is_some o ≡ true
-some_found lived n before e None found may = absurd (may found)
-some_found lived n before e (Some b) found may = refl

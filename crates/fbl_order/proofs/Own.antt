@@ -2,17 +2,12 @@
 use Rattle.fbl_order.proofs.Common.{Bool, List, ℕ, zero, suc, [], ◌∷◌, ◌++◌, ◌+◌, ◌==◌, ◌≡◌, ◌≢◌, ◌≤◌, ◌<◌, ◌∙◌, true, false, None, Option, Some, cond, refl, sym, ap}
 use Rattle.fbl_order.proofs.Common.{subst, length, length-set, take, arith, add-one, take-more, eqb-self, eqb-true, false≢true, get_or, nat_tests, append-nil}
 use Rattle.fbl_order.proofs.Common.{filter-append, take-append-drop, drop, IsPermutation, IsPermutation-cons, IsPermutation-middle, IsPermutation-refl}
-use Rattle.fbl_order.proofs.Common.{IsPermutation-sym, IsPermutation-trans, slice_get, slice_get_within, inl, inr, cases_eq, cases_lt, Begins, append_cancel_left, length-append}
+use Rattle.fbl_order.proofs.Common.{IsPermutation-sym, IsPermutation-trans, slice_get, slice_get_within, inl, inr, cases_eq, cases_lt, Begins, length-append}
 use Rattle.std.proofs.Common.{get_or-set_other, get_or-set_same, set}
 use Rattle.std.proofs.lemmas.List.{take-take, get_or_default}
 use Rattle.std.proofs.lemmas.List.Sorted.{length_permutation}
+use Rattle.fbl_runs.proofs.Listing.{some_item}
 use Rattle.fbl_order.specs.Cursors.{AreCursors, IsFirstFrom, IsInStep, IsLeastCursor, IsLeastGiven, IsNextOf, cursor_in, own}
-
--- what stands before the end of a list
-pub At-some : {X : Type 0} (xs : List X) (i : ℕ) → i < length xs → (x : X) × (slice_get xs i ≡ Some x)
-At-some [] i below = absurd (omega arith)
-At-some (x ∷ xs) zero below = (x, refl)
-At-some (x ∷ xs) (suc i) below = At-some xs i (omega arith)
 
 module _ {X : Type 0} (of : X → ℕ) where
   -- a member's items with one item more
@@ -89,15 +84,6 @@ module _ {X : Type 0} (of : X → ℕ) where
       let r = beyond s t (λ q. (begin q).0) (λ q. (begin q).1) in
       omega (arith, length_permutation (s ++ r.0) t r.1, length-append s r.0)
 
-  -- where a member has more, so has the list
-  pub own-begin-shorter : (s t : List X) → ((q : ℕ) → Begins (own of q s) (own of q t)) → (q : ℕ) (x : X) (rest : List X)
-      → own of q t ≡ own of q s ++ x ∷ rest → length s < length t
-  own-begin-shorter s t begin q x rest more =
-      let r = beyond s t (λ p. (begin p).0) (λ p. (begin p).1) in
-      let has : own of q r.0 ≡ x ∷ rest = r.2 q ∙ append_cancel_left (own of q s) _ _ (sym (begin q).1 ∙ more) in
-      let cut = first_of q r.0 x rest has in
-      omega (arith, length_permutation (s ++ r.0) t r.1, length-append s r.0, ap length cut.2, length-append cut.0 (x ∷ cut.1))
-
   -- ---- where the members' next items stand
 
   -- the cursors with one more item in front
@@ -155,7 +141,7 @@ pub least_in_step : {X : Type 0} (MayCome : ℕ → Type 0) (of : X → ℕ) (it
     → ((x : X) → slice_get items (length run) ≡ Some x → MayCome (length run)) → place ≡ length run
 least_in_step MayCome of items run cursors place are step within least may = elim (cases_lt (length run) place) [
   | inl more ↦
-      let x = At-some items (length run) (omega (arith, more, within)) in
+      let x = some_item items (length run) (omega (arith, more, within)) in
       let here = here_in_step of items run cursors x.0 are step x.1 in
       absurd (omega (arith, more, here, least.2 (of x.0) (rw here (may x.0 x.1))))
   | inr less ↦ omega (arith, less, step.ahead least.1.0, least.1.1)

@@ -1,5 +1,5 @@
 -- Laws of the members' pieces in several files.
-use Rattle.fbl_order.proofs.Own.{At-some}
+use Rattle.fbl_runs.proofs.Listing.{some_item}
 use Rattle.fbl_order.proofs.Common.{IsPermutation, drop, items_at, length-append, set, slice_get_within, take, ℕ, ◌≡◌, ◌∙◌, ◌<◌, ◌≤◌, ◌+◌, ◌++◌, add-one, ◌∷◌, [], ◌⊎◌, Bool, List, Some, arith, cases_eq, cases_lt, false, false≢true, get_or, inl, inr, length, map, refl, slice_get, suc, sym, zero, ap}
 use Rattle.std.proofs.Common.{AllPairs, Equal, Less, is_lt, nat_cmp}
 use Rattle.std.proofs.lemmas.Cmp.{nat_cmp_total, on_total, then_total}
@@ -112,7 +112,7 @@ pub items_at-length : {X : Type 0} (items : List X) (places : List ℕ) → ((k 
     → length (items_at items places) ≡ length places
 items_at-length items [] within = refl
 items_at-length items (p ∷ places) within =
-    let x = At-some items p (within 0 p refl) in
+    let x = some_item items p (within 0 p refl) in
     rw x.1 (ap (λ (n : ℕ). suc n) (items_at-length items places (λ k q here. within (suc k) q here)))
 
 -- the next one of a list is put through the map

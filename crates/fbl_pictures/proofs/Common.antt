@@ -1,25 +1,22 @@
-pub use Rattle.std.proofs.Common.{List, None, Option, Some, [], ap, append-nil, arith, cond, drop, false, get_or, length, length-take, map, not, suc, sym, take, true, ℕ, ◌++◌, ◌+◌, ◌-◌, ◌<◌, ◌==◌, ◌||◌, ◌∙◌, ◌∷◌, ◌≡◌, inl, inr, refl, rules, slice_get, vec_len, zero, ◌≤◌, ◌⊎◌, ◌≢◌, subst, ◌↔◌, set, get_or-set_same, get_or-set_other, add-one, length-set, below_more}
+pub use Rattle.std.proofs.Common.{List, None, Option, Some, [], ap, append-nil, arith, cond, drop, false, get_or, length, map, not, suc, sym, take, true, ℕ, ◌++◌, ◌+◌, ◌-◌, ◌<◌, ◌==◌, ◌||◌, ◌∙◌, ◌∷◌, ◌≡◌, inl, inr, refl, rules, slice_get, vec_len, ◌≤◌, ◌≢◌, subst, ◌↔◌, set, get_or-set_same, get_or-set_other, add-one, length-set}
 pub use Rattle.std.proofs.lemmas.Bool.{cases_eq, cases_lt, false≢true}
 pub use Rattle.std.proofs.lemmas.Grind.{common_steps}
-pub use Rattle.std.proofs.lemmas.List.{append_assoc, at_drop_all, at_drop_more, get_or_append_left, get_or_push, map_more, take_more}
+pub use Rattle.std.proofs.lemmas.List.{append_assoc, at_drop_all, at_drop_more, get_or_append_left, get_or_push, map_more}
 pub use Rattle.std.proofs.lemmas.List.{length-append}
-pub use Rattle.std.proofs.lemmas.Option.{get_or_from_slice_get, slice_get-get_or, slice_get_within}
+pub use Rattle.std.proofs.lemmas.Option.{slice_get-get_or, slice_get_within}
 pub use Rattle.std.proofs.lemmas.Result.{IfOk-weaker}
 pub use Rattle.std.specs.List.{flat_map, list_any, range_with_len}
-pub use Rattle.std.specs.Option.{is_some, option_or, option_to_list}
+pub use Rattle.std.specs.Option.{is_some, option_to_list}
 pub use Rattle.fbl_trace.proofs.Common.{nat_tests}
 pub use Rattle.fbl_trace.proofs.Gets.{rows_on}
 pub use Rattle.fbl_trace.specs.Events.{is_message, same_message}
-pub use Rattle.fbl_trace.specs.declared.trace.Determinant.{Determinant}
 pub use Rattle.fbl_trace.specs.declared.trace.MessageName.{MessageName}
 pub use Rattle.fbl_runs.specs.Clocks.{StandsAt, cut_of, seen}
 pub use Rattle.fbl_runs.specs.Entries.{entry_member, log_of}
 pub use Rattle.fbl_runs.specs.declared.entry.Entry.{Entry}
-pub use Rattle.fbl_runs.specs.declared.entry.Entry.TheVariants.{Event, Hold, Store, Tell, Told}
 pub use Rattle.fbl_input.proofs.Outputs.{puts_text}
 pub use Rattle.fbl_history.proofs.Common.{column_marks, recovery_mark, strike_mark, history_member_shapes, is_back, line_parts, members_shapes, drawn, label_and_names}
 pub use Rattle.fbl_history.specs.Arrows.{arrow_from, back_before, has_standing_receipt, receipt_arrow, sent_before, stub, stub_where, taken_by_column}
-pub use Rattle.fbl_history.specs.declared.column.Column.{Column}
 pub use Rattle.fbl_history.specs.declared.shape.Glyph.{Glyph}
 pub use Rattle.fbl_history.specs.declared.shape.Shape.{Shape}
 pub use Rattle.fbl_pictures.specs.Columns.{column_in}

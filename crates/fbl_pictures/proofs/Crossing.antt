@@ -1,17 +1,10 @@
 -- Where the line of a moment crosses the members' lines, as a pass over the entries finds it.
-use Rattle.fbl_pictures.proofs.Common.{ℕ, ◌+◌, ◌<◌, ◌≤◌, ◌≡◌, ◌≢◌, List, [], ◌∷◌, suc, take, Option, Some, None, length, length-take, slice_get, inl, inr, refl, sym, ap, ◌∙◌, subst, arith, get_or, cases_eq, cases_lt, nat_tests, true, false, cond, ◌==◌, Entry, column_in, is_some, set, get_or-set_same, get_or-set_other, add-one, length-set, entry_member, log_of, HasPassed, IsBehind, IsBeyond, IsCrossing, IsEnd, seen, Columns}
+use Rattle.fbl_pictures.proofs.Common.{ℕ, ◌+◌, ◌<◌, ◌≤◌, ◌≡◌, ◌≢◌, List, Option, Some, None, length, slice_get, inl, inr, refl, sym, ap, ◌∙◌, subst, arith, get_or, cases_eq, cases_lt, nat_tests, true, false, cond, ◌==◌, Entry, column_in, is_some, set, get_or-set_same, get_or-set_other, add-one, length-set, entry_member, log_of, HasPassed, IsBehind, IsBeyond, IsCrossing, IsEnd, seen, Columns}
 use Rattle.std.specs.Prelude.{min}
 use Rattle.fbl_runs.proofs.Listing.{locate_all, seen_mono, seen-later, seen-other, seen-own, some_entry}
 use Rattle.fbl_runs.specs.HappenedBefore.{at}
 use Rattle.fbl_runs.specs.Moments.{Cut}
 use Rattle.fbl_pictures.specs.declared.run.crossings.Pass.{Pass}
-
--- no more entries of a member are among the first p than p
-pub seen-le : (entries : List Entry) (p m : ℕ) → seen entries p m ≤ p
-seen-le entries p m = (let fewer = filtered (take p entries) m in omega (arith, fewer, length-take p entries)) where
-  filtered : (t : List Entry) (m : ℕ) → length (log_of t m) ≤ length t
-  filtered [] m = omega arith
-  filtered (e ∷ t) m = (let rest = filtered t m in elim (entry_member e == m) as (λ b. length (cond b (e ∷ log_of t m) (log_of t m)) ≤ suc (length t)) [ true ↦ omega (arith, rest) | false ↦ omega (arith, rest) ])
 
 -- ---- columns that are set
 

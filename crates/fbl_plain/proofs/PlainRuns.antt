@@ -1,9 +1,9 @@
 -- A delivery of a group is a delivery of the plain network with its states and notes. So a run of deliveries alone is a plain run, and
 -- what looks as after such a run shares its survivors with a plain network.
-use Rattle.fbl_law.proofs.Common.{◌≡◌, ◌≢◌, ℕ, zero, suc, ◌+◌, ◌<◌, ◌≤◌, ◌⊎◌, ◌==◌, ◌&&◌, Bool, true, false, if◌then◌else◌, inl, inr, List, [], ◌∷◌, ◌++◌, length, drop, map, Option, Some, None, slice_get, refl, sym, ap, ◌∙◌, subst}
-use Rattle.fbl_law.proofs.Common.{arith, nat_tests, append_assoc, append-nil, cond, cases_eq, cases_lt, eqb-self, ne_eqb, option_map, slice_get-map, map-append, filter_map, between, nil_from_length}
+use Rattle.fbl_law.proofs.Common.{◌≡◌, ℕ, zero, suc, ◌+◌, ◌<◌, ◌≤◌, ◌⊎◌, ◌==◌, ◌&&◌, Bool, true, false, if◌then◌else◌, inl, inr, List, [], ◌∷◌, ◌++◌, length, drop, map, Option, Some, None, slice_get, refl, sym, ap, ◌∙◌, subst}
+use Rattle.fbl_law.proofs.Common.{arith, nat_tests, cases_eq, cases_lt, eqb-self, ne_eqb, option_map, slice_get-map, map-append, filter_map, between, nil_from_length}
 use Rattle.fbl_law.proofs.Common.{Event, Start, Entry, Settings, IsConfig, Next, SendsWell, starts_of, Message, MemberRecord, messages_from, GroupRecord, channel, member, IsSound, messages_in_flight, sum_below}
-use Rattle.fbl_law.proofs.Common.{IsGroupStart, IsDelivery, start_events, message_of_send, step_of, piggybacked, receiver}
+use Rattle.fbl_law.proofs.Common.{IsGroupStart, IsDelivery, message_of_send, step_of, piggybacked, receiver}
 use Rattle.std.specs.FinSet as set
 use Rattle.fbl_trace.specs.declared.trace.Event.TheVariants.{Send, Receipt}
 use Rattle.fbl_law.specs.CrashFree.{CrashFree, begins, goes_on, LooksLike, without_carried}
@@ -12,7 +12,7 @@ use Rattle.fbl_law.proofs.GroupDelivery.{receiver_now, other_now, receipts_now}
 use Rattle.fbl_law.proofs.Deliveries.{channel-outside, free_sound}
 use Rattle.fbl_law.proofs.CrashFree.{crashes_are_masked}
 use Rattle.fbl_law.proofs.Safe.{up_if_none}
-use Rattle.fbl_plain.specs.Plain.{Network, sent_to, delivered, PlainRun, starts, delivers, plain_of, SharesSurvivors, deliveries, IsQuiet, LooksPlain, EachLooksPlain, HoldsAtFirst, DeliveryKeeps, IsUpheld}
+use Rattle.fbl_plain.specs.Plain.{Network, sent_to, delivered, PlainRun, starts, delivers, plain_of, deliveries, IsQuiet, LooksPlain, EachLooksPlain, HoldsAtFirst, DeliveryKeeps, IsUpheld}
 
 -- plain networks with the same states and the same in flight are one
 same_network : {S N : Type 0} (a b : Network S N) → ((m : ℕ) → a.state m ≡ b.state m) → ((q m : ℕ) → a.flight q m ≡ b.flight q m) → a ≡ b

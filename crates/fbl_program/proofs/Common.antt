@@ -1,11 +1,11 @@
-pub use Rattle.std.proofs.Common.{Bool, Err, IfErr, IfOk, IfSome, List, None, Ok, Option, Result, Some, [], ap, arith, codes, decimal, drop, false, map, not, option_map, refl, option_and_then}
-pub use Rattle.std.proofs.Common.{string_bytes, subst, suc, sym, true, unwrap_or, zero, ℕ, ◌&&◌, ◌+◌, ◌<◌, ◌||◌, ◌∙◌, ◌∷◌, ◌≡◌, ◌++◌, ◌⊎◌, inl, inr}
+pub use Rattle.std.proofs.Common.{Bool, Err, IfErr, IfSome, List, None, Ok, Option, Result, Some, [], ap, arith, codes, decimal, drop, false, map, not, option_map, refl}
+pub use Rattle.std.proofs.Common.{string_bytes, subst, suc, sym, true, unwrap_or, zero, ℕ, ◌&&◌, ◌+◌, ◌<◌, ◌||◌, ◌∙◌, ◌∷◌, ◌≡◌, ◌++◌, inl, inr}
 pub use Rattle.std.proofs.Math.Bool.{or-false}
 pub use Rattle.std.proofs.lemmas.Fmt.{decimal_digit, parse-decimal}
 pub use Rattle.std.specs.Borrow.{Bor}
 pub use Rattle.std.specs.Box.{box_value}
 pub use Rattle.std.specs.List.{list_any}
-pub use Rattle.std.specs.Prelude.{Box, pos}
+pub use Rattle.std.specs.Prelude.{Box}
 pub use Rattle.std.specs.Result.{IsErrAnd}
 pub use Rattle.fbl_play.proofs.Common.{GroupRecord}
 pub use Rattle.std.specs.Str.Parse.{ExplainsUnsignedError, HasUnsignedDigitsIfOk, ParsesUnsigned}
@@ -13,8 +13,7 @@ pub use Rattle.clap.proofs.WalkLemmas.{first_value-rows, one_text-rows, raw_valu
 pub use Rattle.clap.specs.Simple.{built, entered, is_simple, names_of}
 pub use Rattle.clap.specs.Takes.{built_takes, takes}
 pub use Rattle.clap.specs.Walk.{nothing_held, stop_after}
-pub use Rattle.clap.specs.Words.{App, HasKind, HasMatchesOf, ReadsOne, Row, Rule, Text, all_of, fault_of, first_of, found_of, is_simple_and_free, kind_of, new_rule, one_of, rule_of, subcommand_name_of, subcommand_of, subcommand_rows, subcommand_rows_of}
-pub use Rattle.clap.specs.declared.builder.ArgAction.TheVariants.{Set}
+pub use Rattle.clap.specs.Words.{App, HasKind, HasMatchesOf, ReadsOne, Row, Text, all_of, fault_of, first_of, found_of, is_simple_and_free, kind_of, one_of, subcommand_name_of, subcommand_of, subcommand_rows, subcommand_rows_of}
 pub use Rattle.clap.specs.declared.error.Error.{Error}
 pub use Rattle.clap.specs.declared.error.kind.ErrorKind.TheVariants.{OutOfMemory}
 pub use Rattle.clap.specs.declared.parser.matches.ArgMatches.{ArgMatches}
@@ -43,10 +42,9 @@ pub use Rattle.fbl_play.proofs.Moments.{unobserved}
 pub use Rattle.fbl_play.specs.Transcripts.{Transcript, text}
 pub use Rattle.fbl_scripts.specs.Scripts.{IsScriptFault, IsScriptOf, Outline, behaviour_word, outline}
 pub use Rattle.fbl_scripts.specs.declared.script.Command.{Command}
-pub use Rattle.fbl_program.specs.Outcomes.{Answers, DoesScript, EndsMerged, IsAnswer, IsAnswerTo, IsPlaceMissing, IsPlaceMissingOf, IsShown, PlaysWell}
+pub use Rattle.fbl_program.specs.Outcomes.{Answers, DoesScript, IsAnswer, IsAnswerTo, IsPlaceMissing, IsPlaceMissingOf, IsShown, PlaysWell}
 pub use Rattle.fbl_program.specs.declared.fault.AnswerFault.{AnswerFault}
 pub use Rattle.fbl_program.specs.declared.fault.AnswerFault.TheVariants.{Output}
-pub use Rattle.fbl_program.specs.declared.job.RunTask.{RunTask}
 pub use Rattle.fbl_program.specs.declared.job.Question.TheVariants.{Audit, Check, Draw}
 pub use Rattle.fbl_program.specs.declared.job.RunTask.TheVariants.{Judge, Merge}
 pub use Rattle.std.proofs.lemmas.Option.{IfSome_then}

@@ -1,6 +1,6 @@
 -- What the parser of command lines makes of the program's command lines.
 use Rattle.fbl_program.proofs.Common.{◌≡◌, ℕ, zero, suc, ◌+◌, ◌<◌, ◌&&◌, Bool, true, false, List, [], ◌∷◌, ◌++◌, Option, Some, None, option_map, Result, Ok, Err, IfErr, refl, sym, ap, ◌∙◌, arith, codes}
-use Rattle.fbl_program.proofs.Common.{decimal, drop, inl, subst, unwrap_or, decimal_digit, parse-decimal, Box, box_value, IsErrAnd, ParsesUnsigned, built, entered, is_simple, Bor, Misuse, NoCommand, Words, AreNames}
+use Rattle.fbl_program.proofs.Common.{decimal, drop, subst, unwrap_or, decimal_digit, parse-decimal, Box, box_value, IsErrAnd, ParsesUnsigned, built, entered, is_simple, Bor, Misuse, NoCommand, Words, AreNames}
 use Rattle.fbl_program.proofs.Common.{AreWorkers, IsFlag, IsJobAt, IsJobOf, IsTaskAt, Job, task_for, explain_for, IsMisuseOf, IsRefusedFor, Names, all_of, is_merge, first_of, subcommand_of}
 use Rattle.fbl_program.proofs.Common.{names_of, built_takes, takes, nothing_held, stop_after, App, HasKind, HasMatchesOf, ReadsOne, Row, Text, fault_of, is_simple_and_free, kind_of, one_of, subcommand_name_of, subcommand_rows}
 use Rattle.fbl_program.proofs.Common.{subcommand_rows_of, Error, OutOfMemory, ArgMatches, out-ArgMatches, out-SubCommand, SubCommand, WorkersAllowed, IsCommandLine, is_audit, is_check, is_draw}
@@ -135,12 +135,6 @@ pub misused : {T : Type 0} (a : App) (words : List Text) (e : Error) (r : Result
 misused a words e (Ok x) is same kinds = tt
 misused a words e (Err f) is same kinds =
     subst (IsMisuseOf words) (sym same) (subst (λ (p : App). HasKind (fault_of p words) e) is (kinds (ap is_simple_and_free is ∙ program_free)))
-
--- so it does for want of memory
-pub short : {T : Type 0} (words : List Text) (r : Result T Misuse) → IsErrAnd r IsRefusedFor → IfErr r (IsMisuseOf words)
-short words (Ok x) for = tt
-short words (Err (Words e)) for = inl for
-short words (Err NoCommand) for = absurd for
 
 -- ---- jobs
 

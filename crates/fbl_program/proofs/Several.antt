@@ -14,7 +14,7 @@ use Rattle.fbl_input.specs.declared.input_fault.InputFault.{InputFault}
 use Rattle.fbl_order.specs.declared.files.FilesDiffer.TheVariants as differ
 use Rattle.fbl_program.specs.Statuses.{fault_status}
 use Rattle.std.proofs.Common.{cond, is_err, is_ok, length, true≢false}
-use Rattle.fbl_program.proofs.Common.{◌≡◌, ℕ, zero, suc, ◌+◌, ◌<◌, Bool, false, true, Bor, IfSome, List, [], ◌∷◌, ◌++◌, Some, None, Result, Ok, Err, ap, arith, drop, inl, inr, map, refl, subst, unwrap_or}
+use Rattle.fbl_program.proofs.Common.{◌≡◌, ℕ, zero, suc, ◌+◌, ◌<◌, false, Bor, IfSome, List, [], ◌∷◌, ◌++◌, Some, None, Result, Ok, Err, ap, arith, drop, inl, inr, map, refl, subst, unwrap_or}
 
 -- ---- lists
 

@@ -2,6 +2,7 @@
 use Rattle.fbl_records.proofs.Common.{ℕ, ◌≡◌, ◌<◌, ◌≤◌, ◌+◌, ◌∙◌, ◌++◌, inl, inr, Some, List, [], ◌∷◌, length, sym, ap, subst, arith, cases_eq}
 use Rattle.fbl_trace.proofs.Common.{slice_get, slice_get_within}
 use Rattle.fbl_trace.proofs.Gets.{At-front, At-push, At-seam}
+use Rattle.fbl_judge.proofs.Restarts.{some_is}
 use Rattle.fbl_judge.specs.Pasts.{AreRestartPlaces, IsRestartPlace}
 use Rattle.fbl_judge.specs.declared.reason.Reason.{Reason}
 use Rattle.fbl_runs.specs.declared.entry.Entry.{Entry}
@@ -16,9 +17,6 @@ pub record AreFound (entries : List Entry) (reason : Reason) (restarts : List �
       → IsRestartPlace entries place × ((r : Position) × StandsAt entries place r × IsForgottenIn (log_of entries) reason r)
   pub all : (m place : ℕ) (r : Position) → m < n → slice_get restarts m ≡ Some place → StandsAt entries place r → IsForgottenIn (log_of entries) reason r
       → (k : ℕ) × (slice_get places k ≡ Some place)
-
-some_is : {a b : ℕ} → Some a ≡ Some b → a ≡ b
-some_is same = cc
 
 module _ (entries : List Entry) (reason : Reason) (restarts : List ℕ) (n place : ℕ) (here : slice_get restarts n ≡ Some place) (places : List ℕ) (found : AreFound entries reason restarts n places) where
   -- one more that is

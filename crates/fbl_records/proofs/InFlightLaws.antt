@@ -16,7 +16,7 @@ use Rattle.fbl_runs.proofs.Listing.{stands_at}
 use Rattle.fbl_runs.proofs.LivedLaws.{set_here}
 use Rattle.fbl_judge.proofs.MomentLaws.{same_at}
 use Rattle.fbl_judge.proofs.Places.{one_entry, place_of, place_within, placed_at}
-use Rattle.fbl_records.specs.Overviews.{AreTaken, CountsInFlight, IsInFlight, IsInFlightFrom, IsTakenAtEnd, StandsAtEnd, TakesAtEnd}
+use Rattle.fbl_records.specs.Overviews.{AreTakenAtEnd, CountsInFlight, IsInFlight, IsInFlightFrom, IsTakenAtEnd, StandsAtEnd, TakesAtEnd}
 use Rattle.fbl_records.proofs.OverviewLaws.{get_elsewhere}
 
 -- ---- which messages are taken
@@ -96,7 +96,7 @@ module _ (entries : List Entry) (n : ℕ) (taken : List Bool) (are : AreTakenBel
   }
 
   -- where all entries are looked at
-  pub taken_all : length entries ≤ n → AreTaken entries taken
+  pub taken_all : length entries ≤ n → AreTakenAtEnd entries taken
   taken_all all = record {
     count = are.count;
     each = λ place i s b at_i event here. (
@@ -130,7 +130,7 @@ module _ (entries : List Entry) (place : ℕ) (i : Position) (at_i : StandsAt en
       (send.0, send.1, send.2, one_entry entries place e (Event mark) here (placed_at entries place i (Event mark) at_i send.3))
 
   -- a send that stands is in flight unless its message is taken
-  pub in_flight_untaken : (taken : List Bool) (e : Entry) → AreTaken entries taken → slice_get entries place ≡ Some e → IsSend e
+  pub in_flight_untaken : (taken : List Bool) (e : Entry) → AreTakenAtEnd entries taken → slice_get entries place ≡ Some e → IsSend e
       → StandsAtEnd (log_of entries) i → (not (get_or taken place false) ≡ true) ↔ IsInFlight (log_of entries) i
   in_flight_untaken taken e are here send stands = (
     λ free. record {

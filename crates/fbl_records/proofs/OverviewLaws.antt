@@ -18,7 +18,8 @@ use Rattle.fbl_runs.proofs.Listing.{seen_mono}
 use Rattle.fbl_runs.proofs.LivedLaws.{set_here}
 use Rattle.fbl_judge.proofs.MomentLaws.{own_before}
 use Rattle.fbl_judge.proofs.Places.{one_place, precedes_later}
-use Rattle.fbl_records.specs.Overviews.{AreEarliest, AreFirstOf, HappenedBeforeAt, IsOfMember, IsOneOf, NoneHappenedBefore}
+use Rattle.fbl_judge.proofs.Restarts.{some_is}
+use Rattle.fbl_records.specs.Overviews.{AreEarliest, AreFirstOf, HappenedBeforeAt, IsEntryOf, IsOneOf, NoneHappenedBefore}
 
 pub get_elsewhere : {X : Type 0} (xs : List X) (i j : ℕ) (v : X) → j ≢ i → slice_get (set xs i v) j ≡ slice_get xs j
 get_elsewhere [] i j v other = refl
@@ -42,7 +43,7 @@ module _ (entries : List Entry) where
       (ab.0, bc.1, ab.2, bc.3, Precedes-joined ab.4 (subst (λ (i : Position). Precedes HappenedBefore (log_of entries) i bc.1) same bc.4))
 
   -- of two entries of a member the one that is listed first
-  pub own_before_at : (m p q : ℕ) → IsOfMember entries m p → IsOfMember entries m q → p ≤ q → HappenedBeforeAt entries p q
+  pub own_before_at : (m p q : ℕ) → IsEntryOf entries m p → IsEntryOf entries m q → p ≤ q → HappenedBeforeAt entries p q
   own_before_at m p q is_p is_q order =
       let i = is_p.0 in
       let j = is_q.0 in
@@ -67,19 +68,19 @@ module _ (entries : List Entry) where
 -- ---- the earliest place of each member
 
 module _ (entries : List Entry) (places : List ℕ) (old : List (Option ℕ)) (are : AreEarliest entries places old) (place number : ℕ)
-    (own : IsOfMember entries number place) where
+    (own : IsEntryOf entries number place) where
   abbrev IsWith : ℕ → Type 0
   IsWith least = AreEarliest entries (places ++ place ∷ []) (set old number (Some least))
 
   -- the least of them is kept
-  kept : (o : Option ℕ) (least : ℕ) → slice_get old number ≡ Some o → IsOneOf (places ++ place ∷ []) least → IsOfMember entries number least
+  kept : (o : Option ℕ) (least : ℕ) → slice_get old number ≡ Some o → IsOneOf (places ++ place ∷ []) least → IsEntryOf entries number least
       → HappenedBeforeAt entries least place → ((other : ℕ) → o ≡ Some other → HappenedBeforeAt entries least other) → IsWith least
   kept o least there one of before others = record {
     each = λ m p here. elim (cases_eq m number) [
       | inl same ↦
           let both : Some (Some least) ≡ Some (Some p) = sym new ∙ ap (slice_get (set old number (Some least))) (sym same) ∙ here in
           let is : least ≡ p = cc in
-          subst (λ (p : ℕ). IsOneOf (places ++ place ∷ []) p × IsOfMember entries m p) is (one, (of.0, of.1, of.2 ∙ sym same))
+          subst (λ (p : ℕ). IsOneOf (places ++ place ∷ []) p × IsEntryOf entries m p) is (one, (of.0, of.1, of.2 ∙ sym same))
       | inr ne ↦
           let r = are.each m p (sym (get_elsewhere old number m (Some least) ne) ∙ here) in
           ((r.0.0, At-front places (place ∷ []) r.0.0 p r.0.1), r.1)
@@ -118,11 +119,8 @@ module _ (entries : List Entry) (places : List ℕ) (old : List (Option ℕ)) (a
         (own_before_at entries number other place r.1 own more)
         (λ o same. subst (HappenedBeforeAt entries other) (some_is same) (own_before_at entries number other other r.1 r.1 (omega arith))))
   ] where
-    r : IsOneOf places other × IsOfMember entries number other
+    r : IsOneOf places other × IsEntryOf entries number other
     r = are.each number other there
-
-    some_is : {a b : ℕ} → Some a ≡ Some b → a ≡ b
-    some_is same = cc
 
 -- ---- those of them before which none happened
 

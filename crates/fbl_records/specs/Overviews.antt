@@ -85,13 +85,13 @@ IsOverviewOf run checked (Some overview) = ((place : ℕ) × IsRestartPlace run.
 -- ---- how these are found
 
 -- the entry at the place is one of the member
-abbrev pub IsOfMember : List Entry → ℕ → ℕ → Type 0
-IsOfMember entries member place = (i : Position) × StandsAt entries place i × (i.member ≡ member)
+abbrev pub IsEntryOf : List Entry → ℕ → ℕ → Type 0
+IsEntryOf entries member place = (i : Position) × StandsAt entries place i × (i.member ≡ member)
 
 -- for each member it has one of the places at most, that of an entry of the member; and before the entry at each of the places, or with it,
 -- happened the entry at one that it has
 pub record AreEarliest (entries : List Entry) (places : List ℕ) (earliest : List (Option ℕ)) : Type 0 where
-  pub each : (member place : ℕ) → slice_get earliest member ≡ Some (Some place) → IsOneOf places place × IsOfMember entries member place
+  pub each : (member place : ℕ) → slice_get earliest member ≡ Some (Some place) → IsOneOf places place × IsEntryOf entries member place
   pub all : (place : ℕ) → IsOneOf places place
       → (member : ℕ) × (first : ℕ) × (slice_get earliest member ≡ Some (Some first)) × HappenedBeforeAt entries first place
 
@@ -105,7 +105,7 @@ abbrev pub TakesAtEnd : Logs → Position → Position → Type 0
 TakesAtEnd logs j i = IsMessageOf logs j i × StandsAtEnd logs j
 
 -- at the place of each send it has whether a receipt that stands at the end takes the message
-pub record AreTaken (entries : List Entry) (taken : List Bool) : Type 0 where
+pub record AreTakenAtEnd (entries : List Entry) (taken : List Bool) : Type 0 where
   pub count : length taken ≡ length entries
   pub each : (place : ℕ) (i : Position) (s : Mark) (is_taken : Bool) → StandsAt entries place i → slice_get entries place ≡ Some (Event s)
       → slice_get taken place ≡ Some is_taken → (is_taken ≡ true) ↔ IsTakenAtEnd (log_of entries) i

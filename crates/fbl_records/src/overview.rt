@@ -2,7 +2,7 @@
 //! happened before the others, and how many messages are in flight at the end.
 
 ghost use Rattle.std.specs.Prelude.{◌≡◌, ◌<◌, ◌↔◌, ◌++◌, ◌∷◌, [], ℕ, List, Some, true, IfOk, length, slice_get};
-ghost use Rattle.fbl_records.specs.Overviews.{AreEarliest, AreFirstOf, AreTaken, TakesAtEnd, CountsInFlight, IsInFlight, IsOverviewOf, NoneHappenedBefore, StandsAtEnd, said_places};
+ghost use Rattle.fbl_records.specs.Overviews.{AreEarliest, AreFirstOf, AreTakenAtEnd, TakesAtEnd, CountsInFlight, IsInFlight, IsOverviewOf, NoneHappenedBefore, StandsAtEnd, said_places};
 ghost use Rattle.fbl_records.specs.Texts.{IsChecked};
 ghost use Rattle.fbl_runs.specs.Clocks.{StandsAt};
 ghost use Rattle.fbl_runs.specs.Entries.{log_of};
@@ -127,7 +127,7 @@ fn taken_by(pasts: &Pasts<'_>, place: usize) -> Option<usize>
 
 /// For each place, whether a receipt that stands at the end takes the message that is sent there.
 fn taken_at_end(alloc: Global, pasts: &Pasts<'_>) -> Result<Vec<bool>, AllocError>
-    ensures { IfOk result (λ v. AreTaken pasts.now.entries v.items) }
+    ensures { IfOk result (λ v. AreTakenAtEnd pasts.now.entries v.items) }
 {
     let count = pasts.entries().len();
     let mut taken = vec![in alloc; false; count]?;
@@ -149,7 +149,7 @@ fn is_send(entry: &Entry) -> bool
 /// Whether the entry at the place sends a message that is in flight at the end.
 fn is_in_flight(pasts: &Pasts<'_>, taken: &[bool], place: usize) -> bool
     requires place { place < length pasts.now.entries }
-    requires taken { AreTaken pasts.now.entries taken.now }
+    requires taken { AreTakenAtEnd pasts.now.entries taken.now }
     ensures { (i : Position) → StandsAt pasts.now.entries place i
         → (result ≡ true) ↔ IsInFlight (log_of pasts.now.entries) i }
 {

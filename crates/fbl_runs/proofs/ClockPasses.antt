@@ -1,6 +1,6 @@
 -- A pass over the entries keeps their clocks.
-use Rattle.fbl_runs.proofs.Common.{ℕ, zero, suc, true, false, cond, ◌≡◌, ◌==◌, ◌<◌, ◌≤◌, ◌+◌, ◌++◌, ◌↔◌, inl, inr, List, [], ◌∷◌, length, max, Option, Some, None, slice_get, refl, sym, ap, subst, ◌∙◌, arith}
-use Rattle.fbl_runs.proofs.Common.{nat_tests, cases_eq, cases_lt, At-push, length-append, length-take, slice_get_within, take}
+use Rattle.fbl_runs.proofs.Common.{ℕ, zero, suc, cond, ◌≡◌, ◌==◌, ◌<◌, ◌≤◌, ◌+◌, ◌++◌, ◌↔◌, inl, inr, List, [], ◌∷◌, length, max, Option, Some, None, slice_get, refl, sym, ap, subst, ◌∙◌, arith}
+use Rattle.fbl_runs.proofs.Common.{nat_tests, cases_eq, cases_lt, At-push, length-append, slice_get_within}
 use Rattle.fbl_runs.proofs.Common.{Causality, Cut, Dependence, Entry, HappenedBefore, Position, Precedes, at, entry_member, log_of}
 use Rattle.fbl_runs.specs.declared.clock.Clock.{Clock}
 use Rattle.fbl_runs.specs.declared.clocks.Clocks.{Clocks}
@@ -11,19 +11,7 @@ use Rattle.fbl_runs.specs.Links.{AreLinks}
 use Rattle.fbl_runs.specs.Precedence.{AreBelow, AreClocks, HasColumn, HasSeen, IsAmong, IsBelow, IsClock, IsEntryClock, IsJoined, IsPast, IsSourceClock, Shares, arrival_at, arrival_in, column, cut_in, kept_cut, reached_cut, sources_of}
 use Rattle.fbl_runs.proofs.ClockLaws.{before_among, clock_joined}
 use Rattle.fbl_runs.proofs.LeadsLaws.{one_position}
-use Rattle.fbl_runs.proofs.Listing.{stands_at}
-
--- no more entries of a member are seen than there are
-pub seen-le : (entries : List Entry) (p m : ℕ) → seen entries p m ≤ p
-seen-le entries p m = (let fewer = filtered (take p entries) m in omega (arith, fewer, length-take p entries)) where
-  filtered : (t : List Entry) (m : ℕ) → length (log_of t m) ≤ length t
-  filtered [] m = omega arith
-  filtered (e ∷ t) m = (let rest = filtered t m in elim (entry_member e == m) as (λ b. length (cond b (e ∷ log_of t m) (log_of t m)) ≤ suc (length t)) [ true ↦ omega (arith, rest) | false ↦ omega (arith, rest) ])
-
-pub some_item : {X : Type 0} (xs : List X) (p : ℕ) → p < length xs → (x : X) × (slice_get xs p ≡ Some x)
-some_item [] p below = absurd (omega (arith, below))
-some_item (x ∷ xs) zero below = (x, refl)
-some_item (x ∷ xs) (suc p) below = some_item xs p (omega (arith, below))
+use Rattle.fbl_runs.proofs.Listing.{seen-le, some_item, stands_at}
 
 -- a clock by the same cut in other words
 pub same_clock : (c : Causality) (entries : List Entry) (links : List Link) (j : Position) (cut other : Cut) → ((q : ℕ) → other q ≡ cut q) → IsClock c entries links j cut → IsClock c entries links j other
@@ -109,17 +97,6 @@ module _ (c : Causality) (entries : List Entry) (links : List Link) (are : AreLi
     arrivals = ap length arrivals ∙ length-append old.arrivals.items (arrival ∷ []) ∙ (let count = has.arrivals in omega (arith, count));
     each = each_next;
   }
-
--- before the first entry
-pub seen_none : (c : Causality) (entries : List Entry) (links : List Link) (clocks : Clocks) → clocks.causality ≡ c → clocks.columns.items ≡ [] → clocks.arrivals.items ≡ []
-    → HasSeen c entries links 0 clocks
-seen_none c entries links clocks causality columns arrivals = record {
-  causality = causality;
-  within = omega arith;
-  columns = ap length columns;
-  arrivals = ap length arrivals;
-  each = λ place j k o stands at_k at_o. absurd (let none : None ≡ Some k = sym (ap (λ xs. slice_get xs place) columns) ∙ at_k in cc);
-}
 
 -- ---- what a pass knows
 

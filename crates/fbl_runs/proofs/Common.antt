@@ -12,7 +12,7 @@ pub use Rattle.fbl_runs.specs.declared.causality.Causality.TheVariants.{Dependen
 pub use Rattle.fbl_runs.specs.declared.control.ControlMessage.{ControlMessage}
 pub use Rattle.fbl_runs.specs.declared.entry.Entry.{Entry}
 pub use Rattle.fbl_runs.specs.declared.entry.Entry.TheVariants.{Event, Hold, LaterReceipt, Restart, Store, Tell, Told}
-pub use Rattle.fbl_runs.specs.Entries.{IsArrival, IsRecord, Logs, entry_member, is_at, log_of, mark_in, marks, named_life, receipt_in, recorded_in, restart_in}
+pub use Rattle.fbl_runs.specs.Entries.{IsRecord, Logs, entry_member, is_at, log_of, mark_in, marks, named_life, receipt_in, recorded_in, restart_in}
 pub use Rattle.fbl_runs.specs.HappenedBefore.{Begins, Carries, IsAt, IsEarlier, Leads, Position, Precedes, StoodBefore, Tells, at, itself, step}
 pub use Rattle.fbl_runs.specs.Lives.{StandsBehind, StandsInLife, life_in, standing}
-pub use Rattle.fbl_runs.specs.Moments.{Cut, HasCome, HoldsAt, IsKnownTo, IsReceiptAt, IsStoredAt, Stands}
+pub use Rattle.fbl_runs.specs.Moments.{Cut, IsKnownTo, IsReceiptAt}

@@ -1,6 +1,6 @@
 -- What leads to an entry stands before it in the list, and what its message comes from is one entry.
 use Rattle.fbl_runs.proofs.Common.{ℕ, ◌≡◌, ◌<◌, ◌≤◌, ◌+◌, inl, inr, List, ◌++◌, length, take, drop, Some, None, slice_get, refl, sym, ap, subst, ◌∙◌, arith}
-use Rattle.fbl_runs.proofs.Common.{cases_lt, cases_order, length-append, length-take, slice_get_within, slice_get-take, take-append-drop, filter-append}
+use Rattle.fbl_runs.proofs.Common.{cases_lt, cases_order, length-take, slice_get_within, slice_get-take, take-append-drop, filter-append}
 use Rattle.fbl_runs.proofs.Common.{Mark, Send, Receipt, Determinant, Entry, Event, Hold, LaterReceipt, Restart, Store, Tell, Told, mark_in, named_life, send_of}
 use Rattle.fbl_runs.proofs.Common.{Causality, Dependence, HappenedBefore, Begins, Carries, IsAt, IsEarlier, Leads, Position, Precedes, Tells, at, itself, step, entry_member, is_at, log_of}
 use Rattle.std.proofs.lemmas.List.{take-take, take_at}
@@ -65,12 +65,6 @@ log_of_front entries p m =
     let front = log_of (take p entries) m in
     let whole : log_of entries m ≡ front ++ log_of (drop p entries) m = ap (λ t. log_of t m) (sym (take-append-drop p entries)) ∙ filter-append (is_at m) (take p entries) (drop p entries) in
     sym (ap (take (length front)) whole ∙ take_at front (log_of (drop p entries) m) (length front) refl)
-
-pub seen_within : (entries : List Entry) (p m : ℕ) → seen entries p m ≤ length (log_of entries m)
-seen_within entries p m =
-    let front = log_of (take p entries) m in
-    let whole : log_of entries m ≡ front ++ log_of (drop p entries) m = ap (λ t. log_of t m) (sym (take-append-drop p entries)) ∙ filter-append (is_at m) (take p entries) (drop p entries) in
-    omega (arith, ap length whole, length-append front (log_of (drop p entries) m))
 
 -- ---- in a front of a log
 

@@ -1,7 +1,7 @@
 -- Which entries stand behind which, in one member's log.
 use Rattle.fbl_runs.proofs.Common.{ℕ, zero, suc, ◌≡◌, ◌≢◌, ◌<◌, ◌≤◌, ◌+◌, ◌⊎◌, ◌↔◌, inl, inr, List, [], ◌∷◌, ◌++◌, length, take, drop, Option, Some, None, slice_get, refl, sym, ap, subst, ◌∙◌, arith, add-one}
 use Rattle.std.proofs.Common.{◌-◌}
-use Rattle.fbl_runs.proofs.Common.{cases_eq, cases_lt, cases_order, length-take, slice_get_within, slice_get_read, At-front, At-push, At-seam, slice_get-take, take-more, take-append-drop}
+use Rattle.fbl_runs.proofs.Common.{cases_eq, cases_lt, cases_order, length-take, slice_get_within, slice_get_read, At-front, At-push, At-seam, take-more, take-append-drop}
 use Rattle.fbl_runs.proofs.Common.{Mark, Entry, Event, Hold, LaterReceipt, Restart, Store, Tell, Told, mark_in, restart_in}
 use Rattle.fbl_trace.proofs.Common.{Contains, get_or_from_slice_get}
 use Rattle.fbl_runs.specs.declared.entry.Restart as restart
@@ -79,10 +79,6 @@ take-none (e ∷ log) (suc x) none = ap (λ t. e ∷ t) (take-none log x none)
 -- the entry with the number is an event
 abbrev pub IsEventAt : List Entry → ℕ → Type 0
 IsEventAt log k = (e : Entry) × (m : Mark) × (slice_get log k ≡ Some e) × (mark_in e ≡ Some m)
-
--- each restart from number a to number b keeps the entry
-abbrev pub IsKept : List Entry → ℕ → ℕ → ℕ → Type 0
-IsKept log k a b = (number : ℕ) (r : restart.Restart) → a < number → number < b → slice_get log number ≡ Some (Restart r) → Contains (standing (take (number + 1) log)) k
 
 -- what stands stood earlier
 pub StandsBehind-earlier : (log : List Entry) (k x y : ℕ) → StandsBehind log k x → k < y → y ≤ x → StandsBehind log k y
@@ -213,9 +209,6 @@ are_standing log (suc x) = standing_next log x (are_standing log x) (slice_get l
 pub standing_stands : (log : List Entry) (x k : ℕ) → Contains (standing (take x log)) k → IsEventAt log k × StandsBehind log k x
 standing_stands log x k has = (are_standing log x k).0 (in_from_contains (standing (take x log)) k has)
 
-pub stands_standing : (log : List Entry) (x k : ℕ) → IsEventAt log k → StandsBehind log k x → Contains (standing (take x log)) k
-stands_standing log x k event stands = contains_from_in (standing (take x log)) k ((are_standing log x k).1 (event, stands))
-
 -- ---- the numbers rise
 
 abbrev pub Rises : List ℕ → Type 0
@@ -260,19 +253,6 @@ kept_together log i j number before at_i at_j =
     let w : j < number + 1 = (standing_stands log (number + 1) j at_j).1.0 in
     stood_when_came log i j (number + 1) before w (standing_stands log (number + 1) i at_i).1
 
--- what rises up to a number that is kept is kept
-in_front : (n : ℕ) (xs : List ℕ) (a b : ℕ) → Rises xs → IsIn xs a → IsIn (take n xs) b → a < b → IsIn (take n xs) a
-in_front n xs a b rises at_a at_b before =
-    let there = get_from_take n xs at_b.0 b at_b.1 in
-    let within : at_b.0 < n = within_take n xs at_b.0 b at_b.1 in
-    elim (cases_order at_a.0 at_b.0) [
-      | inl same ↦ absurd (
-          let here : slice_get xs at_b.0 ≡ Some a = subst (λ (i : ℕ). slice_get xs i ≡ Some a) same at_a.1 in
-          let equal : a ≡ b = (let some : Some a ≡ Some b = sym here ∙ there in cc) in omega (arith, equal, before))
-      | inr (inl below) ↦ (at_a.0, slice_get-take xs n at_a.0 a (omega (arith, below, within)) at_a.1)
-      | inr (inr above) ↦ absurd (let wrong = rises at_b.0 at_a.0 b a above there at_a.1 in omega (arith, wrong, before))
-    ]
-
 -- it stands behind one entry more, if that is no restart or keeps it
 pub StandsBehind-next : (log : List Entry) (k x : ℕ) → StandsBehind log k x → ((r : restart.Restart) → slice_get log x ≡ Some (Restart r) → Contains (standing (take (x + 1) log)) k) → StandsBehind log k (x + 1)
 StandsBehind-next log k x stands kept = (
@@ -282,37 +262,6 @@ StandsBehind-next log k x stands kept = (
     | inr ne ↦ stands.1 number r past (omega (arith, below, ne)) is
   ],
 )
-
--- an event that stood when another entry came stands as long as that one
-module _ (log : List Entry) (i j : ℕ) (event : IsEventAt log i) (before : i < j) (stood : StandsBehind log i (j + 1)) where
-  stands_step : (x : ℕ) → j < x → StandsBehind log i x → StandsBehind log j (x + 1) → StandsBehind log i (x + 1)
-  stands_step x past stands other = StandsBehind-next log i x stands (λ r here. (
-      let kept : standing (take (suc x) log) ≡ take (r.receipts + r.sends) (standing (take x log)) = standing-more log x (Restart r) here in
-      let with : Contains (standing (take (x + 1) log)) j = other.1 x r past (omega arith) here in
-      let with' : IsIn (standing (take (suc x) log)) j = in_from_contains (standing (take (suc x) log)) j (rw add-one at with) in
-      let front : IsIn (take (r.receipts + r.sends) (standing (take x log))) j = (with'.0, sym (ap (λ s. slice_get s with'.0) kept) ∙ with'.1) in
-      let here_i = (are_standing log x i).1 (event, stands) in
-      let found = in_front (r.receipts + r.sends) (standing (take x log)) i j (standing_rises log x) here_i front before in
-      let now : IsIn (standing (take (suc x) log)) i = (found.0, ap (λ s. slice_get s found.0) kept ∙ found.1) in
-      (rw add-one (contains_from_in (standing (take (suc x) log)) i now))))
-
-  stands_by : (d : ℕ) → StandsBehind log j ((j + 1) + d) → StandsBehind log i ((j + 1) + d)
-  stands_by zero stands = (let same : (j + 1) + 0 ≡ j + 1 = omega arith in (rw same stood))
-  stands_by (suc d) stands =
-      let x = (j + 1) + d in
-      let same : (j + 1) + suc d ≡ x + 1 = omega arith in
-      let now : StandsBehind log j (x + 1) = (rw same at stands) in
-      let earlier = StandsBehind-earlier log j (x + 1) x now (omega arith) (omega arith) in
-      (rw same (stands_step x (omega arith) (stands_by d earlier) now))
-
-  pub stands_as_long : (x : ℕ) → StandsBehind log j x → StandsBehind log i x
-  stands_as_long x stands = elim (cases_lt j x) [
-    | inl past ↦
-        let d = x - (j + 1) in
-        let same : (j + 1) + d ≡ x = omega (arith, past) in
-        (rw same at (stands_by d (rw same stands)))
-    | inr within ↦ absurd (let s = stands.0 in omega (arith, s, within))
-  ]
 
 -- an entry is undone once
 undone_before : (log : List Entry) (k a b : ℕ) → IsUndoneBy log k a → IsUndoneBy log k b → a < b → ⊥

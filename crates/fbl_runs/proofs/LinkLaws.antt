@@ -8,7 +8,7 @@ use Rattle.fbl_runs.specs.Clocks.{StandsAt, seen}
 use Rattle.fbl_runs.specs.Links.{AreChanged, AreOfOneLife, IsLastPlace, IsMessageOf, IsPlaceOf, IsPlaceOfEvent, undone_at}
 use Rattle.fbl_runs.specs.Lives.{IsUndoneBy, StandsBehind, life_in, standing}
 use Rattle.fbl_runs.specs.Rules.{AreLawful}
-use Rattle.fbl_runs.proofs.LifeLaws.{IsIn, StandsBehind-earlier, StandsBehind-itself, StandsBehind-kept, StandsBehind-later, contains_from_in, in_from_contains, kept_together, none_within_life, standing_rises, standing_stands, undone_once}
+use Rattle.fbl_runs.proofs.LifeLaws.{IsIn, StandsBehind-earlier, StandsBehind-itself, StandsBehind-later, contains_from_in, in_from_contains, kept_together, none_within_life, standing_rises, standing_stands, undone_once}
 use Rattle.std.proofs.Common.{set, length-set, ◌-◌}
 use Rattle.std.specs.Option.{option_or}
 use Rattle.fbl_runs.proofs.Common.{At-front, At-push, At-seam, take-more}
@@ -124,9 +124,6 @@ module _ (n : ℕ) (entries : List Entry) (lawful : AreLawful n entries) (j : Po
   is_here : (x : Entry) → IsAt (log_of entries) j x → e ≡ x
   is_here x is = (let some : Some e ≡ Some x = sym here ∙ is in cc)
 
-  told_no_mark : (m : ControlMessage) → e ≡ Told m → mark_in e ≡ None
-  told_no_mark m is = ap mark_in is
-
   pub carried_place : (place : ℕ) (i : Position) → StandsAt entries place i → Carries (log_of entries) i j → IsPlaceOf entries (IsMessageOf (log_of entries) j) (Some place)
   carried_place place i stands carries = (
     i,
@@ -210,10 +207,6 @@ module _ (entries : List Entry) (p : ℕ) (e : Entry) (here : slice_get entries 
         let entry : e ≡ Restart r = (let some : Some e ≡ Some (Restart r) = sym at_p ∙ there in cc) in
         let wrong : None ≡ Some r = sym none ∙ ap restart_in entry in cc)))
     undone_next (Some place) none is = is
-
-    -- a restart that keeps it
-    pub undone_kept : IsUndoneSoFar entries p j None → IsIn (standing (take (seen entries p j.member + 1) (log_of entries j.member))) j.number → IsUndoneSoFar entries (suc p) j None
-    undone_kept stands kept = subst (StandsBehind (log_of entries j.member) j.number) (sym more) (StandsBehind-kept (log_of entries j.member) j.number (seen entries p j.member) stands (contains_from_in (standing (take (seen entries p j.member + 1) (log_of entries j.member))) j.number kept))
 
     -- and one that does not
     pub undone_now : (r : restart.Restart) → e ≡ Restart r → IsUndoneSoFar entries p j None → ¬ (IsIn (standing (take (seen entries p j.member + 1) (log_of entries j.member))) j.number) → IsUndoneSoFar entries (suc p) j (Some p)

@@ -1,10 +1,15 @@
 -- Where the entries of a list stand in the members' logs.
 use Rattle.fbl_runs.proofs.Common.{ℕ, zero, suc, true, false, cond, ◌≡◌, ◌≢◌, ◌==◌, ◌<◌, ◌≤◌, ◌+◌, inl, inr, List, [], ◌∷◌, ◌++◌, length, take, drop, Some, slice_get}
-use Rattle.fbl_runs.proofs.Common.{refl, sym, ap, subst, ◌∙◌, arith, nat_tests, cases_eq, append-nil, length-append, filter-append}
+use Rattle.fbl_runs.proofs.Common.{refl, sym, ap, subst, ◌∙◌, arith, nat_tests, cases_eq, append-nil, length-append, length-take, filter-append}
 use Rattle.fbl_runs.proofs.Common.{At-front, At-seam, slice_get-take, slice_get_within, take-more, take-append-drop, take_all}
 use Rattle.fbl_runs.proofs.Common.{Entry, entry_member, is_at, log_of, IsAt, Position, at}
 use Rattle.std.proofs.lemmas.List.{take-take}
 use Rattle.fbl_runs.specs.Clocks.{StandsAt, seen}
+
+pub some_item : {X : Type 0} (xs : List X) (p : ℕ) → p < length xs → (x : X) × (slice_get xs p ≡ Some x)
+some_item [] p below = absurd (omega (arith, below))
+some_item (x ∷ xs) zero below = (x, refl)
+some_item (x ∷ xs) (suc p) below = some_item xs p (omega (arith, below))
 
 pub log_of-own : (t : List Entry) (e : Entry) (m : ℕ) → entry_member e ≡ m → log_of (t ++ e ∷ []) m ≡ log_of t m ++ e ∷ []
 log_of-own t e m own = (let is : (entry_member e == m) ≡ true = grind (arith, nat_tests) in filter-append (is_at m) t (e ∷ []) ∙ (rw is refl))
@@ -17,6 +22,13 @@ seen-own entries p e m here own = (rw (take-more entries p e here, log_of-own (t
 
 pub seen-other : (entries : List Entry) (p : ℕ) (e : Entry) (m : ℕ) → slice_get entries p ≡ Some e → entry_member e ≢ m → seen entries (suc p) m ≡ seen entries p m
 seen-other entries p e m here other = (rw (take-more entries p e here, log_of-other (take p entries) e m other) refl)
+
+-- no more entries of a member are among the first p than p
+pub seen-le : (entries : List Entry) (p m : ℕ) → seen entries p m ≤ p
+seen-le entries p m = (let fewer = filtered (take p entries) m in omega (arith, fewer, length-take p entries)) where
+  filtered : (t : List Entry) (m : ℕ) → length (log_of t m) ≤ length t
+  filtered [] m = omega arith
+  filtered (e ∷ t) m = (let rest = filtered t m in elim (entry_member e == m) as (λ b. length (cond b (e ∷ log_of t m) (log_of t m)) ≤ suc (length t)) [ true ↦ omega (arith, rest) | false ↦ omega (arith, rest) ])
 
 -- an entry stands in its member's log behind those of the member that come before it
 pub placed : (entries : List Entry) (p : ℕ) (e : Entry) (m : ℕ) → slice_get entries p ≡ Some e → entry_member e ≡ m → IsAt (log_of entries) (at m (seen entries p m)) e

@@ -1,5 +1,5 @@
 -- The links of the entries that have come, behind one entry more.
-use Rattle.fbl_runs.proofs.Common.{ℕ, zero, suc, ◌≡◌, ◌≢◌, ◌<◌, ◌≤◌, ◌+◌, ◌⊎◌, inl, inr, List, [], ◌∷◌, ◌++◌, length, take, Option, Some, None, slice_get, refl, sym, ap, subst, ◌∙◌, arith, add-one}
+use Rattle.fbl_runs.proofs.Common.{ℕ, suc, ◌≡◌, ◌≢◌, ◌<◌, ◌≤◌, ◌+◌, ◌⊎◌, inl, inr, List, [], ◌∷◌, ◌++◌, length, take, Option, Some, None, slice_get, refl, sym, ap, subst, ◌∙◌, arith, add-one}
 use Rattle.fbl_runs.proofs.Common.{At-push, cases_eq, length-append, slice_get_within, slice_get-take, take-more, take_all}
 use Rattle.fbl_runs.proofs.Common.{Entry, Restart, entry_member, log_of, restart_in, Position, at}
 use Rattle.std.proofs.lemmas.List.{take-take}
@@ -19,7 +19,7 @@ use Rattle.fbl_runs.specs.Rules.{AreLawful}
 use Rattle.fbl_runs.proofs.LeadsLaws.{here_stands, log_of_front, one_place_of}
 use Rattle.fbl_runs.proofs.LifeLaws.{IsIn, contains_from_in, in_from_contains, length-front, standing_stands}
 use Rattle.fbl_runs.proofs.LinkLaws.{IsUndoneSoFar, one_life, undone_all, undone_new, undone_next, undone_now, undone_other}
-use Rattle.fbl_runs.proofs.Listing.{seen-all, seen-own, some_entry, stands_at}
+use Rattle.fbl_runs.proofs.Listing.{seen-all, seen-own, some_entry, some_item, stands_at}
 use Rattle.fbl_runs.proofs.NewLinkLaws.{stands_whole}
 
 -- each of the first entries has its link, in which what undoes it so far is noted
@@ -64,11 +64,6 @@ pub has_entry : (entries : List Entry) (place : ℕ) (e : Entry) → slice_get e
 has_entry entries place e here =
     let more : seen entries (place + 1) (entry_member e) ≡ seen entries place (entry_member e) + 1 = ap (λ x. seen entries x (entry_member e)) (add-one place) ∙ seen-own entries place e (entry_member e) here refl in
     omega (arith, more)
-
-some_item : {X : Type 0} (xs : List X) (i : ℕ) → i < length xs → (x : X) × (slice_get xs i ≡ Some x)
-some_item [] i below = absurd (omega (arith, below))
-some_item (x ∷ xs) zero below = (x, refl)
-some_item (x ∷ xs) (suc i) below = some_item xs i (omega (arith, below))
 
 module _ (n : ℕ) (entries : List Entry) (lawful : AreLawful n entries) (place : ℕ) (e : Entry) (here : slice_get entries place ≡ Some e) (lives lives' : Lives) (links : List Link)
     (old : HasLinks entries place lives links) (has : HasLived (take (place + 1) entries) lives')

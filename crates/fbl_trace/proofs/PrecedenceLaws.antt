@@ -82,10 +82,6 @@ pub Precedes-filter : (p : Mark → Bool) (t : List Mark) {a b : Mark} → Prece
 Precedes-filter p t {a} (itself h) = itself (Has-filter p t a h)
 Precedes-filter p t (step {b} {c} path l) = step (Precedes-filter p t path) (Apart-filter p t b c l.0, l.1)
 
-pub Precedes-joined : {t : List Mark} {i j k : ℕ} → PlacePrecedes t i j → PlacePrecedes t j k → PlacePrecedes t i k
-Precedes-joined p (same_place h) = p
-Precedes-joined p (place_step q s) = place_step (Precedes-joined p q) s
-
 -- what no place has after another has it has one place
 pub one_of : (P : ℕ → Type 0) → ((i j : ℕ) → P i → P j → ¬ (i < j)) → (i j : ℕ) → P i → P j → i ≡ j
 one_of P apart i j at_i at_j = grind arith

@@ -1,7 +1,7 @@
-use Rattle.fbl_judge.proofs.Common.{arith, ℕ, ◌≡◌, ◌==◌, ◌∙◌, eqb-true, eqb-self, inl, inr, Some, cases_eq, sym, ap, subst, false≢true, refl, slice_get, slice_get_within, at, StandsAt, Position}
+use Rattle.fbl_judge.proofs.Common.{arith, ℕ, ◌≡◌, ◌==◌, ◌∙◌, eqb-true, eqb-self, inl, inr, cases_eq, sym, ap, subst, false≢true, refl, slice_get, slice_get_within, at, StandsAt, Position}
 use Rattle.std.proofs.lemmas.Option.{slice_get-get_or}
 use Rattle.fbl_judge.proofs.Places.{member_is, read_at}
-use Rattle.fbl_judge.proofs.Restarts.{none_restarted, own_restart}
+use Rattle.fbl_judge.proofs.Restarts.{none_restarted, own_restart, some_is}
 use Rattle.fbl_judge.proofs.named.has_restarted.Goals as goal
 
 pub returns-then-eq : goal.returns-then-eq
@@ -27,9 +27,7 @@ loop-place-preserved c k place r below at_k stands own = elim (cases_eq k c.loop
       let member : c.member.result ≡ c.args.member = c.member.ensures ∙ member_is es _ c.index-entries-place.result r here at_r ∙ own in
       false≢true (sym c.if-eq.false ∙ c.eq.ensures ∙ ap (λ (m : ℕ). m == c.args.member) member ∙ eqb-self c.args.member)
   | inr ne ↦ c.loop-place.invariant k place r (omega (arith, below, ne)) at_k stands own
-] where
-  some_is : {a b : ℕ} → Some a ≡ Some b → a ≡ b
-  some_is same = cc
+]
 
 pub returns : goal.returns
 returns c = (

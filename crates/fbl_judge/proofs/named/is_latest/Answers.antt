@@ -1,8 +1,8 @@
-use Rattle.fbl_judge.proofs.Common.{arith, ℕ, ◌≡◌, ◌∙◌, inl, inr, Some, cases_eq, sym, ap, subst, false≢true, refl, slice_get, slice_get_within, StandsAt}
+use Rattle.fbl_judge.proofs.Common.{arith, ℕ, ◌∙◌, inl, inr, cases_eq, sym, ap, subst, false≢true, refl, slice_get, slice_get_within, StandsAt}
 use Rattle.std.proofs.lemmas.Option.{slice_get-get_or}
 use Rattle.fbl_runs.proofs.LeadsLaws.{one_position}
 use Rattle.fbl_judge.proofs.Places.{one_place, position_at}
-use Rattle.fbl_judge.proofs.Restarts.{restart_at, restart_place}
+use Rattle.fbl_judge.proofs.Restarts.{restart_at, restart_place, some_is}
 use Rattle.fbl_judge.proofs.named.is_latest.Goals as goal
 use Rattle.fbl_judge.proofs.named.is_latest.Goals.{else-other-restart-via-then-other-restart+then-has_come+else-precedes, else-other-restart-via-then-other-restart+else-has_come, else-other-restart-via-else-other-restart}
 
@@ -34,9 +34,7 @@ loop-other-preserved c r other k place at_r below at_k stands come path = elim (
         | else-other-restart-via-else-other-restart w ↦ one_position c.args.pasts.now.entries c.args.restart other r (subst (λ (p : ℕ). StandsAt c.args.pasts.now.entries p other) w.if-other-restart.false own) at_r
       ]
   | inr ne ↦ c.loop-other.invariant r other k place at_r (omega (arith, below, ne)) at_k stands come path
-] where
-  some_is : {a b : ℕ} → Some a ≡ Some b → a ≡ b
-  some_is same = cc
+]
 
 pub returns : goal.returns
 returns c r at_r = (

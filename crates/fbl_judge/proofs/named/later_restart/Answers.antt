@@ -1,7 +1,7 @@
-use Rattle.fbl_judge.proofs.Common.{arith, ℕ, ◌≡◌, ◌∙◌, inl, inr, Some, cases_eq, sym, ap, subst, false≢true, slice_get, slice_get_within, StandsAt}
+use Rattle.fbl_judge.proofs.Common.{arith, ℕ, ◌∙◌, inl, inr, cases_eq, sym, ap, subst, false≢true, slice_get, slice_get_within, StandsAt}
 use Rattle.std.proofs.lemmas.Option.{slice_get-get_or}
 use Rattle.fbl_judge.proofs.Places.{position_at}
-use Rattle.fbl_judge.proofs.Restarts.{restart_at, restart_place}
+use Rattle.fbl_judge.proofs.Restarts.{restart_at, restart_place, some_is}
 use Rattle.fbl_judge.proofs.named.later_restart.Goals as goal
 use Rattle.fbl_judge.proofs.named.later_restart.Goals.{else-has_come-via-then-has_come+else-not-precedes, else-has_come-via-else-has_come}
 
@@ -30,9 +30,7 @@ loop-restart-preserved c j r k place at_j below at_k stands come = elim (cases_e
         | else-has_come-via-else-has_come w ↦ absurd (false≢true (sym w.if-has_come.false ∙ (c.has_come.ensures r own).1 come))
       ]
   | inr ne ↦ c.loop-restart.invariant j r k place at_j (omega (arith, below, ne)) at_k stands come
-] where
-  some_is : {a b : ℕ} → Some a ≡ Some b → a ≡ b
-  some_is same = cc
+]
 
 pub returns : goal.returns
 returns c j at_j r come =

@@ -2,7 +2,7 @@ use Rattle.fbl_records.proofs.Common.{◌<◌, ◌∙◌, None, Some, length, ar
 use Rattle.std.proofs.lemmas.Option.{slice_get-get_or}
 use Rattle.fbl_judge.proofs.Places.{member_is, position_at, read_at}
 use Rattle.fbl_records.proofs.OverviewLaws.{earliest_first, earliest_least, some_at}
-use Rattle.fbl_records.specs.Overviews.{IsOfMember}
+use Rattle.fbl_records.specs.Overviews.{IsEntryOf}
 use Rattle.fbl_records.proofs.overview.keep_earliest.Goals as goal
 use Rattle.fbl_records.proofs.overview.keep_earliest.Goals.{in-Some, in-None}
 
@@ -15,7 +15,7 @@ returns c places are =
     let n = c.number-number.result in
     let i = position_at es place c.requires in
     let member = member_is es place e i.0 (read_at es es place e refl c.requires c.index-entries-place.is) i.1 in
-    let own : IsOfMember es n place = (i.0, i.1, sym (c.number-number.ensures.value ∙ c.member.ensures ∙ member)) in
+    let own : IsEntryOf es n place = (i.0, i.1, sym (c.number-number.ensures.value ∙ c.member.ensures ∙ member)) in
     let within : n < length old = (let room = c.told-earliest in let bound = c.number-number.ensures.bound in omega (arith, room, bound)) in
     elim c.match-earliest-number.branch [
       | in-Some w ↦

@@ -8,7 +8,7 @@ use Rattle.fbl_runs.specs.Rules.{AreLawful, FollowsAt, IsFirstLifeFault}
 use Rattle.fbl_runs.proofs.RuleLaws.{first_life_breach}
 use Rattle.fbl_runs.proofs.RunLaws.{breach_by, first_bad_breach, is_log, lawful_lives, refuses_by, rules_by}
 use Rattle.fbl_runs.proofs.lawful.lived_refusal.Goals as goal
-use Rattle.fbl_runs.proofs.lawful.lived_refusal.Goals.{In-Ok-None, In-None}
+use Rattle.fbl_runs.proofs.lawful.lived_refusal.Goals.{In-Ok-None}
 
 pub returns-in-Ok-Some-clause-log : goal.returns-in-Ok-Some-clause-log
 returns-in-Ok-Some-clause-log c =

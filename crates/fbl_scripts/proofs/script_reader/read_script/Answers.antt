@@ -1,4 +1,4 @@
-use Rattle.fbl_scripts.proofs.Common.{refl, sym, None, IfSome, BreaksScript, IsNoScript, IsRequestOf, IsScriptOf, RefusesScript, outline, outline_of}
+use Rattle.fbl_scripts.proofs.Common.{refl, sym, None, IfSome, BreaksScript, IsNoScript, IsRequestOf, RefusesScript, outline_of}
 use Rattle.std.proofs.lemmas.Option.{IfSome_then}
 use Rattle.fbl_input.specs.declared.input_kind.InputKind.TheVariants.{Script}
 use Rattle.fbl_input.proofs.Unread.{is_passed, misread, of_bytes, refused_known, unread}

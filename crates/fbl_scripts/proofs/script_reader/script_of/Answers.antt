@@ -1,4 +1,4 @@
-use Rattle.fbl_scripts.proofs.Common.{Breach, ◌≡◌, inr, refl, Ok, Some, Result, ℕ, List, IsFirstFault, RunFault, Outline, RefusesScript, BreaksScript, IsNoScript, outline_of_input}
+use Rattle.fbl_scripts.proofs.Common.{Breach, ◌≡◌, inr, refl, Ok, Some, ℕ, List, Outline, IsNoScript, outline_of_input}
 use Rattle.std.specs.Prelude.{Vec}
 use Rattle.std.specs.declared.alloc.Global.{Global}
 use Rattle.fbl_trace.specs.Breaches.{IsConfigBreach}

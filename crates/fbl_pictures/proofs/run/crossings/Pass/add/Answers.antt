@@ -1,5 +1,5 @@
 use Rattle.fbl_pictures.proofs.Common.{ℕ, ◌+◌, ◌==◌, ◌<◌, ◌≤◌, ◌≡◌, ◌∙◌, None, Some, ap, arith, column_in, cond, false≢true, get_or, is_some, not, slice_get, slice_get-get_or, subst, sym, set, entry_member, cut_of, IsBeyond, IsEnd, seen}
-use Rattle.fbl_pictures.proofs.Crossing.{seen-le}
+use Rattle.fbl_runs.proofs.Listing.{seen-le}
 use Rattle.fbl_pictures.proofs.Crossing.{beyond_kept, beyond_set, end_come, end_kept, pass_more, is_none}
 use Rattle.fbl_pictures.specs.declared.run.crossings.Pass.{Pass}
 use Rattle.fbl_pictures.proofs.run.crossings.Pass.add.Goals as goal
