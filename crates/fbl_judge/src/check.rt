@@ -265,7 +265,7 @@ fn replaces(next: &Option<Candidate>, first: &Option<Candidate>) -> bool
 
 /// Whether it is a candidate with none but these members struck.
 fn is_struck_within(candidate: &Option<Candidate>, least: MemberSet) -> bool
-    ensures { result ≡ true → IsStruckWithin least candidate.now }
+    ensures { (result ≡ true) ↔ IsStruckWithin least candidate.now }
 {
     match candidate {
         Some(candidate) => candidate.strike.without(least).is_empty(),

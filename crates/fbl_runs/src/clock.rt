@@ -38,32 +38,39 @@ impl Clock {
         self.counts[member.number() as usize]
     }
 
+    /// Has what is in the other come too.
+    pub(crate) fn join(&mut self, other: &Clock)
+        ensures { (q : ℕ) → cut_of self.new q ≡ max (cut_of self.old q) (cut_of other.now q) }
+    {
+        for number in 0..24usize {
+            self.counts[number] = self.counts[number].max(other.counts[number]);
+        }
+    }
+
+    /// Has so many first entries of what has the number come too.
+    pub(crate) fn reach(&mut self, number: u8, count: usize)
+        requires { number < 24 }
+        ensures { (q : ℕ) → cut_of self.new q ≡ max (cut_of self.old q) (if q == number then count else 0) }
+    {
+        let at = number as usize;
+        self.counts[at] = self.counts[at].max(count);
+    }
+
     /// The clock at which what is in either has come.
     pub fn joined(self, other: &Clock) -> Clock
         ensures { (q : ℕ) → cut_of result q ≡ max (cut_of self q) (cut_of other.now q) }
     {
-        let mut counts = self.counts;
-        for number in 0..24usize {
-            counts[number] = counts[number].max(other.counts[number]);
-        }
-        Clock { counts }
-    }
-
-    /// The clock at which also so many first entries of what has the number have come.
-    pub(crate) fn reaching_at(self, number: u8, count: usize) -> Clock
-        requires { number < 24 }
-        ensures { (q : ℕ) → cut_of result q ≡ max (cut_of self q) (if q == number then count else 0) }
-    {
-        let mut counts = self.counts;
-        let at = number as usize;
-        counts[at] = counts[at].max(count);
-        Clock { counts }
+        let mut both = self;
+        both.join(other);
+        both
     }
 
     /// The clock at which also so many of the member's first entries have come.
     pub fn reaching(self, member: Member, count: usize) -> Clock
         ensures { (q : ℕ) → cut_of result q ≡ max (cut_of self q) (if q == member then count else 0) }
     {
-        self.reaching_at(member.number(), count)
+        let mut more = self;
+        more.reach(member.number(), count);
+        more
     }
 }

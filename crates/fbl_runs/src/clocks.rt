@@ -99,10 +99,12 @@ impl Clocks {
         ensures { (q : ℕ) → cut_of result q
             ≡ reached_cut (kept_cut self.now.kept.items (arrival_at self.now.arrivals.items (Some place))) column count q }
     {
-        match self.kept(place) {
-            Some(clock) => clock.reaching_at(column, count),
-            None => Clock::none().reaching_at(column, count),
-        }
+        let mut clock = match self.kept(place) {
+            Some(clock) => *clock,
+            None => Clock::none(),
+        };
+        clock.reach(column, count);
+        clock
     }
 
     /// Whether a clock counts the entry at the place with the number.
@@ -141,18 +143,17 @@ impl Clocks {
         }
     }
 
-    /// The clock joined with that of the entry at the place, if there is one.
-    fn with_source(&self, clock: Clock, links: &[Link], place: Option<usize>) -> Clock
+    /// Joins the clock with that of the entry at the place, if there is one.
+    fn join_source(&self, clock: &mut Clock, links: &[Link], place: Option<usize>)
         requires { (entries : _) × (p : ℕ) × AreLinks entries links.now
             × HasSeen self.now.causality entries links.now p self.now × IsBelow p place }
         ensures { (entries : _) (p : ℕ) → AreLinks entries links.now → HasSeen self.now.causality entries links.now p self.now
             → IsBelow p place
             → (cut : Cut) × IsSourceClock self.now.causality entries links.now place cut
-            × ((q : ℕ) → cut_of result q ≡ max (cut_of clock q) (cut q)) }
+            × ((q : ℕ) → cut_of clock.new q ≡ max (cut_of clock.old q) (cut q)) }
     {
-        match place {
-            Some(_) => clock.joined(&self.source(links, place)),
-            None => clock,
+        if place.is_some() {
+            clock.join(&self.source(links, place));
         }
     }
 
@@ -163,9 +164,10 @@ impl Clocks {
         ensures { (entries : _) (p : ℕ) → AreLinks entries links.now → HasSeen self.now.causality entries links.now p self.now
             → AreBelow p sources.now → IsJoined self.now.causality entries links.now sources.now (cut_of result) }
     {
-        let before = self.source(links, sources.before);
-        let message = self.with_source(before, links, sources.message);
-        self.with_source(message, links, sources.begins)
+        let mut clock = self.source(links, sources.before);
+        self.join_source(&mut clock, links, sources.message);
+        self.join_source(&mut clock, links, sources.begins);
+        clock
     }
 
     /// Keeps the clock of what leads to an entry that is counted with the number, if it does not have that of the one before it, and

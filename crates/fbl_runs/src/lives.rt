@@ -1,6 +1,6 @@
 //! The lives of members, as a pass over entries knows them.
 
-ghost use Rattle.std.specs.Prelude.{◌≡◌, ◌<◌, ◌≤◌, ◌+◌, ◌++◌, ◌∷◌, [], ℕ, List, IfOk, MatchOption, OnOk, Option, Some, None, filter, length, slice_get, slice_set, take};
+ghost use Rattle.std.specs.Prelude.{◌≡◌, ◌<◌, ◌≤◌, ◌+◌, ◌++◌, ◌∷◌, ◌↔◌, [], ℕ, true, List, IfOk, MatchOption, OnOk, Option, Some, None, filter, length, slice_get, slice_set, take};
 ghost use Rattle.fbl_runs.specs.Clocks.{StandsAt};
 ghost use Rattle.fbl_runs.specs.Entries.{entry_member, log_of, mark_in, restart_in};
 ghost use Rattle.fbl_runs.specs.HappenedBefore.{at};
@@ -209,13 +209,27 @@ impl Lives {
         Ok(())
     }
 
-    /// The number of the member's life among those of all members, if it began.
+    /// Whether the member's life has the number among those of all members.
+    fn is_life(&self, number: usize, member: Member, life: u32) -> bool
+        ensures { (result ≡ true) ↔ IsLifeAt self.now.lives.items number member life }
+    {
+        match self.lives.get(number) {
+            Some(other) => other.member == member && other.life == life,
+            None => false,
+        }
+    }
+
+    /// The number of the member's life among those of all members, if it began. The one that lasts is tried first.
     pub(crate) fn life_number(&self, member: Member, life: u32) -> Option<usize>
         ensures { MatchOption result ((number : ℕ) → ¬ (IsLifeAt self.now.lives.items number member life))
             (λ number. IsLifeAt self.now.lives.items number member life) }
     {
-        for (number, other) in self.lives.iter().enumerate() {
-            if other.member == member && other.life == life {
+        let last = self.logs[member.number() as usize].life;
+        if self.is_life(last, member, life) {
+            return Some(last);
+        }
+        for number in 0..self.lives.len() {
+            if self.is_life(number, member, life) {
                 return Some(number);
             }
         }

@@ -48,7 +48,7 @@ returns-then-is_struck_within c i stands =
     let run = c.args.pasts.now in
     let d = c.args.determinant.now in
     first_if_least run c.requires.run.lawful c.requires.run.strike i d (cut_of c.args.view.now.base) (c.loop-number.number + 1)
-    c.args.least (c.requires.least i stands) c.if-replaces.first (first_of_more at i stands) (below_more at) (c.is_struck_within.ensures c.if-is_struck_within.true)
+    c.args.least (c.requires.least i stands) c.if-replaces.first (first_of_more at i stands) (below_more at) (c.is_struck_within.ensures.0 c.if-is_struck_within.true)
 
 pub returns : goal.returns
 returns c i stands =
