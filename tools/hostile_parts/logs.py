@@ -216,8 +216,8 @@ def try_logs(tally):
 
 
 def damaged(source, events):
-    """The events with one left out, two of a member swapped, or a receipt put before its member's first event, so that what it led to
-    comes before it."""
+    """The events with one left out, two of a member swapped, or a receipt put before its member's first event: what it led to
+    then comes before it."""
     events = list(events)
     change = source.choice(["leave out", "swap", "circle"])
     place = source.randrange(len(events))

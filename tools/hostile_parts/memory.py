@@ -79,7 +79,7 @@ def try_refused_memory(refuser, examples, tally):
                 fronts = set()
                 for number, ran, met in refuser.refuse_each(example.words(workers), example.given, variable):
                     fronts.add(front_written(example, ran, met, f"{what}={number}", tally))
-                # how often the workers of a run ask goes by how they take turns, so that requests near the last one are tried again
+                # how often the workers of a run ask goes by how they take turns: requests near the last one are tried again
                 for tries in range(RETRIES):
                     missed = set(example.fronts()[:-1]) - fronts
                     if not (example.has_run and missed):

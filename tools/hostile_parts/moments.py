@@ -171,7 +171,7 @@ class Found(NamedTuple):
 
 
 class Judge:
-    """What is so at the moments of a log, found by trying all of them and all sets of members."""
+    """What holds at the moments of a log, found by trying all of them and all sets of members."""
 
     def __init__(self, log):
         self.log, self.logs = log, logs_in(log)

@@ -6,7 +6,7 @@ use Rattle.fbl_trace.specs.Numeric.{IsNumeric, by_sends}
 use Rattle.fbl_trace.specs.declared.trace.Note.{Note}
 use Rattle.fbl_trace.specs.declared.outcome.Outcome.{Outcome}
 
--- the step of a relay to which the message comes with two hops, so that it goes on with one
+-- the step of a relay to which the message comes with two hops: it goes on with one
 abbrev pub circulate_step : ℕ → ℕ → ℕ → Note → Outcome ℕ Note
 circulate_step me n state note = relay_step me n state (record { value = note.value; hops = 2 })
 

@@ -2,8 +2,8 @@
 
 use fbl_trace::{Behaviour, Member, Note, Outcome, Relay};
 
-/// A relay to which each message comes with two hops, whatever it has, so that it is passed on with one and goes round
-/// the group for ever.
+/// A relay to which each message comes with two hops, whatever it has: it is passed on with one, and goes round the
+/// group for ever.
 pub struct Circulate;
 
 impl Behaviour for Circulate {

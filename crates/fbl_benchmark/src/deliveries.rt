@@ -34,7 +34,7 @@ struct Tried {
     delivering_more: u128,
 }
 
-/// Times each group with fewer and with more deliveries, so that what a delivery takes can be compared.
+/// Times each group with fewer and with more deliveries, to compare what a delivery takes.
 pub fn time_groups(rt: &HostRuntime) -> Result<()> {
     for &(members, f) in GROUPS {
         time_group(rt, members, f, 1000)?;
@@ -44,7 +44,7 @@ pub fn time_groups(rt: &HostRuntime) -> Result<()> {
 }
 
 /// Times so many deliveries, then the crash of each member in turn, and then a few deliveries more. A recovered member
-/// knows that everybody holds what it holds, so that the last deliveries meet long tables in which hardly an entry is
+/// knows that everybody holds what it holds: the last deliveries meet long tables in which hardly an entry is
 /// still to be passed on.
 fn time_group(rt: &HostRuntime, members: u8, f: u8, count: u32) -> Result<()> {
     let mut tried = try_group(rt, members, f, count)?;

@@ -60,7 +60,7 @@ module _ {N : Type 0} where
 -- ---- steps of the loops
 
 module _ {N : Type 0} where
-  -- the messages that are left, of those that go on the member's channels so that these are the channels in the end, and there is room for them
+  -- the messages that are left, of those that go on the member's channels until these are the channels in the end, and there is room for them
   pub record Sending (me : ℕ) (end : List (List (List (Message N)))) (left : List (Message N)) (cs : List (List (List (Message N)))) (room : List (List ℕ)) : Type 0 where
     pub from : me < length cs
     pub channels : with_sent cs me left ≡ end

@@ -63,7 +63,7 @@ fn end<R: Print + Threads + Wait + Sync>(
     Ok(group)
 }
 
-/// All three vote yes. Member 0 is struck after it has committed, and recovered: nobody knew of that receipt, so that member 0 commits
+/// All three vote yes. Member 0 is struck after it has committed, and recovered: nobody knew of that receipt, and member 0 commits
 /// when it hears once more that all have voted yes.
 fn commit<R: Print + Threads + Wait + Sync>(rt: &R, alloc: Global) -> Result<()> {
     let (a, b, c) = (Member::at(0), Member::at(1), Member::at(2));

@@ -144,7 +144,7 @@ module _ {S N : Type 0} (next : Next S N) (r : GroupRecord S N) (t : Ticket S N)
         let steps : outcome ≡ next.step t.to r.config.members (member r t.to).state w.note = rw (size, ← read, current.state, current.note) step in
         grind (arith, set.empty_of_len r.down nobody, t.ends, flight, flight_ends sound.causes w flight.0, sound.shape)
 
--- a step whose ticket was just taken is refused only for want of room or of memory, so that its commit answers for the delivery
+-- a step whose ticket was just taken is refused only for want of room or of memory: its commit answers for the delivery
 module _ {S N : Type 0} (next : Next S N) (r : GroupRecord S N) (p q : ℕ) (t : Ticket S N)
     (taken : (take_refusal r p q ≡ None) × ((v : Message N) × (front r q p ≡ Some v) × IsTicket r v t))
     (ends : (t.to ≡ p) × (t.from ≡ q)) (made : Ticket S N) (same : made ≡ t) where

@@ -12,7 +12,7 @@ in_flight-fits t q p =
     let untaken : ℕ → Bool = (λ ssn. not (list_any (λ taken. taken == ssn) (filter_map (taken_on q p) t))) in
     omega (arith, length-left untaken (filter_map (sent_on q p) t), length-filter_map (sent_on q p) t)
 
--- each message weighs one, so that the weight is their number
+-- each message weighs one: the weight is their number
 abbrev one : ℕ → ℕ → ℕ
 one q ssn = 1
 

@@ -99,7 +99,7 @@ take_or_room next r message (Some refusal) = Some (of_take refusal)
 take_or_room next r message None = room_refusal next r message
 
 -- the first refusal of a delivery to p from q that holds, but for lack of memory: a delivery is a ticket, its step and its
--- commit, so that it is the ticket's (BadMember, Down, Empty, in this order), or else want of room for the step (Full)
+-- commit, and so the refusal is the ticket's (BadMember, Down, Empty, in this order), or else want of room for the step (Full)
 abbrev pub deliver_refusal : {S N : Type 0} → Next S N → GroupRecord S N → ℕ → ℕ → Option DeliverRefusal
 deliver_refusal next r p q = take_or_room next r (front r q p) (take_refusal r p q)
 

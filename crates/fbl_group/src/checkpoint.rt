@@ -36,7 +36,7 @@ impl<B: Behaviour> Group<B> {
         let Ok(()) = self.save(member) else {
             return Err(CheckpointRefusal::Memory);
         };
-        // the group is sound, so that each checkpoint is at the fold of its receipts
+        // the group is sound: each checkpoint is at the fold of its receipts
         self.recoverable();
         Ok(())
     }

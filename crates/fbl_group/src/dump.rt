@@ -30,7 +30,7 @@ impl<B: Behaviour> Group<B> {
             → set.len strike ≤ self.now.config.f
             → IfOk result (λ dump. (m : ℕ) → ¬ (IsDumpOrphan dump m)) }
     {
-        // what is so of each group: its tables have no orphan to show
+        // what holds of each group: its tables show no orphan
         self.promises();
         if !strike.within(self.size()) {
             return Err(DumpGroupRefusal::BadStrike);

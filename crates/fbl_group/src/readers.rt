@@ -136,7 +136,7 @@ impl<B: Behaviour> Group<B> {
         self.promises();
     }
 
-    /// Does nothing but promise what is so of each group, as it is sound.
+    /// Does nothing but promise what holds of each group, since it is sound.
     pub(crate) fn promises(&self)
         ensures sound { IsSound B.next self.now }
         ensures no_orphan { HasNoOrphan self.now }
@@ -174,8 +174,8 @@ impl<B: Behaviour> Group<B> {
         }
     }
 
-    /// How many sends of the trace have no receipt there. While nobody is down, these messages are what is in flight, so that
-    /// no channel is looked at.
+    /// How many sends of the trace have no receipt there. While nobody is down, just these messages are in flight: no
+    /// channel is looked at.
     fn unreceived(&self) -> usize
         ensures { set.len self.now.down ≡ 0 → result ≡ messages_in_flight_of self.now }
     {

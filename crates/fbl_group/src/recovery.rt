@@ -36,7 +36,7 @@ impl<B: Behaviour> Group<B> {
         ensures refused { IfErr result (IsRecoverRefusal self.old) }
         ensures unchanged { OnErr result (self.new ≡ self.old) }
     {
-        // what is so of each group, of the one that is recovered, too
+        // what holds of each group, and so of the recovered one
         self.promises();
         if self.down().count() == 0 {
             return Err(RecoverRefusal::NotDown);

@@ -34,7 +34,7 @@ impl<B: Behaviour> Group<B> {
         ensures first { RecordsFirst (knowledge self.new) }
         ensures causes { RecordsCauses (knowledge self.new) }
     {
-        // what is so of each group stays so where the strike is refused, and is so of the one that it leaves
+        // what holds of each group holds of this one where the strike is refused, and of the one that the strike leaves
         self.promises();
         self.allow_strike(set)?;
         let n = self.config.members();
@@ -42,7 +42,7 @@ impl<B: Behaviour> Group<B> {
         drop_at(&mut self.channels, set, n);
         self.down = self.down.union(set);
         self.promises();
-        // Each receipt of a member that is up is held, so that those of members that are down are counted alone.
+        // Each receipt of a member that is up is held: those of members that are down are counted alone.
         Ok(Struck {
             lost: count_lost(self.down, &self.members, &self.checkpoints, &self.trace),
         })

@@ -219,7 +219,7 @@ pub record IsRecordOf (next : Next ℕ Note) (config : Settings Note) (columns :
 
 -- ---- faults
 
--- memory ran out, or this is so
+-- memory ran out, or this holds
 abbrev pub IsStopped : Type 0 → RecordFault → Type 0
 IsStopped Refused faults.Memory = Unit {0}
 IsStopped Refused faults.OtherHistory = Refused

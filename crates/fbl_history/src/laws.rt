@@ -1,4 +1,4 @@
-//! Laws of histories. Each is the contract of a function that does nothing, so that the check of the crate proves it.
+//! Laws of histories. Each is the contract of a function that does nothing, and the check of the crate proves it.
 
 ghost use Rattle.fbl_history.specs.Laws.{StandingIsTrace, NothingComesBack, OthersAreUndone, TraceHasEachOnce};
 ghost use Rattle.fbl_history.specs.Laws.{BeginsAtStart, FollowsCheckpoints, FollowsDeliveries, FollowsRecoveries, FollowsStrikes, FollowsTurns};

@@ -1,4 +1,4 @@
--- The fault of an input that could not be had, or that has not the form that is asked for, and what is so of its bytes.
+-- The fault of an input that could not be had, or that has not the form that is asked for, and what holds of its bytes.
 use Rattle.fbl_input.proofs.Common.{RunFault, Data, Fails, IsFaultOf, IsUnread, InputFault, InputKind, json_of, longest, or_fault, value_of_input, ◌>>=◌}
 use Rattle.std.proofs.Common.{Bool, false, true, ◌≡◌, ◌<◌, ◌∙◌, ℕ, ap, cond, inl, length, refl, sym, subst, List, None, Ok, Err, Result, Option, Some, IfErr, IfSome}
 use Rattle.std.specs.Prelude.{Vec}
@@ -14,7 +14,7 @@ pub is_passed : {A E : Type 0} (P : E → Type 0) (fault : E) (r : Result A E) �
 is_passed P fault (Ok x) same h = tt
 is_passed P fault (Err e) same h = subst P (sym same) h
 
--- what is so of the bytes that were read is so of the input
+-- what holds of the bytes that were read holds of the input
 pub of_bytes : (P : List ℕ → Type 0) (known : Option (List ℕ)) (bytes read : List ℕ) → IfSome known (λ input. bytes ≡ input) → read ≡ bytes → P read → IfSome known P
 of_bytes P None bytes read is same h = tt
 of_bytes P (Some input) bytes read is same h = subst P (same ∙ is) h

@@ -16,7 +16,7 @@ const TRIES: u32 = 1000;
 
 const BUFFER: usize = 8192;
 
-/// Reads all there is, up to the longest input, 1,048,576 bytes. It stops after one byte more, so that a reader that
+/// Reads all there is, up to the longest input, 1,048,576 bytes. It stops after one byte more: a reader that
 /// never ends is `TooLong`. An interrupted read is tried again, at most 1000 times in all; the next interruption, and
 /// any other failure, is `Read`.
 fn read_bytes<R: io::Read>(alloc: Global, reader: &mut R) -> Result<Vec<u8>, RunFault>

@@ -19,7 +19,7 @@ use Rattle.fbl_judge.specs.declared.reason.Reason.{Reason}
 use Rattle.fbl_judge.proofs.DependLaws.{least_within}
 use Rattle.fbl_judge.proofs.PathLaws.{same_paths}
 
--- two that are so of a result
+-- two that hold of a result
 pub ok_both : {A E : Type 0} (P Q R : A → Type 0) (r : Result A E) → IfOk r P → IfOk r Q → ((x : A) → P x → Q x → R x) → IfOk r R
 ok_both P Q R (Ok x) p q f = f x p q
 ok_both P Q R (Err e) p q f = tt

@@ -21,7 +21,7 @@ abbrev pub IsReached : List Entry → Determinant → Option ℕ → Type 0
 IsReached entries d None = Unit {0}
 IsReached entries d (Some next) = IsRecordAt entries d next
 
--- Q is so of one of those that are passed
+-- Q holds of one of those that are passed
 abbrev pub IsOfPassed : List Entry → Determinant → (ℕ → Type 0) → Option ℕ → Type 0
 IsOfPassed entries d Q next = (place : ℕ) × IsPassed next place × IsRecordAt entries d place × Q place
 
@@ -63,7 +63,7 @@ module _ (entries : List Entry) (d : Determinant) where
     none_passed None next of = next of.0 (omega arith) of.2
     none_passed (Some first) next of = next.2 of.0 (omega arith) of.1 of.2
 
-    -- with one passed more, it is so of one of those before, or of it
+    -- with one passed more, it holds of one of those before, or of this one
     pub one_more : {Old New : Type 0} (here : ℕ) (o : Option ℕ) → IsRecordAt entries d here → IsNextRecord entries d (here + 1) o → Old ↔ IsOfPassed entries d Q (Some here) → New ↔ Old ⊎ Q here
         → New ↔ IsOfPassed entries d Q o
     one_more here o is next old new = (

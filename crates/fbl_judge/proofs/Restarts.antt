@@ -26,7 +26,7 @@ own_restart entries p m e is here own =
     let same : e ≡ Restart is.0 = one_entry entries p e (Restart is.0) here is.1 in
     (seen entries p m, is.0, placed entries p (Restart is.0) m is.1 (ap entry_member (sym same) ∙ own))
 
--- of these places none is that of a restart that is so
+-- of these places none is that of a restart of which P holds
 abbrev pub NoneIn : List Entry → List ℕ → ℕ → (Position → Type 0) → Type 0
 NoneIn entries places n P = (k place : ℕ) (r : Position) → k < n → slice_get places k ≡ Some place → StandsAt entries place r → ¬ (P r)
 

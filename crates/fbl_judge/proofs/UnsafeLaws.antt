@@ -1,4 +1,4 @@
--- What is said of a receipt is so, and nothing is said where it is safe.
+-- What is said of a receipt holds, and nothing is said where it is safe.
 use Rattle.fbl_judge.proofs.Common.{ℕ, zero, suc, Bool, true, false, ◌≡◌, ◌<◌, ◌≤◌, ◌+◌, ◌⊎◌, ◌↔◌, inl, inr, List, [], ◌∷◌, ◌++◌, Option, Some, None, MatchOption, length, slice_get, take, refl, sym, ap, subst, ◌∙◌, arith}
 use Rattle.fbl_judge.proofs.Common.{cases_lt, false≢true, slice_get_within, Determinant, AllBelow, Members, contains-union}
 use Rattle.fbl_judge.proofs.Common.{Entry, Logs, log_of, receipt_in, Position, at, Cut, DependsAt, HoldsAt, IsLeastDependent, IsMoment, IsReceiptAt, SameRestarts, Stands}

@@ -24,7 +24,7 @@ IsLeftOrphanAt run cut members i q = (set.contains members q ≡ false) × Depen
 abbrev pub IsUnsafeAt : Run → Cut → Position → Type 0
 IsUnsafeAt run cut i = (members : Members) × MayBeLost run members × LosesReceiptAt run cut members i × ((q : ℕ) × IsLeftOrphanAt run cut members i q)
 
--- that is so where the run is judged
+-- the receipt is unsafe where the run is judged
 abbrev pub IsUnsafe : Run → Position → Type 0
 IsUnsafe run i = (cut : Cut) × IsJudgedAt run.judged run.logs cut × IsUnsafeAt run cut i
 

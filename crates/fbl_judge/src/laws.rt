@@ -1,4 +1,4 @@
-//! Laws of runs, each the contract of a function that does nothing, so that the check of the crate proves it.
+//! Laws of runs: each is the contract of a function that does nothing, and the check of the crate proves it.
 
 ghost use Rattle.fbl_judge.specs.Laws.{AlwaysSafeLaw, LeastMomentLaw, NoOrphansLaw, OrderLaw};
 

@@ -1,5 +1,5 @@
 //! The laws of a group's record: what keeps it sound, what the promise is made of, and how a recovery's replay goes. Each is the
-//! contract of a function that does nothing, so that the check of the crate proves it.
+//! contract of a function that does nothing, and the check of the crate proves it.
 
 ghost use Rattle.std.specs.Prelude.{◌≡◌, ℕ};
 ghost use Rattle.fbl_law.specs.Promises.{DumpHasNoOrphan, DumpObeysRules, GainsHolders, HoldsEachReceipt, LeavesRecorded, RecordsCauses, RecordsFirst};
@@ -11,7 +11,7 @@ ghost use Rattle.fbl_law.specs.GroupSteps.{recovered_trace, IsEventCut, Stays};
 
 /// A group in which nothing is received yet is sound: its trace has the starts alone, so there is no determinant to hold.
 ///
-/// A delivery keeps it so: the determinants of the receipts that the message depends on come with it, but for stable ones, so
+/// A delivery keeps it sound: the determinants of the receipts that the message depends on come with it, but for stable ones, so
 /// the receiver's table names what it depends on, but for stable receipts; and its state is again the fold of its receipts. So
 /// does a strike after which at most f members are down: of the more than f holders of a stable receipt one survives. So does a
 /// checkpoint: the member is at the fold of its receipts, and its table names what they depend on, but for stable receipts. And
@@ -42,7 +42,7 @@ pub fn strike_law<S, N>()
 
 /// In a sound group a receipt is recorded exactly where some member's table or some checkpoint's has its determinant; the
 /// receipts of a member's checkpoint are always recorded. What precedes a recorded receipt is recorded, and the recorded
-/// receipts of a member, up or down, are its first ones, so that it can be put at the fold of them.
+/// receipts of a member, up or down, are its first ones: it can be put at the fold of them.
 pub fn recorded_law<S, N>()
     ensures test { RecordedTest S N }
     ensures checkpoint { CheckpointIsRecorded S N }

@@ -1,4 +1,4 @@
--- What is so of every member's record, and how it follows the fold of its receipts, for the function that states it.
+-- What holds of every member's record, and how it follows the fold of its receipts, for the function that states it.
 use Rattle.std.specs.Prelude.{◌≡◌, ℕ, ◌≤◌, length, map, List, []}
 use Rattle.fbl_trace.specs.Fold.{Logged, numbered, Next, advanced, after_notes}
 use Rattle.fbl_member.specs.Members.{MemberRecord, Message, progress_of, fresh, received_by, replayed_by}

@@ -111,7 +111,7 @@ fn carried_by(reserved: Vec<Entry>, table: &Table, f: u8, messages: usize) -> Ca
 }
 
 /// What the table passes on, in the list for which room was taken. How many of the carried entries are new shows only once the
-/// table has taken them in, so that the room is mostly much more than is needed: the rest is given back.
+/// table has taken them in. The room is mostly much more than is needed: the rest is given back.
 fn passed_on(reserved: Vec<Entry>, table: &Table, f: u8) -> Vec<Entry>
     requires { HasRoom (length (piggybacked f table.now)) reserved }
     ensures { result.items ≡ piggybacked f table.now }

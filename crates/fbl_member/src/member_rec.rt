@@ -60,7 +60,7 @@ impl<S: Copy, N: Content> MemberRec<S, N> {
     ) -> Result<MemberRec<S, N>, AllocError>
         ensures { IfOk result (λ m. m ≡ fresh initial me config.now.starts) }
     {
-        // the configuration's rules say that there are few starts, so that the log is not too long
+        // the configuration's rules say that there are few starts: the log is not too long
         let _members = config.members();
         let mut log = Vec::new(alloc);
         for start in config.starts() {
@@ -120,7 +120,7 @@ impl<S: Copy, N: Content> MemberRec<S, N> {
     /// First the table learns what the message carried, then it notes the receipt's own determinant. Then the member
     /// takes the new state, and each send gets the next number and goes to the log. What is answered carries the
     /// entries that at most `f` members are known to hold by the table as it then is. All memory is taken before the
-    /// first change, so that after `Err` the member is unchanged.
+    /// first change: after `Err` the member is unchanged.
     ///
     /// `n` is 2 to 16, and `me` is below it. The message is to `me`, and its number is greater than that of the last one from
     /// its sender. Neither the table nor the message has the receipt's own determinant yet. `outcome` is the behaviour's

@@ -23,7 +23,7 @@ use Rattle.fbl_runs.proofs.Listing.{one_place, placed, seen-later}
 
 -- ---- entries that obey the rules
 
--- what is so of each entry behind those before it is so with one more
+-- what holds of each entry behind those before it holds with one more
 pub each-push : (P : List Entry → Entry → Type 0) (s : List Entry) (e : Entry) → ((i : ℕ) (x : Entry) → slice_get s i ≡ Some x → P (take i s) x) → P s e
     → (i : ℕ) (x : Entry) → slice_get (s ++ e ∷ []) i ≡ Some x → P (take i (s ++ e ∷ [])) x
 each-push P s e each last i x at = elim (At-push s e i x at) [
@@ -66,7 +66,7 @@ pub may_come : (lived : Bool) (n : ℕ) (s : List Entry) → Obeys lived n s →
 may_come false n s obeys k e at = (λ m has. may_event n s obeys.0 k e m at has, obeys.1 k e at)
 may_come true n s obeys k e at = obeys k e at
 
--- what is so of no entries, and with one more that may come, is so of all
+-- what holds of no entries, and with one more that may come, holds of all
 pub obeyed : (lived : Bool) (n : ℕ) (P : List Entry → Type 0) → P [] → ((s : List Entry) (e : Entry) → Obeys lived n s → MayCome lived n s e → P s → P (s ++ e ∷ []))
     → (s : List Entry) → Obeys lived n s → P s
 obeyed lived n P none more s obeys = subst P (take_all (length s) s (omega arith)) (front (length s) (omega arith)).1 where

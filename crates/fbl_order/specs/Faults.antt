@@ -127,7 +127,7 @@ IsOneTooMany entries fault =
     ((e : Entry) × (slice_get entries fault.place ≡ Some e) × (mark_in e ≡ Some fault.event))
     × (length (marks (take fault.place entries)) ≡ 8192) × (fault.rule ≡ TooMany)
 
--- in a log with restarts it is so, or of the first restart with 8 others before it
+-- in a log with restarts it is of such an event, or of the first restart with 8 others before it
 abbrev pub IsOneLifeTooMany : List Entry → LifeFault → Type 0
 IsOneLifeTooMany entries fault =
     (slice_get entries fault.place ≡ Some fault.entry)

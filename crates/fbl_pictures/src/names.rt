@@ -30,7 +30,7 @@ pub(crate) fn push_any(shapes: &mut Vec<Shape>, shape: Option<Shape>) -> Result<
     Ok(())
 }
 
-/// Adds the member's label, and its name behind each 24 columns, so that a wide picture can be read far from its left end: not where no
+/// Adds the member's label, and its name behind each 24 columns, by which a wide picture can be read far from its left end: not where no
 /// more than 8 others follow these.
 pub(crate) fn push_names(
     shapes: &mut Vec<Shape>,

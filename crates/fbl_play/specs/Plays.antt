@@ -43,7 +43,7 @@ next_of Mix = numbered_from_0 mix_step
 -- ---- runs, of a behaviour with this step, by this many workers
 
 module _ (next : Next ℕ Note) (workers : ℕ) where
-  -- the command is run, and added to the transcript; the group that it leaves is sound, so that each state that is printed is the
+  -- the command is run, and added to the transcript; the group that it leaves is sound: each state that is printed is the
   -- fold of the member's receipts in the trace
   pub record IsRunOne (ran : Ran) : Type 0 where
     pub step : Step next workers ran.old.group ran.command ran.new.group ran.answer

@@ -20,7 +20,7 @@ use std::io::{Read, Write};
 use std::sync::Wait;
 use std::thread::Threads;
 
-/// Does nothing but promise what is so of each behaviour: its sends are allowed.
+/// Does nothing but promise what holds of each behaviour: its sends are allowed.
 fn sends_well<B: Behaviour<State = u64, Note = Note>>()
     ensures { SendsWell B.next }
 {}

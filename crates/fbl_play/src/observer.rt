@@ -9,7 +9,7 @@ use fbl_trace::{Behaviour, Note};
 /// time it sees the group and the transcript as they stand then. It has no part in what the run does and writes.
 ///
 /// `observes_before` and `observes_after` say what it may be after it was called at this group and this transcript. A run knows no
-/// more of them, so that only by a call then and there can it make an observer that was called so.
+/// more of them: only by a call then and there can it make an observer that was called so.
 pub trait Observer {
     ghost use Rattle.std.specs.Prelude.{ℕ};
     ghost use Rattle.fbl_trace.specs.declared.trace.Note.{Note};

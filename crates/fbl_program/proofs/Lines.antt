@@ -191,7 +191,7 @@ draw_found : (rows : List Row) (task : Option Task) → (around : Option (Bor Te
     → first_of (codes "around") rows ≡ None → task ≡ Some (Run (Judge (Draw None)))
 draw_found rows task (around, named, is) none = is ∙ ap (λ a. Some (Run (Judge (Draw a)))) (not_named around (first_of (codes "around") rows) named none)
 
--- what was found is what a command line asks for, so that the task at it is the line's
+-- what was found is what a command line asks for: the task at it is the line's
 task_found : {words : List Text} (name : Text) (rows : List Row) (task : Option Task) → IsTaskAt name rows task
     → (line : IsCommandLine words) → IsFound name rows (asked_for line) → task ≡ Some (task_for line)
 task_found name rows task at (is_merge line) f = at.merge f.named

@@ -23,7 +23,7 @@ abbrev pub IsMissing : Sources → ℕ → Option (Bor (List ℕ)) → Type 0
 IsMissing sources count None = ⊥
 IsMissing sources count (Some words) = IsPlaceNamed sources count words.now None
 
--- one of the two is so, or memory ran out
+-- one of the two holds, or memory ran out
 abbrev pub IsAsked : Sources → ℕ → Option (Bor (List ℕ)) → Result (Option ℕ) AnswerFault → Type 0
 IsAsked sources count words (Ok around) = IsAround sources count words around
 IsAsked sources count words (Err Refused) = IsMissing sources count words

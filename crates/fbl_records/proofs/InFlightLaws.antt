@@ -31,7 +31,7 @@ same_place entries Q R (Some p) same is = (is.0, is.1, (same is.0).0 is.2, λ k 
 abbrev pub IsTakenBelow : List Entry → ℕ → Position → Type 0
 IsTakenBelow entries n i = (p : ℕ) × (j : Position) × (p < n) × StandsAt entries p j × TakesAtEnd (log_of entries) j i
 
--- at each place it has whether that is so
+-- at each place it has whether one of them does
 pub record AreTakenBelow (entries : List Entry) (n : ℕ) (taken : List Bool) : Type 0 where
   pub count : length taken ≡ length entries
   pub each : (place : ℕ) (i : Position) (is_taken : Bool) → StandsAt entries place i → slice_get taken place ≡ Some is_taken

@@ -50,6 +50,6 @@ BreaksParts parts fault breach = Unit {0}
 abbrev pub IsDumpFault : List ℕ → RunFault → Type 0
 IsDumpFault input = IsFirstFault (parts_of_input input) RefusesParts
 
--- the fault of a reader of dumps is so
+-- the fault is one of the input, read as a dump
 abbrev pub IsNoDump : List ℕ → InputFault → Type 0
 IsNoDump input fault = (fault.kind ≡ kinds.Dump) × IsFaultOf (parts_of_input input) RefusesParts BreaksParts input fault

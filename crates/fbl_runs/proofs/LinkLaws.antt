@@ -172,7 +172,7 @@ IsUndoneSoFar entries p j None = StandsBehind (log_of entries j.member) j.number
 IsUndoneSoFar entries p j (Some place) =
     (i : Position) × StandsAt entries place i × (i.member ≡ j.member) × IsUndoneBy (log_of entries j.member) j.number i.number
 
--- at the end that is so of all
+-- what is known so far is known of all at the end
 pub undone_all : (entries : List Entry) (p : ℕ) (j : Position) (o : Option ℕ) → seen entries p j.member ≡ length (log_of entries j.member) → IsUndoneSoFar entries p j o
     → IsPlaceOf entries (λ i. (i.member ≡ j.member) × IsUndoneBy (log_of entries j.member) j.number i.number) o
 undone_all entries p j None all stands = λ i undone. (

@@ -58,7 +58,7 @@ IsOrphanAt run cut members q =
 abbrev pub SafeAt : Run → Cut → Type 0
 SafeAt run cut = (members : Members) → MayBeLost run members → (q : ℕ) → ¬ (IsOrphanAt run cut members q)
 
--- that is so at each moment: always no orphans (Alvisi and Marzullo 1998)
+-- the run is safe at each moment: always no orphans (Alvisi and Marzullo 1998)
 abbrev pub AlwaysSafe : Run → Type 0
 AlwaysSafe run = (cut : Cut) → IsMoment run.logs cut → SafeAt run cut
 
@@ -84,7 +84,7 @@ abbrev pub IsCovered : Run → Cut → Determinant → ℕ → Type 0
 IsCovered run cut d member =
     ¬ (IsStoredAt run.logs cut d) → (members : Members) → AreStruckOrHold run cut d members → (set.contains members member ≡ true) ⊎ (bound run < set.len members)
 
--- that is so at each least moment at which a member depends on a receipt that stands there, whichever restarts have come
+-- a receipt that stands is covered at each least moment at which a member depends on it, whichever restarts have come
 abbrev pub IsSafeFromTheFirst : Run → Type 0
 IsSafeFromTheFirst run =
     (i : Position) (d : Determinant) (q : ℕ) (cut : Cut) → IsReceiptAt run.logs d i → IsLeastDependent run.logs i q cut → Stands run.logs cut i

@@ -42,7 +42,7 @@ pub enum Entry {
     },
     /// From here on the determinant is on stable storage, which no loss of members loses.
     Store {
-        /// The member at which that is so.
+        /// The member at which it is stored.
         member: Member,
         /// What is stored.
         determinant: Determinant,

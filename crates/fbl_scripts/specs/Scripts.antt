@@ -153,7 +153,7 @@ BreaksScript s (faults.Config refusal) (Some (Trace breach)) = IsConfigBreach s.
 BreaksScript s (faults.Config refusal) breach = ⊥
 BreaksScript s fault breach = Unit {0}
 
--- the fault of a reader of scripts is so
+-- the fault is one of the input, read as a script
 abbrev pub IsNoScript : List ℕ → InputFault → Type 0
 IsNoScript input fault = (fault.kind ≡ kinds.Script) × IsFaultOf (outline_of_input input) RefusesScript BreaksScript input fault
 

@@ -9,7 +9,7 @@ use fbl_trace::{Determinant, Member};
 use std::alloc::{AllocError, Global};
 use std::marker::Model;
 
-/// The determinants of one member's receipts, each at the place of its receipt number, so that one is found at once.
+/// The determinants of one member's receipts, each at the place of its receipt number, where one is found at once.
 #[derive(Drop)]
 pub struct Receipts {
     places: Vec<Option<Determinant>>,

@@ -27,7 +27,7 @@ module _ {S N : Type 0} where
   after_notes-state next member n starts notes = fold-state next member n (begun (next.initial member n) member starts) notes
 
 module _ {N : Type 0} where
-  -- a note that was sent stays so
+  -- a note that was sent stays sent
   pub note_of-front : (t s : List (Event N)) (from ssn : ℕ) (note : N) → note_of t from ssn ≡ Some note → note_of (t ++ s) from ssn ≡ Some note
   note_of-front [] s from ssn note h = cc
   note_of-front (Send q k to x ∷ t) s from ssn note h = grind (arith, note_of-front t s from ssn note, h)

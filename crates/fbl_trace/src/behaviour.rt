@@ -111,14 +111,14 @@ impl Behaviour for Mix {
     }
 }
 
-/// The state of a relay after this value. The state is reduced first, so that the sum fits 64 bits.
+/// The state of a relay after this value. The state is reduced first: the sum fits 64 bits.
 fn added_up(state: u64, value: u32) -> u64
     ensures { result ≡ (state + value) % modulus }
 {
     (state % MODULUS + u64::from(value)) % MODULUS
 }
 
-/// The state of a mix after this value. The state is reduced first, so that the product fits 64 bits.
+/// The state of a mix after this value. The state is reduced first: the product fits 64 bits.
 fn mixed(state: u64, value: u32) -> u64
     ensures { result ≡ (31 * state + value + 1) % modulus }
 {

@@ -1,4 +1,4 @@
-//! Laws of the definitions, each the contract of a function that does nothing, so that the check of the crate proves
+//! Laws of the definitions: each is the contract of a function that does nothing, and the check of the crate proves
 //! it.
 //!
 //! They are of causal precedence (Lamport 1978), of what a member depends on (Alvisi and Marzullo 1998), and of the

@@ -54,7 +54,7 @@ pub struct MessageName {
 /// What names a receipt: its message by sender and send number, and the receiver's receipt number. The content is no
 /// part of it (Alvisi and Marzullo 1998). That of a receipt of a trace has numbers from 1 to 8192 and two members.
 ///
-/// Fields lie in the order of the source: the members stand first, so that it takes 12 bytes and not 16.
+/// Fields lie in the order of the source: with the members first it takes 12 bytes and not 16.
 #[derive(Clone, Copy, PartialEq, Eq, Debug)]
 pub struct Determinant {
     /// The message's sender.
@@ -85,7 +85,7 @@ impl Hash for Determinant {
     }
 }
 
-/// An event of a trace. Numbers count from 1 without gaps, so that none is greater than 8192 in a trace,
+/// An event of a trace. Numbers count from 1 without gaps, and none is greater than 8192 in a trace,
 /// which has at most that many events.
 #[derive(Copy, PartialEq, Eq, Debug)]
 pub enum Event<N = Note> {

@@ -67,7 +67,7 @@ joins n id other s rule at apart at_other =
     let both : set (set s.views id None) other None ≡ s.views = set_again (set s.views id None) other None at_other ∙ one in
     rw both rule
 
--- two passes never hold one member, so that they may be joined to anything
+-- two passes never hold one member: they may be joined to anything
 pub joins_none : (n id other member : ℕ) (both spent : Option ℕ) → Joins (IsExclusive n) id (Some member) other (Some member) both spent
 joins_none n id other member both spent s rule at apart at_other =
     absurd (apart (one_holder n s member other id rule (sym (set_else s.views id other both apart) ∙ at_other) at))

@@ -261,7 +261,7 @@ fn crash<B: Behaviour>(
 {
     match group.crash(set) {
         Ok((struck, recovered)) => {
-            // the group's counter is a u64, so that what the worker has undone, which is no more, stays one
+            // the group's counter is a u64, and what the worker has undone is no more
             let _ever = group.undone_ever();
             let undone = u64::from(recovered.undone);
             add(&mut counted.undone_by_worker, worker, undone);

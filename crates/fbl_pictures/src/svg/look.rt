@@ -1,7 +1,7 @@
 //! How pictures look.
 
-/// How each class is drawn, in light and in dark, and the tips of arrows. All of it is under one class and behind one prefix,
-/// so that another picture or a page has nothing of the same name.
+/// How each class is drawn, in light and in dark, and the tips of arrows. All of it is under one class and behind one prefix:
+/// another picture or a page has nothing of the same name.
 pub(crate) const LOOK: &str = "<style>
 .fbl .back{fill:#fff}
 .fbl text{fill:#222;font:14px system-ui,sans-serif}

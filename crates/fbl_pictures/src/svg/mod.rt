@@ -25,11 +25,9 @@ use crate::svg::stubs::push_stub;
 use fbl_history::{Glyph, LineKind, Shape};
 use std::alloc::{AllocError, Global};
 
-/// Writes a shape.
-fn push_shape(text: &mut String, alloc: Global, shape: Shape) -> Result<(), AllocError> {
+/// Writes the line of a member or of an orphan, or the arrow of a message.
+fn push_straight(text: &mut String, shape: Shape) -> Result<(), AllocError> {
     match shape {
-        Shape::Label { member, status } => push_label(text, member, status),
-        Shape::Name { column, member } => push_name(text, column, member),
         Shape::Line {
             member,
             start,
@@ -39,11 +37,6 @@ fn push_shape(text: &mut String, alloc: Global, shape: Shape) -> Result<(), Allo
             let (start, end) = (Point::start(start, member), Point::at(end, member));
             push_segment(text, line_class(kind), start, end)
         }
-        Shape::DownFrom {
-            member,
-            column,
-            end,
-        } => push_down_from(text, member, column, end),
         Shape::OrphanUpTo {
             member,
             start,
@@ -52,11 +45,6 @@ fn push_shape(text: &mut String, alloc: Global, shape: Shape) -> Result<(), Allo
             let (start, end) = (Point::start(start, member), Point::before(column, member));
             push_segment(text, line_class(LineKind::Orphan), start, end)
         }
-        Shape::Moment {
-            member,
-            column,
-            next,
-        } => push_moment(text, member, column, next),
         Shape::Arrow {
             from,
             sent,
@@ -67,6 +55,28 @@ fn push_shape(text: &mut String, alloc: Global, shape: Shape) -> Result<(), Allo
             let (start, end) = (Point::at(sent, from), Point::at(received, to));
             push_segment(text, arrow_class(kind), start, end)
         }
+        _ => Ok(()),
+    }
+}
+
+/// Writes a shape.
+fn push_shape(text: &mut String, alloc: Global, shape: Shape) -> Result<(), AllocError> {
+    match shape {
+        Shape::Label { member, status } => push_label(text, member, status),
+        Shape::Name { column, member } => push_name(text, column, member),
+        Shape::Line { .. } | Shape::OrphanUpTo { .. } | Shape::Arrow { .. } => {
+            push_straight(text, shape)
+        }
+        Shape::DownFrom {
+            member,
+            column,
+            end,
+        } => push_down_from(text, member, column, end),
+        Shape::Moment {
+            member,
+            column,
+            next,
+        } => push_moment(text, member, column, next),
         Shape::InFlight { .. }
         | Shape::Untaken { .. }
         | Shape::Leaving { .. }

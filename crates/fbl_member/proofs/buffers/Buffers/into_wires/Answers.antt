@@ -2,7 +2,7 @@ use Rattle.fbl_member.proofs.Common.{◌≡◌, ℕ, ◌+◌, ◌<◌, List, [],
 use Rattle.fbl_member.proofs.Once.{carried_once}
 use Rattle.fbl_member.proofs.buffers.Buffers.into_wires.Goals as goal
 
--- what is so of each is so of the one at a place
+-- what holds of each holds of the one at a place
 so-at : {X : Type 0} (P : X → Type 0) (xs : List X) (i : ℕ) (read : Option (Bor X)) → All P xs → option_copied read ≡ slice_get xs i → IfSome read (λ x. P x.now)
 so-at P xs i None all at = tt
 so-at P xs i (Some x) all at = rw (get_or_from_slice_get xs i x.now x.now (sym at)) at (all i x.now (slice_get_within xs i x.now (sym at)))
