@@ -6,6 +6,7 @@ pub mod Values
 pub mod DumpValues
 pub mod LogValues
 pub mod Cuts
+pub mod TokenLaws
 pub mod ForgottenLaws
 pub mod UndoneLaws
 pub mod OverviewLaws

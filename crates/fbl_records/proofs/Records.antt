@@ -1,6 +1,7 @@
 -- The fault of an input that records a run, where what it gives is refused.
 use Rattle.std.proofs.Common.{◌≡◌, ◌<◌, ◌≤◌, ℕ, ◌∙◌, ◌⊎◌, ap, inl, inr, refl, sym, subst, List, Ok, Err, Result, Option, Some, None, IfSome, Bool, true, false}
 use Rattle.std.specs.Prelude.{is_some, option_and_then, if◌then◌else◌}
+use Rattle.serde_json.specs.Data.{object}
 use Rattle.serde_json.specs.Find.{get}
 use Rattle.std.specs.Prelude.{cond, length, nat_lt}
 use Rattle.std.proofs.lemmas.Bool.{le-ltb, lt-ltb}
@@ -12,7 +13,8 @@ use Rattle.fbl_input.specs.declared.key.Key.TheVariants as keys
 use Rattle.fbl_input.specs.declared.input_kind.InputKind.TheVariants as kinds
 use Rattle.std.specs.Prelude.{Vec}
 use Rattle.std.specs.declared.alloc.Global.{Global}
-use Rattle.fbl_dumps.specs.Dumps.{IsDumpBreach, RefusesDump}
+use Rattle.fbl_dumps.specs.Dumps.{IsDumpBreach, RefusesDump, parts_of}
+use Rattle.fbl_dumps.specs.declared.raw_dump.RawDump.{RawDump}
 use Rattle.fbl_dumps.specs.declared.refusal.DumpRefusal.{DumpRefusal}
 use Rattle.fbl_dumps.specs.declared.refusal.DumpRefusal.TheVariants as dump
 use Rattle.fbl_input.specs.Faults.{dump_fault}
@@ -20,6 +22,7 @@ use Rattle.fbl_runs.specs.declared.fault.LogBreach.TheVariants.{Trace}
 use Rattle.fbl_trace.specs.declared.fault.Breach.{Breach}
 use Rattle.fbl_runs.specs.Logs.{IsLogBreach, RefusesLog, RunParts}
 use Rattle.fbl_records.proofs.Common.{Data, InputFault, InputKind, Parts, RunFault, name_of, parts_of_data, parts_of_input, ◌>>=◌}
+use Rattle.fbl_records.specs.DumpTokens.{IsDumpText}
 use Rattle.fbl_records.specs.Dumps.{IsNoDump, BreaksParts, RefusesParts}
 use Rattle.fbl_records.specs.Logs.{HasKind, IsNotChecked, IsNotRecorded, IsRefusal, BreaksRecorded, RefusesNone, RefusesRecorded, kind_of, log_of_data, recorded_as, recorded_kind, recorded_of_data, recorded_of_input, value_meant}
 use Rattle.fbl_records.specs.EventLines.{is_whole, json_text, lines_text, log_version}
@@ -138,6 +141,12 @@ as_it_is input is = ap (λ t. cond (nat_lt longest (length input)) (Err faults.T
 pub text_records : (text : List ℕ) (d : Data) → length text ≤ longest → is_whole (Some d) ≡ true → json_of text ≡ Some d → recorded_of_input text ≡ recorded_of_data d
 text_records text d short whole is =
     ap (λ v. v >>= recorded_of_data) (short_input text short ∙ ap (λ t. or_fault faults.NotJson (json_of t)) (own_text text (ap is_whole is ∙ whole)) ∙ ap (or_fault faults.NotJson) is)
+
+-- so is a dump that is read from its tokens
+pub dump_recorded : (input : List ℕ) (raw : RawDump) → length input ≤ longest → IsDumpText input raw → (recorded_of_input input ≡ Ok (parts.Dump (parts_of raw))) × (input ≡ json_text input)
+dump_recorded input raw short h =
+    let whole : is_whole (Some (object h.0)) ≡ true = rw h.2 in
+    (text_records input (object h.0) short whole h.1 ∙ rw (h.2, h.3), sym (own_text input (ap is_whole h.1 ∙ whole)))
 
 unread_input : (input : List ℕ) (fault : InputFault) (e : RunFault) → fault.fault ≡ e → IsUnread (Some input) e → IsNotRecorded input fault
 unread_input input fault faults.Read same is = (rw same tt, record { first = rw same tt; breach = λ a e. rw same (any_memory a fault.breach).0; bytes = rw same tt })

@@ -50,6 +50,6 @@ BreaksParts parts fault breach = Unit {0}
 abbrev pub IsDumpFault : List ℕ → RunFault → Type 0
 IsDumpFault input = IsFirstFault (parts_of_input input) RefusesParts
 
--- the fault is one of the input, read as a dump
+-- the fault is the input's first, read as a dump, or one of reading or of memory
 abbrev pub IsNoDump : List ℕ → InputFault → Type 0
 IsNoDump input fault = (fault.kind ≡ kinds.Dump) × IsFaultOf (parts_of_input input) RefusesParts BreaksParts input fault

@@ -1,5 +1,6 @@
 pub mod Dumps
 pub mod DumpLines
+pub mod DumpTokens
 pub mod Lines
 pub mod EventLines
 pub mod Logs

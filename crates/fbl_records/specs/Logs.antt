@@ -124,14 +124,15 @@ HasKind faults.Read input kind = Unit {0}
 HasKind faults.Memory input kind = Unit {0}
 HasKind fault input kind = (d : Data) → value_meant input ≡ Ok d → kind ≡ recorded_kind d
 
--- the fault is one of the input, where this is how what a reader gives may be refused, and is placed in the text that the input means
+-- the fault is the input's first, where this says how what the input gives may be refused, or one of reading or of memory; it has the kind of
+-- the input's value, and the bytes of the text that the input means
 abbrev pub IsFaultIn : (Recording → RunFault → Type 0) → List ℕ → InputFault → Type 0
 IsFaultIn Refuses input fault = HasKind fault.fault input fault.kind × IsFaultOf (recorded_of_input input) Refuses BreaksRecorded (json_text input) fault
 
--- the fault is one of the input, read as what has the form of a dump or of a log
+-- the fault is the input's first, read as what has the form of a dump or of a log
 abbrev pub IsNotRecorded : List ℕ → InputFault → Type 0
 IsNotRecorded = IsFaultIn RefusesNone
 
--- the fault is one of the input, read as a dump or a log
+-- the fault is the input's first, read as a dump or a log
 abbrev pub IsNotChecked : List ℕ → InputFault → Type 0
 IsNotChecked = IsFaultIn RefusesRecorded

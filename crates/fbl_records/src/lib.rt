@@ -4,6 +4,7 @@
 
 mod audit_text;
 mod check_text;
+mod dump_tokens;
 mod event_lines;
 mod forgotten;
 pub mod laws;

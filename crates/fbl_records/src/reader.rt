@@ -9,6 +9,7 @@ ghost use Rattle.fbl_records.specs.Dumps.{IsDumpOf, IsNoDump, parts_of_data, par
 ghost use Rattle.fbl_records.specs.Logs.{IsCheckedOf, IsNotChecked, IsNotRecorded, IsRecordedOf, IsRefusal, ObeysRules, log_of_data, recorded_kind, recorded_of_data, recorded_parts};
 ghost use Rattle.fbl_records.specs.declared.reader.Recording.TheVariants as parts;
 
+use crate::dump_tokens::dump_in_tokens;
 use crate::event_lines::{JsonText, json_text};
 use crate::log_version::{LogVersionShape, log_version_in};
 use fbl_dumps::{Dump, RawDump, checked_dump};
@@ -172,6 +173,15 @@ fn recorded_in(alloc: Global, input: Vec<u8>) -> Result<RecordedInput, InputFaul
     ensures parts { IfOk result (IsRecordedOf input.items) }
     ensures fault { IfErr result (IsNotRecorded input.items) }
 {
+    let Ok(found) = dump_in_tokens(alloc, input.as_slice()) else {
+        return Err(InputFault::new(InputKind::Dump, RunFault::Memory, Vec::new(alloc)));
+    };
+    if let Some(raw) = found {
+        return Ok(RecordedInput {
+            recorded: RawRecording::Dump(raw),
+            bytes: input,
+        });
+    }
     let Ok(JsonText { text, value }) = json_text(alloc, input) else {
         return Err(InputFault::new(InputKind::Dump, RunFault::Memory, Vec::new(alloc)));
     };

@@ -153,7 +153,7 @@ BreaksScript s (faults.Config refusal) (Some (Trace breach)) = IsConfigBreach s.
 BreaksScript s (faults.Config refusal) breach = ⊥
 BreaksScript s fault breach = Unit {0}
 
--- the fault is one of the input, read as a script
+-- the fault is the input's first, read as a script, or one of reading or of memory
 abbrev pub IsNoScript : List ℕ → InputFault → Type 0
 IsNoScript input fault = (fault.kind ≡ kinds.Script) × IsFaultOf (outline_of_input input) RefusesScript BreaksScript input fault
 
