@@ -27,9 +27,8 @@ pub use Rattle.fbl_input.specs.declared.input_kind.InputKind.{InputKind}
 pub use Rattle.serde_json.proofs.Views.{view-Array}
 pub use Rattle.serde_json.specs.Data.{Data, array, depth, items_depth}
 pub use Rattle.serde_json.specs.Read.{max_depth, of_json, read}
-pub use Rattle.serde_json.specs.Written.{has_float, items_have_float}
 pub use Rattle.serde_json.specs.declared.value.Value.{Value}
-pub use Rattle.fbl_records.specs.DumpLines.{IsWritable, entry_data, event_data, list_data, number_data, pair_data}
+pub use Rattle.fbl_records.specs.DumpLines.{entry_data, event_data, list_data, number_data, pair_data}
 pub use Rattle.fbl_input.specs.Items.{event_shape, pair_shape}
 pub use Rattle.fbl_records.specs.Dumps.{IsDumpFault, IsDumpOf, parts_of_data, parts_of_input}
 pub use Rattle.fbl_records.specs.Lines.{audit_lines}

@@ -1,6 +1,6 @@
 -- A newline behind a text changes nothing of what JSON reads in it.
 use Rattle.fbl_records.proofs.Common.{◌≡◌, ℕ, ◌+◌, ◌-◌, true, false, cond, ◌&&◌, ◌==◌, nat_lt, List, [], ◌∷◌, ◌++◌, length, drop, Option, Some, None, IsUtf8}
-use Rattle.fbl_records.proofs.Common.{option_map, option_and_then, refl, ap, ◌∙◌, arith, length-append, nat_eq, not, and-false, take-append-le, drop-append-le}
+use Rattle.fbl_records.proofs.Common.{option_map, option_and_then, refl, ap, sym, ◌∙◌, arith, append-nil, length-append, nat_eq, not, and-false, take-append-le, drop-append-le}
 use Rattle.fbl_records.proofs.Common.{prefix_len-le-length, IsUtf8-append, is_ascii_digit, list_all, prefix_len, starts_with, Data, max_depth, of_json, read, json_of, json_read}
 use Rattle.std.specs.Char.{encode_utf8}
 use Rattle.json.specs.Ascii.{false_text, null_text, true_text}
@@ -8,9 +8,16 @@ use Rattle.json.specs.Json.{if_last, value}
 use Rattle.json.specs.Lex.{Class, Lexeme, Mode, between, class, fresh, in_escape, in_string, in_word, lex, lex_byte, other, punctuate, quote, string_token, token}
 use Rattle.json.specs.Text.{Within, after_backslash, after_high, after_u, code_unit, content, is_high_surrogate, is_low_surrogate, plain, prepend, short_escape, surrogate_pair}
 use Rattle.json.specs.Token.{Token, bad, boolean, null}
+use Rattle.json.specs.Lex.{tokens}
+use Rattle.json.specs.Print.{print}
+use Rattle.json.specs.Tree.{json_tokens}
+use Rattle.json.proofs.Printed.Trees.{value-json_tokens}
+use Rattle.serde_json.specs.Written.{compact_text, outline}
+use Rattle.serde_json.proofs.Texts.{print-outline}
+use Rattle.fbl_records.specs.DumpLines.{IsSpelled}
 use Rattle.json.specs.Word.{after_digits, after_exponent, after_fraction, after_minus, after_number, after_sign, after_whole, ends_word, head, literal, number_before, word}
 
-abbrev newline : List ℕ
+abbrev pub newline : List ℕ
 newline = 10 ∷ []
 
 -- ---- strings: one that is not closed before the newline is none
@@ -129,10 +136,13 @@ lex_same m (x ∷ xs) = byte_same m (class x) x (xs ++ newline) xs (λ n. lex n 
 read_same : (t : List ℕ) → read (t ++ newline) ≡ read t
 read_same t = ap (λ ls. option_and_then of_json (option_and_then (λ p. if_last p.0 p.1) (value max_depth (punctuate fresh ls)))) (lex_same between t)
 
-newline_is_text : IsUtf8 newline
+pub newline_is_text : IsUtf8 newline
 unfolding encode_utf8
 newline_is_text = (10 ∷ [], (refl, refl))
 
 -- a value's text is read with a newline behind it
-pub read_newline : (t : List ℕ) (d : Data) → IsUtf8 t → read t ≡ Some d → json_of (t ++ 10 ∷ []) ≡ Some d
-read_newline t d text e = json_read (t ++ newline) d (IsUtf8-append t newline text newline_is_text) (read_same t ∙ e)
+pub line_read : (d : Data) (ts : List Token) → ts ≡ json_tokens (outline d) → tokens (print ts) ≡ ts → IsUtf8 (print ts) → IsSpelled 3 d → json_of (compact_text d ++ 10 ∷ []) ≡ Some d
+line_read d ts is same text spelled =
+    let printed : print ts ≡ compact_text d = ap print is ∙ print-outline d in
+    let found : read (print ts) ≡ Some d = ap (λ v. option_and_then of_json (option_and_then (λ p. if_last p.0 p.1) v)) (ap (value max_depth) (same ∙ is ∙ sym (append-nil _)) ∙ value-json_tokens (outline d) max_depth [] (omega (arith, spelled.1))) ∙ spelled.0 in
+    ap (λ t. json_of (t ++ newline)) (sym printed) ∙ json_read (print ts ++ newline) d (IsUtf8-append (print ts) newline text newline_is_text) (read_same (print ts) ∙ found)

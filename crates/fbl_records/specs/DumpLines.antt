@@ -1,11 +1,13 @@
 -- A dump as a JSON value, and as a line.
-use Rattle.std.specs.Prelude.{◌≡◌, ℕ, ◌≤◌, length, false, Ok, List, [], ◌∷◌, ◌++◌, map, codes}
-use Rattle.std.specs.Ordering.{nat_cmp}
-use Rattle.std.specs.FinSet as set
-use Rattle.serde_json.specs.Data.{Data, Members, depth, number, unsigned, string, array, object, member, no_members}
+use Rattle.std.specs.Prelude.{◌≡◌, ℕ, ◌≤◌, length, Option, Some, Ok, List, [], ◌∷◌, ◌++◌, map, codes, String, string_bytes}
+use Rattle.std.specs.declared.alloc.Global.{Global}
+use Rattle.json.specs.Token.{Token}
+use Rattle.json.specs.Tree.{depth, items_depth, json_tokens}
+use Rattle.json.specs.Written.{Written}
+use Rattle.serde_json.specs.Data.{Data, number, unsigned, string, array, object, member, no_members}
 use Rattle.serde_json.specs.View.{items_of}
-use Rattle.serde_json.specs.Read.{max_depth}
-use Rattle.serde_json.specs.Written.{compact_text, has_float}
+use Rattle.serde_json.specs.Read.{of_items, of_json}
+use Rattle.serde_json.specs.Written.{compact_text, items_outline, outline}
 use Rattle.fbl_trace.specs.declared.trace.Determinant.{Determinant}
 use Rattle.fbl_trace.specs.declared.trace.Mark.{Mark}
 use Rattle.fbl_trace.specs.declared.trace.Mark.TheVariants.{Send, Receipt}
@@ -14,8 +16,8 @@ use Rattle.fbl_runs.specs.declared.entry.Entry.TheVariants.{Event, Hold, LaterRe
 use Rattle.fbl_dumps.specs.Dumps.{Parts}
 use Rattle.fbl_trace.specs.MemberSets.{member_list}
 use Rattle.fbl_input.specs.declared.key.Key.TheVariants as keys
-use Rattle.fbl_input.specs.Shapes.{longest, name_of}
-use Rattle.fbl_records.specs.Dumps.{parts_of_input}
+use Rattle.fbl_input.specs.Shapes.{all_shaped, json_of, longest, name_of}
+use Rattle.fbl_records.specs.Dumps.{parts_of_data, parts_of_input}
 
 abbrev pub number_data : ℕ → Data
 number_data n = number (unsigned n)
@@ -50,13 +52,6 @@ event_data e = entry_data (Event e)
 abbrev pub pair_data : ℕ × Determinant → Data
 pair_data h = list_data (number_data h.0 ∷ number_data h.1.from ∷ number_data h.1.ssn ∷ number_data h.1.to ∷ number_data h.1.rsn ∷ [])
 
--- the members of an object that a dump has in either version, but for its events, in the order of their letters
-abbrev pub common_data : ℕ → ℕ → set.FinSet nat_cmp → Members
-common_data members f strike =
-    member (name_of keys.F) (number_data f)
-    (member (name_of keys.Members) (number_data members)
-    (member (name_of keys.Strike) (list_data (map number_data (member_list strike))) no_members))
-
 -- an object with the keys of a dump, in the order of their letters
 abbrev pub dump_object : ℕ → ℕ → Data → Data → Data → Data
 dump_object members f events held strike =
@@ -78,6 +73,35 @@ dump_line dump = compact_text (dump_data dump) ++ 10 ∷ []
 abbrev pub ReadsBack : Parts → Type 0
 ReadsBack dump = length (dump_line dump) ≤ longest → parts_of_input (dump_line dump) ≡ Ok dump
 
--- the value has no float, and nests to a depth that is read
-abbrev pub IsWritable : Data → Type 0
-IsWritable d = (has_float d ≡ false) × (depth d ≤ max_depth)
+-- ---- for private clauses: what is written is read back
+
+-- what stood before stays, and these tokens are appended
+pub record AppendsTokens (ts : List Token) (old new : Written) : Type 0 where
+  pub before : new.before ≡ old.before
+  pub tokens : new.tokens ≡ old.tokens ++ ts
+
+-- the tokens of the value are appended
+abbrev pub Appends : Data → Written → Written → Type 0
+Appends d = AppendsTokens (json_tokens (outline d))
+
+-- the value is read from its text, and nests to this depth at most
+abbrev pub IsSpelled : ℕ → Data → Type 0
+IsSpelled n d = (of_json (outline d) ≡ Some d) × (depth (outline d) ≤ n)
+
+-- the item is what is read from the value that it is written as
+abbrev pub IsReadBack : {T : Type 0} → (T → Data) → (Data → Option T) → ℕ → T → Type 0
+IsReadBack form shape n x = (shape (form x) ≡ Some x) × IsSpelled n (form x)
+
+-- the items are those that are read from the values that they are written as
+abbrev pub AreReadBack : {T : Type 0} → (T → Data) → (Data → Option T) → ℕ → List T → Type 0
+AreReadBack form shape n xs =
+    let ds = items_of (map form xs) in
+    (all_shaped shape (map form xs) ≡ Some xs) × (of_items (items_outline ds) ≡ Some ds) × (items_depth (items_outline ds) ≤ n)
+
+-- the dump is what is read from the value that it is written as
+abbrev pub IsDumpRead : Parts → Type 0
+IsDumpRead dump = (parts_of_data (dump_data dump) ≡ Ok dump) × IsSpelled 3 (dump_data dump)
+
+-- the text is the value with no space, on one line, and is read as that value
+abbrev pub IsLineOf : Data → String Global → Type 0
+IsLineOf d text = (string_bytes text ≡ compact_text d ++ 10 ∷ []) × (json_of (compact_text d ++ 10 ∷ []) ≡ Some d)

@@ -8,8 +8,8 @@ use Rattle.fbl_input.specs.Shapes.{longest, name_of}
 use Rattle.fbl_runs.specs.Logs.{RunParts}
 use Rattle.fbl_runs.specs.declared.judged.Judged.TheVariants.{AtEachMoment}
 use Rattle.fbl_records.specs.declared.reader.Recording.TheVariants.{Log}
-use Rattle.fbl_records.specs.DumpLines.{entry_data, list_data, number_data}
-use Rattle.fbl_records.specs.Logs.{recorded_of_input}
+use Rattle.fbl_records.specs.DumpLines.{IsSpelled, entry_data, list_data, number_data}
+use Rattle.fbl_records.specs.Logs.{log_of_data, recorded_of_input}
 
 -- an object with the keys of a log, in the order of their letters
 abbrev pub log_object : ℕ → ℕ → Data → Data → Data
@@ -31,3 +31,7 @@ log_line log = compact_text (log_data log) ++ 10 ∷ []
 -- the line, where it is no longer than an input may be, is read as the same log; so it is of a run that is judged at each moment
 abbrev pub LogReadsBack : RunParts → Type 0
 LogReadsBack log = log.judged ≡ AtEachMoment → length (log_line log) ≤ longest → recorded_of_input (log_line log) ≡ Ok (Log log)
+
+-- for private clauses: the log, where it is judged at each moment, is what is read from the value that it is written as
+abbrev pub IsLogRead : RunParts → Type 0
+IsLogRead log = (log.judged ≡ AtEachMoment → log_of_data (log_data log) ≡ Ok log) × IsSpelled 3 (log_data log)

@@ -1,38 +1,37 @@
 //! A dump or a log as one line of JSON.
 
-ghost use Rattle.std.specs.Prelude.{◌≡◌, ◌++◌, ◌∷◌, [], map, Some, Ok, IfOk, string_bytes};
-ghost use Rattle.std.specs.List.{All};
-ghost use Rattle.serde_json.specs.Data.{string};
-ghost use Rattle.serde_json.specs.View.{members_view, view};
-ghost use Rattle.serde_json.specs.Written.{compact_text};
-ghost use Rattle.fbl_input.specs.Shapes.{json_of, member_shape};
-ghost use Rattle.fbl_records.specs.Dumps.{parts_of_data};
-ghost use Rattle.fbl_trace.specs.MemberSets.{member_list};
-ghost use Rattle.fbl_records.specs.DumpLines.{IsWritable, common_data, dump_data, dump_line, ReadsBack, event_data, list_data, number_data};
-ghost use Rattle.fbl_records.specs.LogLines.{LogReadsBack, log_data, log_line};
-ghost use Rattle.fbl_records.specs.Logs.{log_of_data};
-ghost use Rattle.fbl_runs.specs.declared.judged.Judged.TheVariants.{AtEachMoment};
+ghost use Rattle.std.specs.Prelude.{◌≡◌, ◌∷◌, [], map, suc, IfOk, OnOk, string_bytes};
+ghost use Rattle.json.specs.Token.{key};
+ghost use Rattle.json.specs.Tree.{items_tokens, json_tokens};
+ghost use Rattle.serde_json.specs.Data.{Data, string};
+ghost use Rattle.serde_json.specs.View.{items_of};
+ghost use Rattle.serde_json.specs.Written.{items_outline, outline};
+ghost use Rattle.fbl_input.specs.Shapes.{list_of};
+ghost use Rattle.fbl_records.specs.DumpLines.{Appends, AppendsTokens, AreReadBack, IsDumpRead, IsLineOf, IsReadBack, IsSpelled, dump_data, dump_line, ReadsBack, event_data, list_data, number_data};
+ghost use Rattle.fbl_records.specs.LogLines.{IsLogRead, LogReadsBack, log_data, log_line};
 
 use fbl_dumps::Dump;
 use fbl_runs::{Entry, Restart, Run};
 use fbl_trace::{Determinant, Mark, Member, MemberSet};
-use serde_json::{Map, Value, put};
+use json::Writer;
 use std::alloc::{AllocError, Global};
 
-/// How a value of a type is written as JSON, from which it is read back.
+/// How a value of a type is written as JSON, from which it is read back, and how deep that nests at most.
 trait Form<T> {
-    ghost use Rattle.std.specs.Prelude.{◌≡◌, Option, Some, IfOk};
+    ghost use Rattle.std.specs.Prelude.{ℕ, Option, OnOk};
     ghost use Rattle.serde_json.specs.Data.{Data};
-    ghost use Rattle.serde_json.specs.View.{view};
+    ghost use Rattle.fbl_records.specs.DumpLines.{Appends, IsReadBack};
 
     ghost form: { T → Data };
 
     ghost shape: { Data → Option T };
 
-    /// The item as JSON.
-    fn value_of(alloc: Global, item: T) -> Result<Value, AllocError>
-        ensures value { IfOk result (λ v. view v ≡ form item) }
-        ensures reads_back { shape (form item) ≡ Some item };
+    ghost depth: { ℕ };
+
+    /// Writes the item.
+    fn write(out: &mut Writer, item: T) -> Result<(), AllocError>
+        ensures written { OnOk result (Appends (form item) out.old out.new) }
+        ensures reads_back { OnOk result (IsReadBack form shape depth item) };
 }
 
 /// The numbers of a member and of a determinant.
@@ -84,22 +83,6 @@ fn restart_numbers(restart: Restart) -> [u32; 4]
     [u32::from(member.number()), life, receipts, sends]
 }
 
-/// A send or a receipt as a list.
-fn event_value(alloc: Global, event: Mark) -> Result<Value, AllocError>
-    ensures { IfOk result (λ v. view v ≡ event_data event) }
-{
-    match event {
-        Mark::Send { from, ssn, to } => {
-            let numbers = [u32::from(from.number()), ssn, u32::from(to.number())];
-            named_value(alloc, "send", &numbers)
-        }
-        Mark::Receipt { to, rsn, from, ssn } => {
-            let numbers = [u32::from(to.number()), rsn, u32::from(from.number()), ssn];
-            named_value(alloc, "receipt", &numbers)
-        }
-    }
-}
-
 /// An entry as a list.
 struct EntryForm;
 
@@ -111,30 +94,32 @@ impl Form<Entry> for EntryForm {
 
     ghost shape = { entry_shape };
 
-    fn value_of(alloc: Global, entry: Entry) -> Result<Value, AllocError> {
+    ghost depth = { 1 };
+
+    fn write(out: &mut Writer, entry: Entry) -> Result<(), AllocError> {
         match entry {
-            Entry::Event(event) => event_value(alloc, event),
+            Entry::Event(event) => EventForm::write(out, event),
             Entry::Hold {
                 holder,
                 determinant,
-            } => named_value(alloc, "hold", &pair_numbers(holder, determinant)),
+            } => write_named(out, "hold", &pair_numbers(holder, determinant)),
             Entry::Store {
                 member,
                 determinant,
-            } => named_value(alloc, "store", &pair_numbers(member, determinant)),
+            } => write_named(out, "store", &pair_numbers(member, determinant)),
             Entry::Tell(message) => {
                 let numbers = control_numbers(message.from, message.to, message.id);
-                named_value(alloc, "tell", &numbers)
+                write_named(out, "tell", &numbers)
             }
             Entry::Told(message) => {
                 let numbers = control_numbers(message.to, message.from, message.id);
-                named_value(alloc, "told", &numbers)
+                write_named(out, "told", &numbers)
             }
             Entry::LaterReceipt { determinant, life } => {
                 let numbers = later_receipt_numbers(determinant, life);
-                named_value(alloc, "receipt", &numbers)
+                write_named(out, "receipt", &numbers)
             }
-            Entry::Restart(restart) => { named_value(alloc, "restart", &restart_numbers(restart)) }
+            Entry::Restart(restart) => write_named(out, "restart", &restart_numbers(restart)),
         }
     }
 }
@@ -150,8 +135,19 @@ impl Form<Mark> for EventForm {
 
     ghost shape = { event_shape };
 
-    fn value_of(alloc: Global, event: Mark) -> Result<Value, AllocError> {
-        event_value(alloc, event)
+    ghost depth = { 1 };
+
+    fn write(out: &mut Writer, event: Mark) -> Result<(), AllocError> {
+        match event {
+            Mark::Send { from, ssn, to } => {
+                let numbers = [u32::from(from.number()), ssn, u32::from(to.number())];
+                write_named(out, "send", &numbers)
+            }
+            Mark::Receipt { to, rsn, from, ssn } => {
+                let numbers = [u32::from(to.number()), rsn, u32::from(from.number()), ssn];
+                write_named(out, "receipt", &numbers)
+            }
+        }
     }
 }
 
@@ -166,9 +162,10 @@ impl Form<(Member, Determinant)> for PairForm {
 
     ghost shape = { pair_shape };
 
-    fn value_of(alloc: Global, pair: (Member, Determinant)) -> Result<Value, AllocError> {
-        let numbers = pair_numbers(pair.0, pair.1);
-        list_value::<u32, NumberForm>(alloc, Vec::new(alloc), &numbers)
+    ghost depth = { 1 };
+
+    fn write(out: &mut Writer, pair: (Member, Determinant)) -> Result<(), AllocError> {
+        write_list::<u32, NumberForm>(out, &pair_numbers(pair.0, pair.1))
     }
 }
 
@@ -183,8 +180,11 @@ impl Form<u32> for NumberForm {
 
     ghost shape = { count_shape };
 
-    fn value_of(_alloc: Global, number: u32) -> Result<Value, AllocError> {
-        Ok(Value::from(number))
+    ghost depth = { 0 };
+
+    #[tactic(auto, using(crate::proofs::Values::number_back))]
+    fn write(out: &mut Writer, number: u32) -> Result<(), AllocError> {
+        out.u64(u64::from(number))
     }
 }
 
@@ -199,100 +199,107 @@ impl Form<Member> for MemberForm {
 
     ghost shape = { member_shape };
 
-    fn value_of(_alloc: Global, member: Member) -> Result<Value, AllocError> {
-        Ok(Value::from(member.number()))
+    ghost depth = { 0 };
+
+    #[tactic(auto, using(crate::proofs::Values::number_back))]
+    fn write(out: &mut Writer, member: Member) -> Result<(), AllocError> {
+        out.u64(u64::from(member.number()))
     }
 }
 
-/// The items as a list, behind these values.
-fn list_value<T: Copy, F: Form<T>>(
-    alloc: Global,
-    front: Vec<Value>,
-    items: &[T],
-) -> Result<Value, AllocError>
-    ensures value { IfOk result (λ v. view v ≡ list_data (map view front.items ++ map F.form items.now)) }
-    ensures reads_back { IfOk result (λ v. All (λ x. F.shape (F.form x) ≡ Some x) items.now) }
+/// Writes the items and the end of their list.
+fn write_items<T: Copy, F: Form<T>>(out: &mut Writer, items: &[T]) -> Result<(), AllocError>
+    ensures written { OnOk result (AppendsTokens (items_tokens (items_outline (items_of (map F.form items.now)))) out.old out.new) }
+    ensures reads_back { OnOk result (AreReadBack F.form F.shape F.depth items.now) }
 {
-    let mut values = front;
     for item in items {
-        values.push(F::value_of(alloc, *item)?)?;
+        F::write(out, *item)?;
     }
-    Ok(Value::Array(values))
+    out.end_array()
 }
 
-/// The numbers as a list that begins with this name.
-fn named_value(alloc: Global, name: &str, numbers: &[u32]) -> Result<Value, AllocError>
-    ensures { IfOk result (λ v. view v ≡ list_data (string name.now ∷ map number_data numbers.now)) }
+/// Writes the items as a list.
+#[tactic(auto, using(fbl_input::proofs::Lists::elements_of))]
+fn write_list<T: Copy, F: Form<T>>(out: &mut Writer, items: &[T]) -> Result<(), AllocError>
+    ensures written { OnOk result (Appends (list_data (map F.form items.now)) out.old out.new) }
+    ensures reads_back { OnOk result (IsReadBack (λ xs. list_data (map F.form xs)) (list_of F.shape) (suc F.depth) items.now) }
 {
-    let mut front = Vec::new(alloc);
-    front.push(Value::String(String::from_str(alloc, name)?))?;
-    list_value::<u32, NumberForm>(alloc, front, numbers)
+    out.begin_array()?;
+    write_items::<T, F>(out, items)
 }
 
-/// A set as the list of its members, rising.
-fn set_value(alloc: Global, set: MemberSet) -> Result<Value, AllocError>
-    ensures value { IfOk result (λ v. view v ≡ list_data (map number_data (member_list set))) }
-    ensures reads_back { IfOk result (λ v. All (λ m. member_shape (number_data m) ≡ Some m) (member_list set)) }
+/// Writes the numbers as a list that begins with this name.
+fn write_named(out: &mut Writer, name: &str, numbers: &[u32]) -> Result<(), AllocError>
+    ensures written { OnOk result (Appends (list_data (string name.now ∷ map number_data numbers.now)) out.old out.new) }
+    ensures spelled { OnOk result (IsSpelled 1 (list_data (string name.now ∷ map number_data numbers.now))) }
 {
-    let members = set.members(alloc)?;
-    list_value::<Member, MemberForm>(alloc, Vec::new(alloc), members.as_slice())
+    out.begin_array()?;
+    out.string(name)?;
+    write_items::<u32, NumberForm>(out, numbers)
 }
 
-/// The members of an object that a dump has in either version, but for its events.
-fn common_members(
-    alloc: Global,
-    members: u8,
-    f: u8,
-    strike: MemberSet,
-) -> Result<Map<String, Value>, AllocError>
-    ensures value { IfOk result (λ m. members_view m.entries ≡ common_data members f strike) }
-    ensures reads_back { IfOk result (λ m. All (λ m. member_shape (number_data m) ≡ Some m) (member_list strike)) }
+/// Writes a number of an object, at the key of this name.
+fn write_number(out: &mut Writer, name: &str, number: u8) -> Result<(), AllocError>
+    ensures written { OnOk result (AppendsTokens (key name.now ∷ json_tokens (outline (number_data number))) out.old out.new) }
 {
-    let mut object = Map::new(alloc);
-    put(&mut object, alloc, "members", Value::from(members))?;
-    put(&mut object, alloc, "f", Value::from(f))?;
-    put(&mut object, alloc, "strike", set_value(alloc, strike)?)?;
-    Ok(object)
+    out.key(name)?;
+    out.u64(u64::from(number))
 }
 
-/// A dump as an object.
-#[tactic(auto, unfolding(crate::specs::DumpLines::dump_data))]
-fn dump_value(alloc: Global, dump: &Dump) -> Result<Value, AllocError>
-    ensures value { IfOk result (λ v. view v ≡ dump_data dump.now) }
-    ensures reads_back { IfOk result (λ v. parts_of_data (dump_data dump.now) ≡ Ok dump.now) }
+/// Writes the items as a list of an object, at the key of this name.
+fn write_field<T: Copy, F: Form<T>>(
+    out: &mut Writer,
+    name: &str,
+    items: &[T],
+) -> Result<(), AllocError>
+    ensures written { OnOk result (AppendsTokens (key name.now ∷ json_tokens (outline (list_data (map F.form items.now)))) out.old out.new) }
+    ensures reads_back { OnOk result (IsReadBack (λ xs. list_data (map F.form xs)) (list_of F.shape) (suc F.depth) items.now) }
 {
-    let mut object = common_members(alloc, dump.members(), dump.f(), dump.strike())?;
-    let events = list_value::<Mark, EventForm>(alloc, Vec::new(alloc), dump.events())?;
-    put(&mut object, alloc, "events", events)?;
-    let held = list_value::<_, PairForm>(alloc, Vec::new(alloc), dump.held())?;
-    put(&mut object, alloc, "held", held)?;
-    Ok(Value::Object(object))
+    out.key(name)?;
+    write_list::<T, F>(out, items)
 }
 
-/// A log as an object.
-#[tactic(auto, unfolding(crate::specs::LogLines::log_data))]
-fn log_value(alloc: Global, log: &Run) -> Result<Value, AllocError>
-    ensures value { IfOk result (λ v. view v ≡ log_data log.now) }
-    ensures reads_back { IfOk result (λ v. log.now.judged ≡ AtEachMoment → log_of_data (log_data log.now) ≡ Ok log.now) }
+/// Writes a dump as an object, with its keys in the order of their letters.
+fn write_dump(out: &mut Writer, alloc: Global, dump: &Dump) -> Result<(), AllocError>
+    ensures written { OnOk result (Appends (dump_data dump.now) out.old out.new) }
+    ensures reads_back { OnOk result (IsDumpRead dump.now) }
 {
-    let mut object = common_members(alloc, log.members(), log.f(), log.strike())?;
-    let events = list_value::<Entry, EntryForm>(alloc, Vec::new(alloc), log.entries())?;
-    put(&mut object, alloc, "events", events)?;
-    put(&mut object, alloc, "version", Value::from(2u8))?;
-    Ok(Value::Object(object))
+    let strike = dump.strike().members(alloc)?;
+    out.begin_object()?;
+    write_field::<Mark, EventForm>(out, "events", dump.events())?;
+    write_number(out, "f", dump.f())?;
+    write_field::<_, PairForm>(out, "held", dump.held())?;
+    write_number(out, "members", dump.members())?;
+    write_field::<Member, MemberForm>(out, "strike", strike.as_slice())?;
+    out.end_object()
 }
 
-/// The value as one line of JSON with no space, which ends with a newline.
-fn line_of(alloc: Global, value: &Value) -> Result<String, AllocError>
-    requires { IsWritable (view value.now) }
-    ensures line { IfOk result (λ text. string_bytes text ≡ compact_text (view value.now) ++ 10 ∷ []) }
-    ensures reads_back { IfOk result (λ text. json_of (compact_text (view value.now) ++ 10 ∷ []) ≡ Some (view value.now)) }
+/// Writes a log as an object, with its keys in the order of their letters.
+fn write_log(out: &mut Writer, alloc: Global, log: &Run) -> Result<(), AllocError>
+    ensures written { OnOk result (Appends (log_data log.now) out.old out.new) }
+    ensures reads_back { OnOk result (IsLogRead log.now) }
 {
-    let mut text = value.to_string(alloc)?;
-    // the text's contract says that it is UTF-8, as reading it back asks
-    let _text = text.as_str();
-    text.push_str("\n")?;
-    Ok(text)
+    let strike = log.strike().members(alloc)?;
+    out.begin_object()?;
+    write_field::<Entry, EntryForm>(out, "events", log.entries())?;
+    write_number(out, "f", log.f())?;
+    write_number(out, "members", log.members())?;
+    write_field::<Member, MemberForm>(out, "strike", strike.as_slice())?;
+    write_number(out, "version", 2)?;
+    out.end_object()
+}
+
+/// What was written, as a line that ends with a newline.
+fn line_of(alloc: Global, out: Writer) -> Result<String, AllocError>
+    requires { out.before ≡ [] }
+    ensures { IfOk result (λ text. (d : Data) → out.tokens ≡ json_tokens (outline d) → IsSpelled 3 d → IsLineOf d text) }
+{
+    let mut bytes = out.into_inner();
+    bytes.push(b'\n')?;
+    match String::from_utf8(bytes) {
+        Ok(text) => Ok(text),
+        Err(_) => Ok(String::new(alloc)),
+    }
 }
 
 /// The dump as one line of JSON, which ends with a newline. `Err` comes only where there is no memory for it.
@@ -300,8 +307,9 @@ pub fn dump_text(alloc: Global, dump: &Dump) -> Result<String, AllocError>
     ensures line { IfOk result (λ text. string_bytes text ≡ dump_line dump.now) }
     ensures reads_back { IfOk result (λ text. ReadsBack dump.now) }
 {
-    let value = dump_value(alloc, dump)?;
-    line_of(alloc, &value)
+    let mut out = Writer::new(Vec::new(alloc));
+    write_dump(&mut out, alloc, dump)?;
+    line_of(alloc, out)
 }
 
 /// The log as one line of JSON, which ends with a newline. `Err` comes only where there is no memory for it.
@@ -309,6 +317,7 @@ pub fn log_text(alloc: Global, log: &Run) -> Result<String, AllocError>
     ensures line { IfOk result (λ text. string_bytes text ≡ log_line log.now) }
     ensures reads_back { IfOk result (λ text. LogReadsBack log.now) }
 {
-    let value = log_value(alloc, log)?;
-    line_of(alloc, &value)
+    let mut out = Writer::new(Vec::new(alloc));
+    write_log(&mut out, alloc, log)?;
+    line_of(alloc, out)
 }

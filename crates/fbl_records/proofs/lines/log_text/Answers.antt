@@ -1,16 +1,17 @@
 use Rattle.fbl_records.proofs.Common.{◌∙◌, IfOk-weaker, refl}
 use Rattle.fbl_records.specs.LogLines.{log_data}
-use Rattle.fbl_records.proofs.LogValues.{log_writable, recorded_read}
+use Rattle.fbl_records.proofs.LogValues.{recorded_read}
 use Rattle.fbl_records.proofs.Records.{text_records}
 use Rattle.fbl_records.proofs.lines.log_text.Goals as goal
 
-pub line_of-requires : goal.line_of-requires
-line_of-requires c = rw c.in_ok-value.ensures.value (log_writable c.args.log.now)
-
 pub returns-clause-line : goal.returns-clause-line
-returns-clause-line c = rw (← c.in_ok-value.ensures.value) c.line_of.ensures.line
+returns-clause-line c =
+    let is = c.in_ok-write_log.ensures in
+    IfOk-weaker c.line_of.result _ _ (λ text line. (line (log_data c.args.log.now) (rw c.new-out.ensures.tokens at is.written.tokens) is.reads_back.1).0) c.line_of.ensures
 
 pub returns-clause-reads_back : goal.returns-clause-reads_back
 unfolding log_data
 returns-clause-reads_back c =
-    IfOk-weaker c.line_of.result _ _ (λ text reads judged short. text_records _ (log_data c.args.log.now) short refl (rw c.in_ok-value.ensures.value at reads) ∙ recorded_read c.args.log.now (c.in_ok-value.ensures.reads_back judged)) c.line_of.ensures.reads_back
+    let d = log_data c.args.log.now in
+    let is = c.in_ok-write_log.ensures in
+    IfOk-weaker c.line_of.result _ _ (λ text line judged short. text_records _ d short refl (line d (rw c.new-out.ensures.tokens at is.written.tokens) is.reads_back.1).1 ∙ recorded_read c.args.log.now (is.reads_back.0 judged)) c.line_of.ensures
