@@ -290,7 +290,7 @@ fn next_fields(alloc: Global, reader: &mut Reader<'_>) -> Result<Option<Fields>,
 pub(crate) fn dump_in_tokens(alloc: Global, input: &[u8]) -> Result<Option<RawDump>, AllocError>
     ensures { IfOk result (λ found. IfSome found (IsDumpText input.now)) }
 {
-    let Ok(text) = std::str::from_utf8(input) else {
+    let Ok(text) = simdutf8::compat::from_utf8(input) else {
         return Ok(None);
     };
     let mut scratch = Scratch::new(alloc);
