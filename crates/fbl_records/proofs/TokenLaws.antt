@@ -1,6 +1,6 @@
 -- What comes next of a dump, a token at a time.
-use Rattle.fbl_records.proofs.Common.{◌≡◌, ◌∙◌, ◌<◌, ◌-◌, ◌==◌, ℕ, List, [], ◌∷◌, ◌++◌, Bool, true, false, not, cond, Some, None, IfSome, Option, length, ap, arith, refl, subst, sym, option_and_then, option_map, nat_cmp}
-use Rattle.fbl_records.proofs.Common.{Determinant, Mark, all_shaped, event_shape, list_data, list_of, name_of, number_data, pair_shape, set_shape}
+use Rattle.fbl_records.proofs.Common.{◌≡◌, ◌∙◌, ◌<◌, ◌-◌, ◌==◌, ℕ, List, [], ◌∷◌, Bool, true, false, not, cond, Some, None, IfSome, Option, length, ap, arith, refl, subst, sym, option_and_then, option_map, nat_cmp}
+use Rattle.fbl_records.proofs.Common.{Determinant, Mark, event_shape, list_data, list_of, name_of, number_data, pair_shape, set_shape}
 use Rattle.std.proofs.Common.{◌^◌, is_some, slice_index, lt-ltb, ne_eqb, eq-eqb, Vec, Global}
 use Rattle.std.specs.Ordering.{match_ordering}
 use Rattle.std.specs.Str.{bytes_eq}
@@ -91,32 +91,6 @@ object_next depth old mid new ms some e rest = (
 -- what comes first of a text is its value where nothing comes behind
 pub text_read : (text : List ℕ) (d : Data) (old new : List Token) → old ≡ tokens text → IsNext 127 old d new → new ≡ [] → read text ≡ Some d
 text_read text d old new e next over = rw (← e, next.1, over) next.2
-
--- ---- items
-
-module _ {A : Type 0} where
-  abbrev with_last : Option A → Option (List A) → Option (List A)
-  with_last last front = option_and_then (λ xs. option_map (λ x. xs ++ x ∷ []) last) front
-
-  alone : (o : Option A) → option_and_then (λ x. option_map (λ rest. x ∷ rest) (Some [])) o ≡ with_last o (Some [])
-  alone None = refl
-  alone (Some x) = refl
-
-  behind : (first : Option A) (front : Option (List A)) (last : Option A)
-      → option_and_then (λ x. option_map (λ rest. x ∷ rest) (with_last last front)) first ≡ with_last last (option_and_then (λ x. option_map (λ rest. x ∷ rest) front) first)
-  behind None front last = refl
-  behind (Some x) None last = refl
-  behind (Some x) (Some xs) None = refl
-  behind (Some x) (Some xs) (Some y) = refl
-
-  module _ (shape : Data → Option A) where
-    with_one_more : (front : List Data) (d : Data) → all_shaped shape (front ++ d ∷ []) ≡ with_last (shape d) (all_shaped shape front)
-    with_one_more [] d = alone (shape d)
-    with_one_more (f ∷ front) d = ap (λ rest. option_and_then (λ x. option_map (λ more. x ∷ more) rest) (shape f)) (with_one_more front d) ∙ behind (shape f) (all_shaped shape front) (shape d)
-
-    -- one more item has the shape
-    pub one_more : (front : List Data) (d : Data) (xs : List A) (x : A) → all_shaped shape front ≡ Some xs → shape d ≡ Some x → all_shaped shape (front ++ d ∷ []) ≡ Some (xs ++ x ∷ [])
-    one_more front d xs x e is = with_one_more front d ∙ rw (e, is)
 
 -- ---- fields
 
