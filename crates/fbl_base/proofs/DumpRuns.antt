@@ -6,7 +6,7 @@ use Rattle.fbl_trace.specs.declared.trace.Determinant.{Determinant}
 use Rattle.fbl_trace.specs.declared.trace.Mark.{Mark}
 use Rattle.fbl_runs.specs.declared.causality.Causality.TheVariants.{Dependence}
 use Rattle.fbl_runs.specs.declared.entry.Entry.{Entry}
-use Rattle.fbl_runs.specs.declared.entry.Entry.TheVariants.{Event, Hold, LaterReceipt, Restart, Store, Tell, Told}
+use Rattle.fbl_runs.specs.declared.entry.Entry.TheVariants.{Event, Hold, LaterReceipt, Store}
 use Rattle.fbl_trace.specs.Events.{determinant_of, member_of, receipt_of, receipts, send_of}
 use Rattle.fbl_trace.specs.declared.trace.Mark.TheVariants.{Receipt, Send}
 use Rattle.fbl_runs.specs.Moments.{Cut, DependsAt, HoldsAt, IsReceiptAt, IsStoredAt, Stands, last_cut}
@@ -161,12 +161,8 @@ module _ (n : ℕ) (entries : List Entry) (obeys : WellFormed n (marks entries))
 receipts_of : (es : List Entry) → receipts_in es ≡ receipts (marks es)
 receipts_of [] = refl
 receipts_of (LaterReceipt d life ∷ es) = ap (λ ds. d ∷ ds) (receipts_of es)
-receipts_of (Restart r ∷ es) = receipts_of es
 receipts_of (Event m ∷ es) = ap (λ ds. cons_option (determinant_of m) ds) (receipts_of es)
-receipts_of (Hold q d ∷ es) = receipts_of es
-receipts_of (Store q d ∷ es) = receipts_of es
-receipts_of (Tell t ∷ es) = receipts_of es
-receipts_of (Told t ∷ es) = receipts_of es
+receipts_of (e ∷ es) = receipts_of es
 
 module _ (dump : Parts) (rules : IsDump dump) where
   abbrev es : List Entry
@@ -227,11 +223,7 @@ module _ (dump : Parts) (rules : IsDump dump) where
         let some : ◌≡◌ {A = Option Determinant} (Some d') (Some d) = is in
         let same : d' ≡ d = (cc) in
         ap (λ (d : Determinant). Some (receipt_of d)) same
-    mark_of (Hold q d') is = cc
-    mark_of (Store q d') is = cc
-    mark_of (Tell m) is = cc
-    mark_of (Told m) is = cc
-    mark_of (Restart r) is = cc
+    mark_of e is = cc
 
   -- who depends on a receipt at the end depends on it by the events
   depends_same : (i : Position) (d : Determinant) → IsReceiptAt (log_of es) d i → (q : ℕ) → DependsAt (log_of es) end i q ↔ base.Depends dump.events q (receipt_of d)

@@ -6,7 +6,7 @@ use Rattle.fbl_trace.specs.declared.trace.Mark.{Mark}
 use Rattle.fbl_trace.specs.declared.trace.Mark.TheVariants.{Receipt, Send}
 use Rattle.fbl_runs.proofs.Common.{MayFollow-last, MayFollow-new, WellFormed-front, in_flight-sent, MayFollow, WellFormed, send_of}
 use Rattle.fbl_runs.specs.declared.entry.Entry.{Entry}
-use Rattle.fbl_runs.specs.declared.entry.Entry.TheVariants.{Event, Hold, LaterReceipt, Restart, Store, Tell, Told}
+use Rattle.fbl_runs.specs.declared.entry.Entry.TheVariants.{Event, Hold, Restart}
 use Rattle.fbl_runs.proofs.Common.{log_of, mark_in, restart_in, marks, IsAt, Position, at, StandsBehind, StandsInLife, Carries}
 use Rattle.fbl_runs.specs.declared.entry.Restart as restart
 use Rattle.fbl_runs.specs.Lives.{life_after, life_from}
@@ -21,13 +21,8 @@ life_goes_on : (log : List Entry) (life : ℕ) → ((k : ℕ) (r : restart.Resta
 life_goes_on [] life none = refl
 life_goes_on (e ∷ log) life none = by_entry e (life_goes_on log life (λ k r. none (suc k) r)) (λ r is. none 0 r (ap Some is)) where
   by_entry : (e : Entry) → life_from life log ≡ life → ((r : restart.Restart) → ¬ (e ≡ Restart r)) → life_from (life_after (restart_in e) life) log ≡ life
-  by_entry (Event m) rest not = rest
-  by_entry (LaterReceipt d l) rest not = rest
-  by_entry (Hold q d) rest not = rest
-  by_entry (Store q d) rest not = rest
-  by_entry (Tell m) rest not = rest
-  by_entry (Told m) rest not = rest
   by_entry (Restart r) rest not = absurd (not r refl)
+  by_entry e rest not = rest
 
 module _ (n : ℕ) (entries : List Entry) (obeys : WellFormed n (marks entries)) (plain : IsPlain entries) where
   front_obeys : (p : ℕ) (e : Mark) → slice_get entries p ≡ Some (Event e) → WellFormed n (marks (take p entries) ++ e ∷ [])

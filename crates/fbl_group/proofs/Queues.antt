@@ -3,7 +3,7 @@ pub use Rattle.fbl_group.proofs.Common.{◌≡◌, ℕ, zero, suc, ◌+◌, ◌<
 use Rattle.fbl_group.proofs.Common.{◌⊎◌, inl, inr, true, false, Option, None, channel, sum_below, nat_tests, len-empty, take_refusal, deliver_refusal, is_full, step_of, Next, GroupRecord, IsDeliverRefusal, if◌then◌else◌, cases_eq, some-at}
 use Rattle.std.specs.FinSet as set
 use Rattle.fbl_group.specs.declared.refusals.DeliverRefusal.{DeliverRefusal}
-use Rattle.fbl_group.specs.declared.refusals.DeliverRefusal.TheVariants.{BadMember, Down, Empty, Full, Memory}
+use Rattle.fbl_group.specs.declared.refusals.DeliverRefusal.TheVariants.{Full, Memory}
 use Rattle.fbl_group.specs.declared.refusals.TakeRefusal.{TakeRefusal}
 use Rattle.fbl_group.specs.Deliveries.{take_or_room}
 use Rattle.fbl_group.specs.Laws.{SomeDeliveryIsOpen}
@@ -96,11 +96,9 @@ full_is first refusal is (inl none) = absurd cc
 full_is first refusal is (inr full) = cc
 
 full_or_memory : (first : Option DeliverRefusal) → (first ≡ None) ⊎ (first ≡ Some Full) → (refusal : DeliverRefusal) → IsDeliverRefusal first refusal → (refusal ≡ Full) ⊎ (refusal ≡ Memory)
-full_or_memory first either BadMember is = inl (full_is first BadMember is either)
-full_or_memory first either Down is = inl (full_is first Down is either)
-full_or_memory first either Empty is = inl (full_is first Empty is either)
 full_or_memory first either Full is = inl refl
 full_or_memory first either Memory is = inr refl
+full_or_memory first either x is = inl (full_is first x is either)
 
 room_only : (full : Bool) → ((if full then Some Full else None) ≡ None) ⊎ ((if full then Some Full else None) ≡ Some Full)
 room_only true = inr refl

@@ -63,9 +63,7 @@ makes old new event longer is = record {
 pub stopped_weaker : (P Q : Type 0) → (P → Q) → (fault : RecordFault) → IsStopped P fault → IsStopped Q fault
 stopped_weaker P Q f faults.Memory is = tt
 stopped_weaker P Q f faults.OtherHistory is = f is
-stopped_weaker P Q f faults.Restarts is = absurd is
-stopped_weaker P Q f faults.Marks is = absurd is
-stopped_weaker P Q f (faults.Refused breach) is = absurd is
+stopped_weaker P Q f x is = absurd is
 
 pub stopped_err : {T : Type 0} (r : Result T RecordFault) (fault : RecordFault) (P Q : Type 0) → (P → Q) → IsErrAnd r (λ e. e ≡ fault) → IsStopped P fault
     → IfErr r (IsStopped Q)
@@ -75,9 +73,7 @@ module _ (next : Next ℕ Note) (config : Settings Note) (columns : List Column)
   of_another : (fault : RecordFault) → IsStopped (IsOfAnother next config columns) fault → IsRecord next config columns (Err fault)
   of_another faults.Memory is = tt
   of_another faults.OtherHistory is = is
-  of_another faults.Restarts is = absurd is
-  of_another faults.Marks is = absurd is
-  of_another (faults.Refused breach) is = absurd is
+  of_another x is = absurd is
 
   -- the history is of another group
   pub another_ends : (r : Result RunParts RecordFault) (fault : RecordFault) → IsErrAnd r (λ e. e ≡ fault) → IsStopped (IsOfAnother next config columns) fault
@@ -86,10 +82,8 @@ module _ (next : Next ℕ Note) (config : Settings Note) (columns : List Column)
 
   no_log : (raw : RawLog) → IsRecordOf next config columns raw → (fault : RecordFault) → IsLogFault (parts_of_log raw) fault → IsRecord next config columns (Err fault)
   no_log raw made faults.Memory is = tt
-  no_log raw made faults.OtherHistory is = absurd is
-  no_log raw made faults.Restarts is = absurd is
-  no_log raw made faults.Marks is = absurd is
   no_log raw made (faults.Refused breach) is = (raw, made, is)
+  no_log raw made x is = absurd is
 
   -- the record is a log, or it is not
   pub record_ends : (raw : RawLog) → IsRecordOf next config columns raw → (r : Result RunParts RecordFault) → IfOk r (λ run. IsLog run × (run ≡ parts_of_log raw))

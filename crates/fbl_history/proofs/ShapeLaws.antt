@@ -35,19 +35,15 @@ Decides-same_message a b =
 -- ---- events
 
 marks-here : (place : ℕ) (c : Column) → filter (is_mark_in place) (column_marks place c) ≡ option_to_list (event_mark place c)
-marks-here place (columns.Send from ssn to undone) = rw (eqb-self place) refl
-marks-here place (columns.Receipt to rsn from ssn state undone) = rw (eqb-self place) refl
 marks-here place (columns.Strike struck) = filter_map_none (is_mark_in place) (strike_mark place) (member_list struck) (λ q. rw (eqb-self place) refl)
 marks-here place (columns.Recovery replays) = filter_map_none (is_mark_in place) (recovery_mark place) replays.items (λ q. rw (eqb-self place) refl)
-marks-here place (columns.Checkpoint m) = rw (eqb-self place) refl
+marks-here place m = rw (eqb-self place) refl
 
 -- and in another column no mark is one of these
 marks-elsewhere : (place i : ℕ) → i ≢ place → (c : Column) → filter (is_mark_in place) (column_marks i c) ≡ []
-marks-elsewhere place i apart (columns.Send from ssn to undone) = rw (ne_eqb i place apart) refl
-marks-elsewhere place i apart (columns.Receipt to rsn from ssn state undone) = rw (ne_eqb i place apart) refl
 marks-elsewhere place i apart (columns.Strike struck) = filter_map_none (is_mark_in place) (strike_mark i) (member_list struck) (λ q. rw (ne_eqb i place apart) refl)
 marks-elsewhere place i apart (columns.Recovery replays) = filter_map_none (is_mark_in place) (recovery_mark i) replays.items (λ q. rw (ne_eqb i place apart) refl)
-marks-elsewhere place i apart (columns.Checkpoint m) = rw (ne_eqb i place apart) refl
+marks-elsewhere place i apart m = rw (ne_eqb i place apart) refl
 
 pub marks_each_event : (history : List Column) → MarksEachEvent history
 unfolding history_marks

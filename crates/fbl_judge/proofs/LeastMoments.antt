@@ -1,6 +1,6 @@
 -- The least moment at which an entry has come.
 use Rattle.fbl_judge.proofs.Common.{ℕ, zero, suc, Bool, true, false, ◌≡◌, ◌<◌, ◌≤◌, ◌⊎◌, ◌↔◌, inl, inr, List, [], ◌∷◌, Some, slice_get, length, refl, sym, subst, ◌∙◌, arith, cases_lt, false≢true, slice_get_within}
-use Rattle.fbl_judge.proofs.Common.{AreEntries, HappenedBefore, Entry, Event, Hold, LaterReceipt, Receipt, Restart, Send, Store, Tell, Told, IsArrival, IsRecord, Logs, log_of, IsAt, Leads, Position, Precedes, at, itself, step, Cut, HasCome, IsInStepOf, IsLeastMoment}
+use Rattle.fbl_judge.proofs.Common.{AreEntries, HappenedBefore, Entry, Event, Hold, Send, Store, Tell, IsArrival, IsRecord, Logs, log_of, IsAt, Leads, Position, Precedes, at, itself, step, Cut, HasCome, IsInStepOf, IsLeastMoment}
 use Rattle.fbl_runs.specs.Precedence.{IsPast}
 use Rattle.fbl_runs.proofs.ClockLaws.{Precedes-joined, first_there, has_past, leads_there}
 use Rattle.fbl_judge.specs.Laws.{LeastMomentLaw}
@@ -18,11 +18,8 @@ kind : (e : Entry) → Kind e
 kind (Hold q d) = is_record (d, refl)
 kind (Store q d) = is_record (d, refl)
 kind (Event (Send from ssn to)) = is_other (no_record (Event (Send from ssn to)) refl) (λ no'. no')
-kind (Event (Receipt to rsn from ssn)) = is_arrival tt (no_record (Event (Receipt to rsn from ssn)) refl)
-kind (LaterReceipt d life) = is_arrival tt (no_record (LaterReceipt d life) refl)
 kind (Tell m) = is_other (no_record (Tell m) refl) (λ no'. no')
-kind (Told m) = is_arrival tt (no_record (Told m) refl)
-kind (Restart r) = is_arrival tt (no_record (Restart r) refl)
+kind e = is_arrival tt (no_record e refl)
 
 abbrev RecordAt : List Entry → ℕ → Type 0
 RecordAt log x = (e : Entry) × (slice_get log x ≡ Some e) × IsRecord e

@@ -1,6 +1,6 @@
 -- A member's life at a view: where in it the member first depends on a receipt, and the least moment at which it does.
 use Rattle.fbl_judge.proofs.Common.{ℕ, ◌≡◌, ◌<◌, ◌≤◌, ◌+◌, inl, inr, max, Some, None, length, refl, ap, subst, ◌∙◌, arith, cases_eq, cases_lt, slice_get_within}
-use Rattle.fbl_judge.proofs.Common.{Determinant, Mark, Receipt, Send, send_of, Dependence, Entry, Event, Hold, LaterReceipt, Restart, Store, Tell, Told, IsArrival, Logs, mark_in, receipt_in, IsAt, Leads, Position, Precedes, at, step, StandsBehind, Cut, DependsAt, HasCome, HasRestarted, IsMoment, IsReceiptAt, SameRestarts}
+use Rattle.fbl_judge.proofs.Common.{Determinant, Mark, Receipt, Send, send_of, Dependence, Entry, Event, LaterReceipt, Restart, IsArrival, Logs, mark_in, receipt_in, IsAt, Leads, Position, Precedes, at, step, StandsBehind, Cut, DependsAt, HasCome, HasRestarted, IsMoment, IsReceiptAt, SameRestarts}
 use Rattle.fbl_runs.proofs.ClockLaws.{last_step, last_there}
 use Rattle.fbl_judge.specs.Candidates.{IsLeastIn, NoneDepends}
 use Rattle.fbl_judge.specs.Pasts.{IsFirstInLife}
@@ -10,24 +10,15 @@ use Rattle.fbl_judge.proofs.PastLaws.{joined_moment, joined_parts, joined_within
 
 -- a receipt comes in
 pub receipt_arrives : (e : Entry) (d : Determinant) → receipt_in e ≡ Some d → IsArrival e
-receipt_arrives (Event (Send from ssn to)) d is = absurd cc
 receipt_arrives (Event (Receipt to rsn from ssn)) d is = tt
 receipt_arrives (LaterReceipt x life) d is = tt
-receipt_arrives (Hold q x) d is = absurd cc
-receipt_arrives (Store q x) d is = absurd cc
-receipt_arrives (Tell m) d is = absurd cc
-receipt_arrives (Told m) d is = absurd cc
-receipt_arrives (Restart r) d is = absurd cc
+receipt_arrives e d is = absurd cc
 
 taker_arrives : (b : Entry) (r s : Mark) → mark_in b ≡ Some r → send_of r ≡ Some s → IsArrival b
 taker_arrives (Event (Send from ssn to)) r s is takes = absurd (let same : Send from ssn to ≡ r = cc in let none : None ≡ Some s = ap send_of same ∙ takes in cc)
 taker_arrives (Event (Receipt to rsn from ssn)) r s is takes = tt
 taker_arrives (LaterReceipt x life) r s is takes = tt
-taker_arrives (Hold q x) r s is takes = absurd cc
-taker_arrives (Store q x) r s is takes = absurd cc
-taker_arrives (Tell m) r s is takes = absurd cc
-taker_arrives (Told m) r s is takes = absurd cc
-taker_arrives (Restart x) r s is takes = absurd cc
+taker_arrives b r s is takes = absurd cc
 
 -- between two of one life what depends goes on to
 pub depends_on : (logs : Logs) (i : Position) (q start top x y : ℕ) → IsOneLife (logs q) start top → start ≤ x → x ≤ y → y < top → Precedes Dependence logs i (at q x) → (b : Entry) → IsAt logs (at q y) b → Precedes Dependence logs i (at q y)
@@ -161,14 +152,14 @@ module _ (logs : Logs) (base : Cut) (is_base : IsBase logs base) (q start top : 
 
 -- ---- the members' lives
 
-module _ (logs : Logs) (none_beyond : (q : ℕ) → 16 ≤ q → length (logs q) ≡ 0) (base : Cut) (starts tops : ℕ → ℕ) (lives : (q : ℕ) → q < 16 → IsLifeAt logs base q (starts q) (tops q)) where
-  -- who has an entry is below 16
-  pub below_16 : (i : Position) (e : Entry) → IsAt logs i e → i.member < 16
-  below_16 i e here = elim (cases_lt i.member 16) [
-    | inl fine ↦ fine
-    | inr past ↦ absurd (let none = none_beyond i.member past in let within = slice_get_within (logs i.member) i.number e here in omega (arith, none, within))
-  ]
+-- who has an entry is below 16, where nobody beyond has one
+pub below_16 : (logs : Logs) → ((q : ℕ) → 16 ≤ q → length (logs q) ≡ 0) → (i : Position) (e : Entry) → IsAt logs i e → i.member < 16
+below_16 logs none_beyond i e here = elim (cases_lt i.member 16) [
+  | inl fine ↦ fine
+  | inr past ↦ absurd (let none = none_beyond i.member past in let within = slice_get_within (logs i.member) i.number e here in omega (arith, none, within))
+]
 
+module _ (logs : Logs) (none_beyond : (q : ℕ) → 16 ≤ q → length (logs q) ≡ 0) (base : Cut) (starts tops : ℕ → ℕ) (lives : (q : ℕ) → q < 16 → IsLifeAt logs base q (starts q) (tops q)) where
   -- a cut with what the view has has just its restarts where it has no more entries than the members' lives
   pub within_same : (cut : Cut) → ((q : ℕ) → base q ≤ cut q) → ((q : ℕ) → q < 16 → cut q ≤ tops q) → SameRestarts logs base cut
   within_same cut under within i = (
@@ -176,7 +167,7 @@ module _ (logs : Logs) (none_beyond : (q : ℕ) → 16 ≤ q → length (logs q)
     λ h. (
       h.0,
       h.1,
-      (let below = below_16 i (Restart h.0) h.1 in let upto = within i.member below in let x = h.2 in
+      (let below = below_16 logs none_beyond i (Restart h.0) h.1 in let upto = within i.member below in let x = h.2 in
           ((lives i.member below).last i.number h.0 (omega (arith, x, upto)) h.1).1),
     ),
   )

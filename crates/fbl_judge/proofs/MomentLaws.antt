@@ -32,23 +32,16 @@ pub no_record : (e : Entry) → recorded_in e ≡ None → ¬ (IsRecord e)
 no_record e none record' = (let some : None ≡ Some record'.0 = sym none ∙ record'.1 in cc)
 
 pub arrival_no_record : (a : Entry) → IsArrival a → ¬ (IsRecord a)
-arrival_no_record (Event m) arrives = no_record (Event m) refl
-arrival_no_record (LaterReceipt d life) arrives = no_record (LaterReceipt d life) refl
-arrival_no_record (Told m) arrives = no_record (Told m) refl
-arrival_no_record (Restart r) arrives = no_record (Restart r) refl
 arrival_no_record (Tell m) arrives = absurd arrives
 arrival_no_record (Hold q d) arrives = absurd arrives
 arrival_no_record (Store q d) arrives = absurd arrives
+arrival_no_record e arrives = no_record e refl
 
 -- a mark is no hold or store
 mark_no_record : (b : Entry) (r : Mark) → mark_in b ≡ Some r → ¬ (IsRecord b)
 mark_no_record (Event m) r is = no_record (Event m) refl
 mark_no_record (LaterReceipt d life) r is = no_record (LaterReceipt d life) refl
-mark_no_record (Told m) r is = absurd cc
-mark_no_record (Restart x) r is = absurd cc
-mark_no_record (Tell m) r is = absurd cc
-mark_no_record (Hold q d) r is = absurd cc
-mark_no_record (Store q d) r is = absurd cc
+mark_no_record e r is = absurd cc
 
 send_no_arrival : (s r : Mark) → send_of r ≡ Some s → ¬ (IsArrival (Event s))
 send_no_arrival s (Send from ssn to) takes arrives = cc

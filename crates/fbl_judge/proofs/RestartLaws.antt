@@ -1,16 +1,11 @@
 -- Whether an entry is a restart.
-use Rattle.fbl_judge.proofs.Common.{Bool, None, Option, Some, false, true, ap, sym, ◌≡◌, ◌∙◌, false≢true, Entry, Event, Hold, LaterReceipt, Restart, Store, Tell, Told, restart_in}
+use Rattle.fbl_judge.proofs.Common.{Bool, None, Option, Some, false, true, ap, sym, ◌≡◌, ◌∙◌, false≢true, Entry, Restart, restart_in}
 use Rattle.std.proofs.Common.{is_some}
 use Rattle.fbl_runs.specs.declared.entry.Restart as restart
 
 pub of_restart : (e : Entry) (r : restart.Restart) → restart_in e ≡ Some r → e ≡ Restart r
 of_restart (Restart x) r is = (let same : x ≡ r = cc in ap Restart same)
-of_restart (Event m) r is = absurd cc
-of_restart (Hold q d) r is = absurd cc
-of_restart (Store q d) r is = absurd cc
-of_restart (Tell m) r is = absurd cc
-of_restart (Told m) r is = absurd cc
-of_restart (LaterReceipt d life) r is = absurd cc
+of_restart e r is = absurd cc
 
 pub is_restart : (e : Entry) (o : Option restart.Restart) (b : Bool) → o ≡ restart_in e → b ≡ is_some o → b ≡ true → (r : restart.Restart) × (e ≡ Restart r)
 is_restart e None b of is yes' = absurd (false≢true (sym is ∙ yes'))

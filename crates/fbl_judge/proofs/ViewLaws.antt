@@ -1,94 +1,55 @@
 -- The views that a pass finds: each is one, and each moment has just the restarts of one.
-use Rattle.fbl_judge.proofs.Common.{ℕ, zero, suc, cond, ◌≡◌, ◌≢◌, ◌<◌, ◌≤◌, ◌+◌, ◌⊎◌, ◌↔◌, inl, inr, List, [], ◌∷◌, ◌++◌, max, At-front, At-push, Some, None, slice_get, length, take, refl, sym, ap, subst, ◌∙◌, arith, cases_eq, cases_lt, cases_order, slice_get_within}
-use Rattle.fbl_judge.proofs.Common.{AreEntries, HappenedBefore, Entry, Event, Hold, LaterReceipt, Restart, Store, Tell, Told, Logs, entry_member, log_of, restart_in, IsAt, Position, Precedes, at, Cut, HasCome, HasRestarted, IsMoment}
+use Rattle.fbl_judge.proofs.Common.{drop, ℕ, zero, suc, cond, ◌≡◌, ◌≢◌, ◌<◌, ◌≤◌, ◌+◌, ◌⊎◌, ◌↔◌, inl, inr, List, [], ◌∷◌, ◌++◌, max, At-front, At-push, Some, None, slice_get, length, take, refl, sym, ap, subst, ◌∙◌, arith, cases_eq, cases_lt, cases_order, slice_get_within}
+use Rattle.fbl_judge.proofs.Common.{AreEntries, HappenedBefore, Entry, Restart, Logs, entry_member, log_of, restart_in, IsAt, Position, Precedes, at, Cut, HasCome, HasRestarted, IsMoment}
 use Rattle.std.proofs.Common.{replicate, slice_index, slice_set}
 use Rattle.fbl_trace.proofs.Gets.{At-seam, take-more}
-use Rattle.std.proofs.lemmas.List.Sums.{sum_by-cons}
+use Rattle.std.proofs.lemmas.List.{length-take, take-append-drop, take-take}
+use Rattle.std.proofs.lemmas.List.Sums.{count_by-le-length, sum_by-append}
 use Rattle.fbl_runs.specs.declared.entry.Restart as restart
 use Rattle.fbl_runs.specs.Clocks.{StandsAt, cut_of, seen}
 use Rattle.fbl_runs.specs.Rules.{is_restart, restarts}
 use Rattle.fbl_runs.proofs.Listing.{locate_all, seen-all, seen-later, seen-other, seen-own, seen_mono, some_entry, stands_at}
+use Rattle.fbl_runs.proofs.RestartCounts.{restart_counted, restarts_next}
 use Rattle.fbl_runs.proofs.LeadsLaws.{here_stands, one_place_of, places_order, precedes_before, same_position}
 use Rattle.fbl_judge.specs.declared.view.View.{View}
 use Rattle.fbl_judge.specs.declared.views.RestartPast.{RestartPast}
 use Rattle.fbl_judge.specs.Unsafe.{restarts_at, restarts_below}
 use Rattle.fbl_judge.specs.Views.{AreViews, AreViewsOf, AreWith, IsAmong, IsRestartPast, IsBase, IsLifeAt, IsNextRestart, IsPastAndStep, IsView, IsWith, MayHave}
+use Rattle.fbl_judge.proofs.LifeLaws.{below_16}
 use Rattle.fbl_judge.proofs.PastLaws.{joined_moment, joined_parts, joined_within, past_has, past_length, past_restart, past_within}
 
 -- ---- counts of restarts
 
--- a restart is one more
-restart_more : (r : restart.Restart) (log : List Entry) → restarts (Restart r ∷ log) ≡ 1 + restarts log
-restart_more r log = sum_by-cons (λ (x : Entry). cond (is_restart x) 1 0) (Restart r) log
-
--- where no restart stands between, as many come
-pub count_same : (log : List Entry) (a b : ℕ) → a ≤ b → ((k : ℕ) (r : restart.Restart) → a ≤ k → k < b → ¬ (slice_get log k ≡ Some (Restart r))) → restarts (take a log) ≡ restarts (take b log)
-count_same log zero zero upto none = refl
-count_same log (suc a) zero upto none = absurd (omega (arith, upto))
-count_same [] zero (suc b) upto none = refl
-count_same [] (suc a) (suc b) upto none = refl
-count_same (e ∷ log) zero (suc b) upto none = (let rest = count_same log zero b (omega arith) (λ k r after before. none (suc k) r (omega arith) (omega (arith, before))) in by_entry e (λ r same. none zero r (omega arith) (omega arith) (ap Some same)) rest) where
-  by_entry : (e : Entry) → ((r : restart.Restart) → ¬ (e ≡ Restart r)) → restarts (take zero log) ≡ restarts (take b log) → restarts [] ≡ restarts (e ∷ take b log)
-  by_entry (Restart r) other rest = absurd (other r refl)
-  by_entry (Event m) other rest = rest
-  by_entry (Hold q d) other rest = rest
-  by_entry (Store q d) other rest = rest
-  by_entry (Tell m) other rest = rest
-  by_entry (Told m) other rest = rest
-  by_entry (LaterReceipt d life) other rest = rest
-count_same (e ∷ log) (suc a) (suc b) upto none = (let rest = count_same log a b (omega (arith, upto)) (λ k r after before. none (suc k) r (omega (arith, after)) (omega (arith, before))) in by_entry e rest) where
-  by_entry : (e : Entry) → restarts (take a log) ≡ restarts (take b log) → restarts (e ∷ take a log) ≡ restarts (e ∷ take b log)
-  by_entry (Restart r) rest = (let x = restart_more r (take a log) in let y = restart_more r (take b log) in omega (arith, rest, x, y))
-  by_entry (Event m) rest = rest
-  by_entry (Hold q d) rest = rest
-  by_entry (Store q d) rest = rest
-  by_entry (Tell m) rest = rest
-  by_entry (Told m) rest = rest
-  by_entry (LaterReceipt d life) rest = rest
-
--- with a restart one more
-count_one : (log : List Entry) (k : ℕ) (r : restart.Restart) → slice_get log k ≡ Some (Restart r) → restarts (take (suc k) log) ≡ restarts (take k log) + 1
-count_one [] k r here = absurd cc
-count_one (e ∷ log) zero r here = (let same : e ≡ Restart r = cc in ap (λ (e : Entry). restarts (e ∷ [])) same)
-count_one (e ∷ log) (suc k) r here = by_entry e (count_one log k r here) where
-  by_entry : (e : Entry) → restarts (take (suc k) log) ≡ restarts (take k log) + 1 → restarts (e ∷ take (suc k) log) ≡ restarts (e ∷ take k log) + 1
-  by_entry (Restart x) rest = (let y = restart_more x (take (suc k) log) in let z = restart_more x (take k log) in omega (arith, rest, y, z))
-  by_entry (Event m) rest = rest
-  by_entry (Hold q d) rest = rest
-  by_entry (Store q d) rest = rest
-  by_entry (Tell m) rest = rest
-  by_entry (Told m) rest = rest
-  by_entry (LaterReceipt d life) rest = rest
+-- of the first b entries those behind the first a
+restarts_split : (log : List Entry) (a b : ℕ) → a ≤ b → restarts (take b log) ≡ restarts (take a log) + restarts (drop a (take b log))
+restarts_split log a b upto =
+    ap restarts (sym (take-append-drop a (take b log))) ∙ sum_by-append (λ e. cond (is_restart e) 1 0) (take a (take b log)) (drop a (take b log))
+    ∙ ap (λ l. restarts l + restarts (drop a (take b log))) (take-take a b log upto)
 
 -- no fewer of more
 count_more : (log : List Entry) (a b : ℕ) → a ≤ b → restarts (take a log) ≤ restarts (take b log)
-count_more log zero b upto = omega arith
-count_more [] (suc a) zero upto = omega arith
-count_more [] (suc a) (suc b) upto = omega arith
-count_more (e ∷ log) (suc a) zero upto = absurd (omega (arith, upto))
-count_more (e ∷ log) (suc a) (suc b) upto = by_entry e (count_more log a b (omega (arith, upto))) where
-  by_entry : (e : Entry) → restarts (take a log) ≤ restarts (take b log) → restarts (e ∷ take a log) ≤ restarts (e ∷ take b log)
-  by_entry (Restart x) rest = (let y = restart_more x (take a log) in let z = restart_more x (take b log) in omega (arith, rest, y, z))
-  by_entry (Event m) rest = rest
-  by_entry (Hold q d) rest = rest
-  by_entry (Store q d) rest = rest
-  by_entry (Tell m) rest = rest
-  by_entry (Told m) rest = rest
-  by_entry (LaterReceipt d life) rest = rest
+count_more log a b upto = (let split = restarts_split log a b upto in omega (arith, split))
+
+-- where no restart stands between, as many come
+pub count_same : (log : List Entry) (a b : ℕ) → a ≤ b → ((k : ℕ) (r : restart.Restart) → a ≤ k → k < b → ¬ (slice_get log k ≡ Some (Restart r))) → restarts (take a log) ≡ restarts (take b log)
+count_same log a zero upto none = (let same : a ≡ 0 = omega (arith, upto) in ap (λ k. restarts (take k log)) same)
+count_same log a (suc b) upto none = elim (cases_eq a (suc b)) [
+  | inl same ↦ ap (λ k. restarts (take k log)) same
+  | inr less ↦
+      let rest = count_same log a b (omega (arith, upto, less)) (λ k r after before. none k r after (omega (arith, before))) in
+      elim (restarts_next log b) [
+        | inl same ↦ rest ∙ sym same
+        | inr more ↦ absurd (none b more.0 (omega (arith, upto, less)) (omega arith) more.1)
+      ]
+]
+
+-- with a restart one more
+count_one : (log : List Entry) (k : ℕ) (r : restart.Restart) → slice_get log k ≡ Some (Restart r) → restarts (take (suc k) log) ≡ restarts (take k log) + 1
+count_one log k r here = ap restarts (take-more log k (Restart r) here) ∙ restart_counted (take k log) (Restart r)
 
 -- no more than entries
 pub count_few : (log : List Entry) (a : ℕ) → restarts (take a log) ≤ a
-count_few log zero = omega arith
-count_few [] (suc a) = omega arith
-count_few (e ∷ log) (suc a) = by_entry e (count_few log a) where
-  by_entry : (e : Entry) → restarts (take a log) ≤ a → restarts (e ∷ take a log) ≤ suc a
-  by_entry (Restart x) rest = (let y = restart_more x (take a log) in omega (arith, rest, y))
-  by_entry (Event m) rest = omega (arith, rest)
-  by_entry (Hold q d) rest = omega (arith, rest)
-  by_entry (Store q d) rest = omega (arith, rest)
-  by_entry (Tell m) rest = omega (arith, rest)
-  by_entry (Told m) rest = omega (arith, rest)
-  by_entry (LaterReceipt d life) rest = omega (arith, rest)
+count_few log a = omega (arith, count_by-le-length is_restart (take a log), length-take a log)
 
 -- where one has come that has not, fewer come
 pub counts_apart : (log : List Entry) (a b k : ℕ) (r : restart.Restart) → slice_get log k ≡ Some (Restart r) → a ≤ k → k < b → restarts (take a log) < restarts (take b log)
@@ -142,12 +103,6 @@ module _ (n : ℕ) (entries : List Entry) (are : AreEntries n entries) where
         let below = (rw w.3 at (are.members w.0 e.0 w.2)) in
         let size = are.size.1 in
         omega (arith, below, size, past))
-  ]
-
-  below_16 : (i : Position) (e : Entry) → IsAt logs i e → i.member < 16
-  below_16 i e here = elim (cases_lt i.member 16) [
-    | inl fine ↦ fine
-    | inr past ↦ absurd (let none = nobody_beyond i.member past in let within = slice_get_within (logs i.member) i.number e here in omega (arith, none, within))
   ]
 
   -- one entry more
@@ -266,7 +221,7 @@ module _ (n : ℕ) (entries : List Entry) (are : AreEntries n entries) where
     of_past = is_back.moment (at back.member back.number) (Restart r) is_back.stands at_j tt
 
     member_16 : back.member < 16
-    member_16 = below_16 (at back.member back.number) (Restart r) at_j
+    member_16 = below_16 logs nobody_beyond (at back.member back.number) (Restart r) at_j
 
     -- what precedes the restart is among the entries up to it
     before_it : (i : Position) → Precedes HappenedBefore logs i (at back.member back.number) → (p : ℕ) × StandsAt entries p i × (p ≤ place)
@@ -305,7 +260,7 @@ module _ (n : ℕ) (entries : List Entry) (are : AreEntries n entries) where
         -- the restarts in its past are the view's
         has_base : (i : Position) → HasRestarted logs past i → i ≢ at back.member back.number → HasCome base i
         has_base i has other =
-            let below = below_16 i (Restart has.0) has.1 in
+            let below = below_16 logs nobody_beyond i (Restart has.0) has.1 in
             let known = life i.member below in
             let m = may i.member below in
             elim (cases_eq i.member back.member) [

@@ -13,7 +13,7 @@ use Rattle.std.proofs.lemmas.Map.Made.{IsDistinct-from_AllPairs}
 use Rattle.std.proofs.lemmas.Map.Steps.{length-le_from_distinct_below}
 use Rattle.fbl_order.specs.Faults.{ClosesAt, IsEndOfChain}
 use Rattle.fbl_order.specs.declared.fault.Obstacle.{Obstacle}
-use Rattle.fbl_order.specs.declared.fault.Obstacle.TheVariants.{Control, Life, Rule, NeverSent, Received, Waits}
+use Rattle.fbl_order.specs.declared.fault.Obstacle.TheVariants.{Waits}
 
 -- the chain so far, and the place for which its last entry waits, where none of the chain stands
 pub record IsWalk (n : ℕ) (entries : List Entry) (merge : Merge) (first : ℕ) (chain : List Stuck) (place : ℕ) : Type 0 where
@@ -47,11 +47,7 @@ few_linked n entries run chain linked = omega (arith, few, length-map chain (λ 
 -- what closes a chain stands in it
 pub closes-within : (chain : List Stuck) (obstacle : Obstacle) (number : ℕ) → ClosesAt chain obstacle number → number ≤ length chain
 closes-within chain (Waits place) number closes = omega (arith, slice_get_within chain number closes.0 closes.1)
-closes-within chain (Rule rule) number closes = omega (arith, closes)
-closes-within chain (Control rule) number closes = omega (arith, closes)
-closes-within chain (Life rule) number closes = omega (arith, closes)
-closes-within chain (NeverSent s) number closes = omega (arith, closes)
-closes-within chain Received number closes = omega (arith, closes)
+closes-within chain x number closes = omega (arith, closes)
 
 -- an entry behind the chain
 module _ (n : ℕ) (entries : List Entry) (merge : Merge) (first place : ℕ) (chain : List Stuck) (s : Stuck)

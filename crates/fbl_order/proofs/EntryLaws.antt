@@ -1,9 +1,9 @@
 -- A log may have its entries in any order that keeps the members' logs.
 use Rattle.fbl_order.proofs.Common.{ℕ, List, None, Some, ◌≡◌, ◌≤◌, ◌+◌, ◌==◌, ◌∙◌, [], ◌∷◌, zero, suc, refl, sym, ap, arith, length, slice_get, subst, take, Entry}
-use Rattle.fbl_order.proofs.Common.{Bool, Determinant, LaterReceipt, Obeys, Restart, append-nil, false, false≢true, have_lives, slice_get-get_or, slice_get_within, take-more, true}
+use Rattle.fbl_order.proofs.Common.{Bool, Determinant, Obeys, append-nil, false, false≢true, have_lives, slice_get-get_or, slice_get_within, take-more, true}
 use Rattle.fbl_trace.proofs.Common.{get_or_from_slice_get}
 use Rattle.std.proofs.lemmas.List.Folds.{Any-from_list_any, list_any_at}
-use Rattle.fbl_order.proofs.Common.{Event, Hold, Store, Tell, Told, entry_member, recorded_in, IsFewAt, records, IsLog, RunParts, IsOrderOfEntries, SameEntryLogs, with_entries}
+use Rattle.fbl_order.proofs.Common.{Hold, entry_member, recorded_in, IsFewAt, records, IsLog, RunParts, IsOrderOfEntries, SameEntryLogs, with_entries}
 use Rattle.fbl_order.proofs.Common.{sum_by, add-one, At-filter, drop, sum_by-cons, eqb-self, filter_map-append, length-append, take-append-drop, take_all}
 use Rattle.fbl_runs.specs.Entries.{Logs, log_of}
 use Rattle.fbl_runs.specs.HappenedBefore.{IsAt}
@@ -45,13 +45,8 @@ same_records a b same =
     counted a ∙ sym (sum_by-IsPermutation (λ (e : Entry). length (records (e ∷ []))) a b (same_own-permutation entry_member a b same)) ∙ sym (counted b) where
       counted : (es : List Entry) → length (records es) ≡ sum_by (λ (e : Entry). length (records (e ∷ []))) es
       counted [] = refl
-      counted (Event m ∷ es) = omega (arith, counted es, sum_by-cons (λ (e : Entry). length (records (e ∷ []))) (Event m) es)
       counted (Hold holder d ∷ es) = omega (arith, counted es, sum_by-cons (λ (e : Entry). length (records (e ∷ []))) (Hold holder d) es)
-      counted (Store member d ∷ es) = omega (arith, counted es, sum_by-cons (λ (e : Entry). length (records (e ∷ []))) (Store member d) es)
-      counted (Tell m ∷ es) = omega (arith, counted es, sum_by-cons (λ (e : Entry). length (records (e ∷ []))) (Tell m) es)
-      counted (Told m ∷ es) = omega (arith, counted es, sum_by-cons (λ (e : Entry). length (records (e ∷ []))) (Told m) es)
-      counted (LaterReceipt d life ∷ es) = omega (arith, counted es, sum_by-cons (λ (e : Entry). length (records (e ∷ []))) (LaterReceipt d life) es)
-      counted (Restart r ∷ es) = omega (arith, counted es, sum_by-cons (λ (e : Entry). length (records (e ∷ []))) (Restart r) es)
+      counted (e ∷ es) = omega (arith, counted es, sum_by-cons (λ (e : Entry). length (records (e ∷ []))) e es)
 
 few_same : (a b : List Entry) → SameEntryLogs a b → ((i : ℕ) → IsFewAt a i) → (i : ℕ) → IsFewAt b i
 few_same a b same few i e d at has =

@@ -18,10 +18,4 @@ same_true a b is = cc
 
 pub same_self : (a : Entry) → same a a ≡ true
 same_self (Event (Send from ssn to)) = grind (arith, nat_tests)
-same_self (Event (Receipt to rsn from ssn)) = grind (arith, nat_tests)
-same_self (Hold q d) = grind (arith, nat_tests)
-same_self (Store q d) = grind (arith, nat_tests)
-same_self (Tell m) = grind (arith, nat_tests)
-same_self (Told m) = grind (arith, nat_tests)
-same_self (LaterReceipt d life) = grind (arith, nat_tests)
-same_self (Restart r) = grind (arith, nat_tests)
+same_self a = grind (arith, nat_tests)

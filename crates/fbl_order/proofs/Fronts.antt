@@ -37,11 +37,7 @@ each-push P s e each last i x at = elim (At-push s e i x at) [
 events-push : (n : ℕ) (run : List Mark) (e : Entry) → WellFormed n run → MayFollowAs n run e → WellFormed n (run ++ marks (e ∷ []))
 events-push n run (Event m) obeys may = WellFormed-push n run m obeys (may m refl)
 events-push n run (LaterReceipt d life) obeys may = WellFormed-push n run (receipt_of d) obeys (may (receipt_of d) refl)
-events-push n run (Hold holder d) obeys may = rw append-nil obeys
-events-push n run (Store member d) obeys may = rw append-nil obeys
-events-push n run (Tell t) obeys may = rw append-nil obeys
-events-push n run (Told t) obeys may = rw append-nil obeys
-events-push n run (Restart r) obeys may = rw append-nil obeys
+events-push n run e obeys may = rw append-nil obeys
 
 pub obeys-none : (lived : Bool) (n : ℕ) → Obeys lived n []
 obeys-none false n = (WellFormed-none n, λ i e at. cc)
@@ -273,13 +269,9 @@ module _ (n : ℕ) (a b : List Entry) (told : AreTold n b) (same : SameEntryLogs
       within_front j is = (rw take-append-drop at (At-front (take i a) (drop i a) j x is))
 
   pub heard_told : AreHeard a → AreTold n a
-  heard_told heard i (Event m) here = tt
-  heard_told heard i (LaterReceipt d life) here = tt
-  heard_told heard i (Restart r) here = tt
-  heard_told heard i (Hold q d) here = tt
-  heard_told heard i (Store q d) here = tt
   heard_told heard i (Tell m) here =
       let there = has-same b a (Tell m) (same m.from) (i, here) in
       ((told there.0 (Tell m) there.1).0, new_here (Tell m) (λ k l at_k at_l. (one_tell n b told m.from k m.from l m at_k at_l).1) i here)
   heard_told heard i (Told m) here =
       (heard i (Told m) here, new_here (Told m) (λ k l at_k at_l. (one_place b m.to k m.to l (Told m) (λ p q. told_once p q m) at_k at_l).1) i here)
+  heard_told heard i e here = tt

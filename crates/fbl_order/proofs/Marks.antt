@@ -65,11 +65,7 @@ marks-before es k e m at is =
 pub mark_member : (e : Entry) (m : Mark) → mark_in e ≡ Some m → entry_member e ≡ member_of m
 mark_member (Event x) m is = (let same : x ≡ m = cc in ap member_of same)
 mark_member (LaterReceipt d life) m is = (let same : receipt_of d ≡ m = cc in ap member_of same)
-mark_member (Hold q d) m is = cc
-mark_member (Store q d) m is = cc
-mark_member (Tell t) m is = cc
-mark_member (Told t) m is = cc
-mark_member (Restart r) m is = cc
+mark_member e m is = cc
 
 -- those of a list with the fronts of the members' logs are the fronts of theirs
 pub marks-begin : (s t : List Entry) → LogsBegin s t → (q : ℕ) → Begins (log_of q (marks s)) (log_of q (marks t))
@@ -116,21 +112,11 @@ restarts-more es k e at = ap restarts (ap (λ (x : ℕ). take x es) (add-one k) 
 
 pub is_restart-is : (e : Entry) → is_restart e ≡ is_some (restart_in e)
 is_restart-is (Restart r) = refl
-is_restart-is (Event x) = refl
-is_restart-is (LaterReceipt d life) = refl
-is_restart-is (Hold q d) = refl
-is_restart-is (Store q d) = refl
-is_restart-is (Tell t) = refl
-is_restart-is (Told t) = refl
+is_restart-is e = refl
 
 pub restart_there : (e : Entry) → is_restart e ≡ true → (r : restart.Restart) × (restart_in e ≡ Some r)
 restart_there (Restart r) is = (r, refl)
-restart_there (Event x) is = cc
-restart_there (LaterReceipt d life) is = cc
-restart_there (Hold q d) is = cc
-restart_there (Store q d) is = cc
-restart_there (Tell t) is = cc
-restart_there (Told t) is = cc
+restart_there e is = cc
 
 -- a list with the fronts of the members' logs has fewer of a kind, where it lacks one
 pub count-begin : (test : Entry → Bool) (s t : List Entry) → LogsBegin s t → (e : Entry) (rest : List Entry)

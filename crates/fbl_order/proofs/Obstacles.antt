@@ -1,5 +1,5 @@
 -- What keeps an entry from coming.
-use Rattle.fbl_order.proofs.Common.{ℕ, List, Mark, Send, Receipt, Entry, Event, Hold, LaterReceipt, Restart, Store, Tell, Told, Some, ◌≡◌, ◌≤◌, ◌∙◌, inl, inr, refl, sym, ap, entry_member, mark_in, marks, send_of}
+use Rattle.fbl_order.proofs.Common.{ℕ, List, Mark, Send, Receipt, Entry, Event, LaterReceipt, Tell, Told, Some, ◌≡◌, ◌≤◌, ◌∙◌, inl, inr, refl, sym, ap, entry_member, mark_in, marks, send_of}
 use Rattle.fbl_order.proofs.Common.{Bool, true, false, BreaksControl, BreaksEvent, Breaks, Merge, Merges, Passes, cursor_of, placed_of, own, length, take_all}
 use Rattle.fbl_trace.specs.declared.fault.EventRule.{EventRule}
 use Rattle.fbl_trace.specs.declared.fault.EventRule.TheVariants.{NothingInFlight}
@@ -25,11 +25,7 @@ pub lacks_in_trace : (n : ℕ) (before : List Entry) (e : Entry) (m : Mark) (fro
     → LacksInTrace n before e
 lacks_in_trace n before (Event x) m from to is broken = (m, is, (broken.0, (broken.1.0, broken.1.1, refl, refl, broken.1.4, broken.1.5)))
 lacks_in_trace n before (LaterReceipt d life) m from to is broken = (m, is, (broken.0, (broken.1.0, broken.1.1, refl, refl, broken.1.4, broken.1.5)))
-lacks_in_trace n before (Hold q d) m from to is broken = cc
-lacks_in_trace n before (Store q d) m from to is broken = cc
-lacks_in_trace n before (Tell t) m from to is broken = cc
-lacks_in_trace n before (Told t) m from to is broken = cc
-lacks_in_trace n before (Restart r) m from to is broken = cc
+lacks_in_trace n before e m from to is broken = cc
 
 pub receipt_passes : (n : ℕ) (run : List Mark) (e : Entry) (m : Mark) (from to : ℕ) → mark_in e ≡ Some m → BreaksEvent n run m (NothingInFlight from to)
     → (sent : Entry) × Passes sent e
@@ -39,12 +35,7 @@ receipt_passes n run e (Receipt to rsn from ssn) _ _ is broken = (Event (Send fr
 -- only a told can miss its tell
 pub told_passes : (n : ℕ) (before : List Entry) (e : Entry) → BreaksControl n before e NotTold → LacksInTrace n before e × ((sent : Entry) × Passes sent e)
 told_passes n before (Told m) broken = (broken, (Tell m, inr (m, refl, refl)))
-told_passes n before (Tell m) broken = absurd broken
-told_passes n before (Event m) broken = absurd broken
-told_passes n before (LaterReceipt d life) broken = absurd broken
-told_passes n before (Restart r) broken = absurd broken
-told_passes n before (Hold q d) broken = absurd broken
-told_passes n before (Store q d) broken = absurd broken
+told_passes n before e broken = absurd broken
 
 -- ---- where members restart
 

@@ -11,12 +11,11 @@ pub use Rattle.fbl_trace.proofs.Common.{nat_cmp_total}
 pub use Rattle.std.proofs.lemmas.Str.{IsUtf8-append}
 pub use Rattle.std.specs.Char.{is_ascii_digit}
 pub use Rattle.std.specs.List.{All, filter, list_all, list_any, prefix_len, range_with_len, starts_with, AllZip}
-pub use Rattle.fbl_input.proofs.Common.{IsUtf8, PutsOut, items_of, view}
+pub use Rattle.fbl_input.proofs.Common.{IsUtf8, PutsOut, items_of}
 pub use Rattle.fbl_dumps.specs.Dumps.{IsDump, Parts, parts_of}
 pub use Rattle.fbl_trace.specs.MemberSets.{AllBelow, member_list}
 pub use Rattle.fbl_trace.specs.declared.trace.Determinant.{Determinant}
 pub use Rattle.fbl_trace.specs.declared.trace.Mark.{Mark}
-pub use Rattle.fbl_trace.specs.declared.trace.Mark.TheVariants.{Receipt, Send}
 pub use Rattle.fbl_input.proofs.Inputs.{over_input}
 pub use Rattle.fbl_input.proofs.Lists.{elements_of, json_read}
 pub use Rattle.fbl_input.proofs.Outputs.{puts_front, puts_none, puts_right, puts_text}
@@ -24,11 +23,9 @@ pub use Rattle.fbl_input.specs.Shapes.{all_shaped, json_of, list_of, longest, me
 pub use Rattle.fbl_input.specs.declared.fault.RunFault.{RunFault}
 pub use Rattle.fbl_input.specs.declared.input_fault.InputFault.{InputFault}
 pub use Rattle.fbl_input.specs.declared.input_kind.InputKind.{InputKind}
-pub use Rattle.serde_json.proofs.Views.{view-Array}
-pub use Rattle.serde_json.specs.Data.{Data, array, depth, items_depth}
+pub use Rattle.serde_json.specs.Data.{Data}
 pub use Rattle.serde_json.specs.Read.{max_depth, of_json, read}
-pub use Rattle.serde_json.specs.declared.value.Value.{Value}
-pub use Rattle.fbl_records.specs.DumpLines.{entry_data, event_data, list_data, number_data, pair_data}
+pub use Rattle.fbl_records.specs.DumpLines.{event_data, list_data, number_data, pair_data}
 pub use Rattle.fbl_input.specs.Items.{event_shape, pair_shape}
 pub use Rattle.fbl_records.specs.Dumps.{IsDumpFault, IsDumpOf, parts_of_data, parts_of_input}
 pub use Rattle.fbl_records.specs.Lines.{audit_lines}

@@ -5,7 +5,7 @@ use Rattle.fbl_records.proofs.Common.{prefix_len-le-length, IsUtf8-append, is_as
 use Rattle.std.specs.Char.{encode_utf8}
 use Rattle.json.specs.Ascii.{false_text, null_text, true_text}
 use Rattle.json.specs.Json.{if_last, value}
-use Rattle.json.specs.Lex.{Class, Lexeme, Mode, between, class, fresh, in_escape, in_string, in_word, lex, lex_byte, other, punctuate, quote, string_token, token}
+use Rattle.json.specs.Lex.{Class, Lexeme, Mode, between, class, fresh, in_string, in_word, lex, lex_byte, other, punctuate, quote, string_token, token}
 use Rattle.json.specs.Text.{Within, after_backslash, after_high, after_u, code_unit, content, is_high_surrogate, is_low_surrogate, plain, prepend, short_escape, surrogate_pair}
 use Rattle.json.specs.Token.{Token, bad, boolean, null}
 use Rattle.json.specs.Lex.{tokens}
@@ -128,9 +128,7 @@ byte_same m c x xs ys k l text w next = λ i. lex_byte m c x xs (λ n. next n i)
 lex_same : (m : Mode) (t : List ℕ) → lex m (t ++ newline) ≡ lex m t
 unfolding lex
 lex_same between [] = refl
-lex_same in_word [] = refl
-lex_same in_string [] = refl
-lex_same in_escape [] = refl
+lex_same m [] = refl
 lex_same m (x ∷ xs) = byte_same m (class x) x (xs ++ newline) xs (λ n. lex n (xs ++ newline)) (λ n. lex n xs) (content_same plain xs) (word_same (x ∷ xs)) (λ n. lex_same n xs)
 
 read_same : (t : List ℕ) → read (t ++ newline) ≡ read t

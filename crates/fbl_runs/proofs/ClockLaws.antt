@@ -272,12 +272,7 @@ with_first (Restart r) log life rest = elim (cases_eq r.life life) [
   | inl same ↦ inl (0, r, refl, same)
   | inr ne ↦ further (Restart r) log life (λ s is begins. ne (let same : r ≡ s = cc in ap (λ (r : restart.Restart). r.life) same ∙ begins)) rest
 ]
-with_first (Event m) log life rest = further (Event m) log life (λ r is. absurd cc) rest
-with_first (LaterReceipt d l) log life rest = further (LaterReceipt d l) log life (λ r is. absurd cc) rest
-with_first (Hold q d) log life rest = further (Hold q d) log life (λ r is. absurd cc) rest
-with_first (Store q d) log life rest = further (Store q d) log life (λ r is. absurd cc) rest
-with_first (Tell m) log life rest = further (Tell m) log life (λ r is. absurd cc) rest
-with_first (Told m) log life rest = further (Told m) log life (λ r is. absurd cc) rest
+with_first e log life rest = further e log life (λ r is. absurd cc) rest
 
 find_restart : (log : List Entry) (life : ℕ) → Decided log life
 find_restart [] life = inr (λ k r is. absurd cc)

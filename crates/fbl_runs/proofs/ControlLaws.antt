@@ -1,7 +1,7 @@
 -- Control messages: each is told once, and before anybody is told it.
 use Rattle.fbl_runs.proofs.Common.{ℕ, Bool, true, false, cond, ◌≡◌, ◌==◌, ◌&&◌, ◌<◌, ◌≤◌, ◌↔◌, ◌⊎◌, ◌∙◌, inl, inr, List, [], ◌∷◌, ◌++◌, length, take, drop, Some, slice_get, refl, sym, ap, arith}
 use Rattle.fbl_runs.proofs.Common.{cases_order, At-front, At-push, At-seam, slice_get-take, slice_get_within, take-append-drop, length-take, eqb-true, eqb-self, false≢true}
-use Rattle.fbl_runs.proofs.Common.{Entry, Event, Hold, LaterReceipt, Restart, Store, Tell, Told, ControlMessage, log_of, IsAt, at}
+use Rattle.fbl_runs.proofs.Common.{Entry, Tell, Told, ControlMessage, log_of, IsAt, at}
 use Rattle.std.proofs.lemmas.Bool.{and_parts}
 use Rattle.fbl_trace.specs.Configs.{IsFirstBreach}
 use Rattle.fbl_runs.specs.declared.fault.ControlFault.{ControlFault}
@@ -116,18 +116,9 @@ breaks_control n before (Tell m) (Outside outsider) broken may = elim broken [
 ]
 breaks_control n before (Tell m) ToItself broken may = may.0.2 broken.2
 breaks_control n before (Tell m) SameNumber broken may = may.1 broken.1
-breaks_control n before (Tell m) NotTold broken may = broken
-breaks_control n before (Tell m) ToldBefore broken may = broken
 breaks_control n before (Told m) NotTold broken may = broken may.0
 breaks_control n before (Told m) ToldBefore broken may = may.1 broken.1
-breaks_control n before (Told m) (Outside outsider) broken may = broken
-breaks_control n before (Told m) ToItself broken may = broken
-breaks_control n before (Told m) SameNumber broken may = broken
-breaks_control n before (Event x) rule broken may = broken
-breaks_control n before (Hold q d) rule broken may = broken
-breaks_control n before (Store q d) rule broken may = broken
-breaks_control n before (LaterReceipt d life) rule broken may = broken
-breaks_control n before (Restart r) rule broken may = broken
+breaks_control n before e rule broken may = broken
 
 -- so the first one that is found is the first that does not
 pub first_untold_breach : (n : ℕ) (entries : List Entry) (fault : ControlFault) → IsFirstUntold n entries fault → IsFirstBreach (IsToldAt n entries) fault.place

@@ -1,6 +1,6 @@
 -- What a pass over the entries of a log with restarts finds of the receipts that stand.
 use Rattle.fbl_runs.proofs.Common.{ℕ, zero, suc, Bool, cond, ◌≡◌, ◌<◌, ◌≤◌, ◌+◌, ◌↔◌, inl, inr, List, [], ◌∷◌, length, Option, Some, slice_get, refl, sym, ap, subst, ◌∙◌, arith, cases_lt, nat_tests, slice_get_within, receipt_of, send_of, true}
-use Rattle.fbl_runs.proofs.Common.{Determinant, Mark, Send, Receipt, Entry, Event, Hold, LaterReceipt, Restart, Store, Tell, Told, Carries, IsAt, Logs, at, log_of, mark_in, receipt_in, standing}
+use Rattle.fbl_runs.proofs.Common.{Determinant, Mark, Send, Receipt, Entry, Event, LaterReceipt, Carries, IsAt, Logs, at, log_of, mark_in, receipt_in, standing}
 use Rattle.std.proofs.Common.{count_by, map, nat_eq}
 use Rattle.std.specs.Option.{option_and_then}
 use Rattle.fbl_trace.specs.Events.{determinant_of}
@@ -61,14 +61,9 @@ count_standing p log kept events are = ap (λ ks. count_by p (entries_at log ks)
 
 -- a receipt that has a determinant has its mark
 pub mark_of_receipt : (e : Entry) (d : Determinant) → receipt_in e ≡ Some d → mark_in e ≡ Some (receipt_of d)
-mark_of_receipt (Event (Send from ssn to)) d is = absurd cc
 mark_of_receipt (Event (Receipt to rsn from ssn)) d is = (let same : record { from = from; ssn = ssn; to = to; rsn = rsn } ≡ d = cc in ap (λ (x : Determinant). Some (receipt_of x)) same)
 mark_of_receipt (LaterReceipt x life) d is = (let same : x ≡ d = cc in ap (λ (x : Determinant). Some (receipt_of x)) same)
-mark_of_receipt (Hold q x) d is = absurd cc
-mark_of_receipt (Store q x) d is = absurd cc
-mark_of_receipt (Tell m) d is = absurd cc
-mark_of_receipt (Told m) d is = absurd cc
-mark_of_receipt (Restart r) d is = absurd cc
+mark_of_receipt e d is = absurd cc
 
 -- what takes a send is a receipt of its message
 pub takes_message : (r : Mark) (from ssn to : ℕ) → send_of r ≡ Some (Send from ssn to) → (rsn : ℕ) × (r ≡ Receipt to rsn from ssn)

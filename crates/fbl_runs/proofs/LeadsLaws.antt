@@ -1,7 +1,7 @@
 -- What leads to an entry stands before it in the list, and what its message comes from is one entry.
 use Rattle.fbl_runs.proofs.Common.{ℕ, ◌≡◌, ◌<◌, ◌≤◌, ◌+◌, inl, inr, List, ◌++◌, length, take, drop, Some, None, slice_get, refl, sym, ap, subst, ◌∙◌, arith}
 use Rattle.fbl_runs.proofs.Common.{cases_lt, cases_order, length-take, slice_get_within, slice_get-take, take-append-drop, filter-append}
-use Rattle.fbl_runs.proofs.Common.{Mark, Send, Receipt, Determinant, Entry, Event, Hold, LaterReceipt, Restart, Store, Tell, Told, mark_in, named_life, send_of}
+use Rattle.fbl_runs.proofs.Common.{Mark, Send, Receipt, Determinant, Entry, Event, LaterReceipt, Restart, Tell, Told, mark_in, named_life, send_of}
 use Rattle.fbl_runs.proofs.Common.{Causality, Dependence, HappenedBefore, Begins, Carries, IsAt, IsEarlier, Leads, Position, Precedes, Tells, at, itself, step, entry_member, is_at, log_of}
 use Rattle.std.proofs.lemmas.List.{take-take, take_at}
 use Rattle.fbl_runs.specs.Clocks.{StandsAt, seen}
@@ -94,11 +94,7 @@ module _ (n : ℕ) (entries : List Entry) (lawful : AreLawful n entries) where
     by_entry : (e : Entry) → IsLawful n (take i entries) e → MayBeTold n (take i entries) e
     by_entry (Tell m) is = is
     by_entry (Told m) is = is
-    by_entry (Event m) is = tt
-    by_entry (Hold q d) is = tt
-    by_entry (Store q d) is = tt
-    by_entry (LaterReceipt d life) is = tt
-    by_entry (Restart r) is = tt
+    by_entry e is = tt
 
   -- the rules at a position
   lawful_at : (q k : ℕ) (e : Entry) → IsAt (log_of entries) (at q k) e → (p : ℕ) × (slice_get entries p ≡ Some e) × (entry_member e ≡ q) × (log_of (take p entries) q ≡ take k (log_of entries q)) × IsLawful n (take p entries) e
@@ -163,11 +159,7 @@ module _ (n : ℕ) (entries : List Entry) (lawful : AreLawful n entries) where
         let send : Send d.from d.ssn d.to ≡ s = (let some : Some (Send d.from d.ssn d.to) ≡ Some s = ap send_of same ∙ takes in cc) in
         let sent = lawful p (LaterReceipt d life) at_p in
         found d.from d.ssn d.to life sent.0 send sent.1
-    by_entry (Hold q d) at_p mark = (let none : None ≡ Some r = mark in absurd cc)
-    by_entry (Store q d) at_p mark = (let none : None ≡ Some r = mark in absurd cc)
-    by_entry (Tell m) at_p mark = (let none : None ≡ Some r = mark in absurd cc)
-    by_entry (Told m) at_p mark = (let none : None ≡ Some r = mark in absurd cc)
-    by_entry (Restart x) at_p mark = (let none : None ≡ Some r = mark in absurd cc)
+    by_entry e at_p mark = (let none : None ≡ Some r = mark in absurd cc)
 
   -- a receipt takes a message from one entry
   pub carries_one : (i k j : Position) → Carries (log_of entries) i j → Carries (log_of entries) k j → i ≡ k

@@ -3,6 +3,7 @@ pub mod Listing
 pub mod ControlLaws
 pub mod RecordLaws
 pub mod LifeLaws
+pub mod RestartCounts
 pub mod SendLaws
 pub mod LeadsLaws
 pub mod ClockLaws

@@ -2,7 +2,7 @@
 use Rattle.fbl_runs.proofs.Common.{ℕ, zero, suc, ◌≡◌, ◌≢◌, ◌<◌, ◌≤◌, ◌+◌, ◌⊎◌, ◌↔◌, inl, inr, List, [], ◌∷◌, ◌++◌, length, take, drop, Option, Some, None, slice_get, refl, sym, ap, subst, ◌∙◌, arith, add-one}
 use Rattle.std.proofs.Common.{◌-◌}
 use Rattle.fbl_runs.proofs.Common.{cases_eq, cases_lt, cases_order, length-take, slice_get_within, slice_get_read, At-front, At-push, At-seam, take-more, take-append-drop}
-use Rattle.fbl_runs.proofs.Common.{Mark, Entry, Event, Hold, LaterReceipt, Restart, Store, Tell, Told, mark_in, restart_in}
+use Rattle.fbl_runs.proofs.Common.{Mark, Entry, Restart, mark_in, restart_in}
 use Rattle.fbl_trace.proofs.Common.{Contains, get_or_from_slice_get}
 use Rattle.fbl_runs.specs.declared.entry.Restart as restart
 use Rattle.fbl_runs.specs.Lives.{IsUndoneBy, StandsBehind, life_after, life_from, life_in, standing, standing_from, stood_after}
@@ -29,12 +29,7 @@ within_take n xs i x is = (let w = slice_get_within (take n xs) i x is in omega 
 
 pub restart_is : (e : Entry) (r : restart.Restart) → restart_in e ≡ Some r → e ≡ Restart r
 restart_is (Restart s) r is = (let same : s ≡ r = cc in ap Restart same)
-restart_is (Event m) r is = cc
-restart_is (Hold q d) r is = cc
-restart_is (Store q d) r is = cc
-restart_is (Tell m) r is = cc
-restart_is (Told m) r is = cc
-restart_is (LaterReceipt d life) r is = cc
+restart_is e r is = cc
 
 standing_from-push : (entries : List Entry) (e : Entry) (stood : List ℕ) (number : ℕ)
     → standing_from stood number (entries ++ e ∷ []) ≡ stood_after (restart_in e) (mark_in e) (number + length entries) (standing_from stood number entries)

@@ -3,8 +3,19 @@ use Rattle.fbl_runs.proofs.Common.{ℕ, zero, suc, true, false, cond, ◌≡◌,
 use Rattle.fbl_runs.proofs.Common.{refl, sym, ap, subst, ◌∙◌, arith, nat_tests, cases_eq, append-nil, length-append, length-take, filter-append}
 use Rattle.fbl_runs.proofs.Common.{At-front, At-seam, slice_get-take, slice_get_within, take-more, take-append-drop, take_all}
 use Rattle.fbl_runs.proofs.Common.{Entry, entry_member, is_at, log_of, IsAt, Position, at}
+use Rattle.std.proofs.Common.{get_or}
 use Rattle.std.proofs.lemmas.List.{take-take}
+use Rattle.std.proofs.lemmas.Option.{slice_get_read}
+use Rattle.fbl_trace.proofs.Gets.{length-left}
 use Rattle.fbl_runs.specs.Clocks.{StandsAt, seen}
+
+-- what is read of a list stands in the same list at that place
+pub read : {X : Type 0} (all seen : List X) (i : ℕ) (x : X) → seen ≡ all → i < length seen → x ≡ get_or seen i x → slice_get all i ≡ Some x
+read {X} all seen i x same within is = subst (λ (s : List X). slice_get s i ≡ Some x) same (slice_get_read seen (length seen) i x refl within is)
+
+-- and at a place of the same number
+pub read_at : {X : Type 0} (xs : List X) (i j : ℕ) (x : X) → i ≡ j → i < length xs → x ≡ get_or xs i x → slice_get xs j ≡ Some x
+read_at {X} xs i j x same within is = subst (λ (k : ℕ). slice_get xs k ≡ Some x) same (slice_get_read xs (length xs) i x refl within is)
 
 pub some_item : {X : Type 0} (xs : List X) (p : ℕ) → p < length xs → (x : X) × (slice_get xs p ≡ Some x)
 some_item [] p below = absurd (omega (arith, below))
@@ -25,10 +36,7 @@ seen-other entries p e m here other = (rw (take-more entries p e here, log_of-ot
 
 -- no more entries of a member are among the first p than p
 pub seen-le : (entries : List Entry) (p m : ℕ) → seen entries p m ≤ p
-seen-le entries p m = (let fewer = filtered (take p entries) m in omega (arith, fewer, length-take p entries)) where
-  filtered : (t : List Entry) (m : ℕ) → length (log_of t m) ≤ length t
-  filtered [] m = omega arith
-  filtered (e ∷ t) m = (let rest = filtered t m in elim (entry_member e == m) as (λ b. length (cond b (e ∷ log_of t m) (log_of t m)) ≤ suc (length t)) [ true ↦ omega (arith, rest) | false ↦ omega (arith, rest) ])
+seen-le entries p m = omega (arith, length-left (is_at m) (take p entries), length-take p entries)
 
 -- an entry stands in its member's log behind those of the member that come before it
 pub placed : (entries : List Entry) (p : ℕ) (e : Entry) (m : ℕ) → slice_get entries p ≡ Some e → entry_member e ≡ m → IsAt (log_of entries) (at m (seen entries p m)) e

@@ -3,10 +3,9 @@ use Rattle.fbl_runs.proofs.Common.{ℕ, zero, suc, Bool, true, false, cond, ◌�
 use Rattle.fbl_runs.proofs.Common.{cases_eq, cases_lt, length-append, slice_get_within, At-front, At-push, At-seam, take_all, filter-append, false≢true}
 use Rattle.fbl_trace.proofs.Common.{take-append-le}
 use Rattle.fbl_trace.proofs.Gets.{At-filter}
-use Rattle.fbl_runs.proofs.Common.{Mark, Send, Receipt, ControlMessage, Entry, Event, Hold, LaterReceipt, Restart, Store, Tell, Told, mark_in, restart_in, entry_member, log_of, at, Position}
+use Rattle.fbl_runs.proofs.Common.{Mark, ControlMessage, Entry, Event, Restart, Tell, mark_in, restart_in, entry_member, log_of, at, Position}
 use Rattle.std.proofs.Common.{map, set, length-set}
 use Rattle.std.proofs.lemmas.List.{map_push, take-map}
-use Rattle.std.proofs.lemmas.List.Sums.{length-filter}
 use Rattle.std.specs.List.{filter}
 use Rattle.std.specs.HashMap as hash_map
 use Rattle.fbl_runs.specs.declared.entry.Restart as restart
@@ -19,6 +18,7 @@ use Rattle.fbl_runs.specs.ControlMessages.{AreEndsAllowed, same_control}
 use Rattle.fbl_runs.specs.KnownLives.{AreEvents, ArePlaces, HasLived, IsKnownLog, IsLastRestartBehind, IsLifeAt, IsLifeBehind, IsLifeOf, IsTellPlace, events_after, is_send_at, is_send_in, sends_behind, sent_now}
 use Rattle.fbl_runs.specs.Lives.{life_after, life_in, standing, stood_after}
 use Rattle.fbl_runs.specs.Rules.{AreLawful, IsLawful, is_restart, is_send, restarts}
+use Rattle.fbl_runs.proofs.RestartCounts.{restart_counted}
 use Rattle.fbl_runs.proofs.LifeLaws.{LivesRise, get_from_take, life-push, life_le, standing-push, standing_below}
 use Rattle.fbl_runs.proofs.Listing.{log_of-other, log_of-own}
 use Rattle.fbl_runs.proofs.RecordLaws.{set_get}
@@ -51,14 +51,8 @@ more_ends : (a b : ℕ) (m : ControlMessage) → a ≤ b → AreEndsAllowed a m 
 more_ends a b m less ends = ((let h = ends.0 in omega (arith, h, less)), (let h = ends.1 in omega (arith, h, less)), ends.2)
 
 more_members : (a b : ℕ) (before : List Entry) (e : Entry) → a ≤ b → IsLawful a before e → IsLawful b before e
-more_members a b before (Event (Send from ssn to)) less law = law
-more_members a b before (Event (Receipt to rsn from ssn)) less law = law
-more_members a b before (LaterReceipt d life) less law = law
-more_members a b before (Restart r) less law = law
-more_members a b before (Hold q d) less law = law
-more_members a b before (Store q d) less law = law
 more_members a b before (Tell m) less law = (more_ends a b m less law.0, law.1)
-more_members a b before (Told m) less law = law
+more_members a b before e less law = law
 
 pub lawful_more : (a b : ℕ) (before : List Entry) (e : Entry) → AreLawful a before → IsLawful b before e → AreLawful (a + b) (before ++ e ∷ [])
 lawful_more a b before e old law i x here = elim (At-push before e i x here) [
@@ -190,12 +184,8 @@ life_now log x l same is =
 
 no_restart_mark : (e : Entry) → restart_in e ≡ None → (is_send e ≡ false) ⊎ ((m : Mark) × (mark_in e ≡ Some m))
 no_restart_mark (Event m) none = inr (m, refl)
-no_restart_mark (LaterReceipt d life) none = inl refl
-no_restart_mark (Hold q d) none = inl refl
-no_restart_mark (Store q d) none = inl refl
-no_restart_mark (Tell m) none = inl refl
-no_restart_mark (Told m) none = inl refl
 no_restart_mark (Restart r) none = cc
+no_restart_mark e none = inl refl
 
 -- the sends that stand behind all entries, and behind one more that is no restart
 sends_more : (log : List Entry) (e : Entry) → restart_in e ≡ None → sends_behind (log ++ e ∷ []) (length log + 1) ≡ sends_behind log (length log) ++ cond (is_send e) (length log ∷ []) []
@@ -327,22 +317,9 @@ tells_more before x old new writes is m = subst (IsTellPlace (before ++ Tell x �
 
 -- ---- the number of lives
 
-pub restart_counted : (before : List Entry) (e : Entry) → restarts (before ++ e ∷ []) ≡ restarts before + cond (is_restart e) 1 0
-restart_counted before e =
-    sym (length-filter is_restart (before ++ e ∷ [])) ∙ ap length (filter-append is_restart before (e ∷ [])) ∙ length-append (filter is_restart before) (cond (is_restart e) (e ∷ []) [])
-    ∙ ap (λ n. n + length (cond (is_restart e) (e ∷ []) [])) (length-filter is_restart before) ∙ ap (λ n. restarts before + n) (by_test (is_restart e)) where
-      by_test : (b : Bool) → length (cond b (e ∷ []) []) ≡ cond b 1 0
-      by_test true = refl
-      by_test false = refl
-
 pub no_restart_counted : (e : Entry) → restart_in e ≡ None → is_restart e ≡ false
-no_restart_counted (Event m) none = refl
-no_restart_counted (LaterReceipt d life) none = refl
-no_restart_counted (Hold q d) none = refl
-no_restart_counted (Store q d) none = refl
-no_restart_counted (Tell m) none = refl
-no_restart_counted (Told m) none = refl
 no_restart_counted (Restart r) none = cc
+no_restart_counted e none = refl
 
 -- ---- one entry more
 

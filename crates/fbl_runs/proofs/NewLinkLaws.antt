@@ -1,7 +1,7 @@
 -- What a pass finds of an entry when it comes is what leads to it in the whole list.
-use Rattle.fbl_runs.proofs.Common.{ℕ, zero, suc, ◌≡◌, ◌≢◌, ◌<◌, ◌≤◌, ◌+◌, ◌⊎◌, inl, inr, List, [], ◌∷◌, length, take, Option, Some, None, slice_get, refl, sym, ap, subst, ◌∙◌, arith, add-one, cond}
-use Rattle.fbl_runs.proofs.Common.{slice_get_within, slice_get-take, take-more, take_all, length-take, false, true, false≢true}
-use Rattle.fbl_runs.proofs.Common.{Mark, Send, Receipt, Determinant, ControlMessage, Entry, Event, Hold, LaterReceipt, Restart, Store, Tell, Told, mark_in, receipt_in, receipt_of, restart_in, named_life, send_of}
+use Rattle.fbl_runs.proofs.Common.{ℕ, zero, suc, ◌≡◌, ◌≢◌, ◌<◌, ◌≤◌, ◌+◌, ◌⊎◌, inl, inr, List, [], ◌∷◌, length, take, Option, Some, None, slice_get, refl, sym, ap, subst, ◌∙◌, arith, add-one}
+use Rattle.fbl_runs.proofs.Common.{slice_get_within, slice_get-take, take_all, length-take, false, true, false≢true}
+use Rattle.fbl_runs.proofs.Common.{Mark, Send, Receipt, Determinant, ControlMessage, Entry, Event, LaterReceipt, Restart, Tell, Told, mark_in, receipt_in, receipt_of, restart_in, named_life, send_of}
 use Rattle.fbl_runs.proofs.Common.{Begins, IsAt, IsEarlier, Position, StandsInLife, StoodBefore, at, entry_member, log_of}
 use Rattle.std.proofs.Common.{MatchOption, map, ◌-◌}
 use Rattle.std.proofs.lemmas.List.{length-map, take-take}
@@ -15,13 +15,14 @@ use Rattle.fbl_runs.specs.Clocks.{StandsAt, seen}
 use Rattle.fbl_runs.specs.KnownLives.{HasLived, IsBeginning, IsKnownLog, IsLifeAt, IsTellPlace}
 use Rattle.fbl_runs.specs.Links.{IsLastPlace, IsMessageOf, IsPlaceOf}
 use Rattle.fbl_runs.specs.Lives.{life_in, standing}
-use Rattle.fbl_runs.specs.Rules.{AreLawful, IsLawful, IsSentInLife, is_restart, restarts}
+use Rattle.fbl_runs.specs.Rules.{AreLawful, IsLawful, IsSentInLife, restarts}
 use Rattle.fbl_runs.proofs.ControlLaws.{told_before}
+use Rattle.fbl_runs.proofs.DueLaws.{mark_of_receipt}
 use Rattle.fbl_runs.proofs.LeadsLaws.{are_told, begins_before, here_stands, in_life_in_whole, lives_rise, log_of_front, stands_somewhere}
-use Rattle.fbl_runs.proofs.LifeLaws.{get_from_take, take-none}
+use Rattle.fbl_runs.proofs.LifeLaws.{get_from_take}
 use Rattle.fbl_runs.proofs.LinkLaws.{begun_place, carried_place, first_entry, first_stood, last_kept, no_message, none_kept, not_begun, previous_entry, previous_stood, told_place}
 use Rattle.fbl_runs.proofs.Listing.{seen-own, stands_at}
-use Rattle.fbl_runs.proofs.LivedLaws.{restart_counted}
+use Rattle.fbl_runs.proofs.RestartCounts.{restarts_next}
 
 -- ---- the front of a list
 
@@ -53,30 +54,13 @@ sent_whole entries x from ssn to life k sent =
 
 -- ---- the kinds of entries
 
-pub receipt_taken : (e : Entry) (d : Determinant) → receipt_in e ≡ Some d → mark_in e ≡ Some (receipt_of d)
-receipt_taken (Event (Receipt to rsn from ssn)) d is = (
-    let made : Determinant = record { from = from; ssn = ssn; to = to; rsn = rsn } in
-    let same : made ≡ d = (let some : Some made ≡ Some d = is in cc) in
-    ap (λ (d : Determinant). Some (receipt_of d)) same)
-receipt_taken (Event (Send from ssn to)) d is = absurd (let wrong : None ≡ Some d = is in cc)
-receipt_taken (LaterReceipt x life) d is = (let same : x ≡ d = (let some : Some x ≡ Some d = is in cc) in ap (λ (d : Determinant). Some (receipt_of d)) same)
-receipt_taken (Hold q x) d is = absurd (let wrong : None ≡ Some d = is in cc)
-receipt_taken (Store q x) d is = absurd (let wrong : None ≡ Some d = is in cc)
-receipt_taken (Tell m) d is = absurd (let wrong : None ≡ Some d = is in cc)
-receipt_taken (Told m) d is = absurd (let wrong : None ≡ Some d = is in cc)
-receipt_taken (Restart r) d is = absurd (let wrong : None ≡ Some d = is in cc)
-
 pub nothing_taken : (e : Entry) → receipt_in e ≡ None → (r s : Mark) → mark_in e ≡ Some r → send_of r ≡ Some s → ⊥
 nothing_taken (Event (Send from ssn to)) none r s mark takes = (
     let same : Send from ssn to ≡ r = (let some : Some (Send from ssn to) ≡ Some r = mark in cc) in
     let wrong : None ≡ Some s = ap send_of same ∙ takes in cc)
 nothing_taken (Event (Receipt to rsn from ssn)) none r s mark takes = (let made : Determinant = record { from = from; ssn = ssn; to = to; rsn = rsn } in let wrong : Some made ≡ None = none in cc)
 nothing_taken (LaterReceipt x life) none r s mark takes = (let wrong : Some x ≡ None = none in cc)
-nothing_taken (Hold q x) none r s mark takes = (let wrong : None ≡ Some r = mark in cc)
-nothing_taken (Store q x) none r s mark takes = (let wrong : None ≡ Some r = mark in cc)
-nothing_taken (Tell m) none r s mark takes = (let wrong : None ≡ Some r = mark in cc)
-nothing_taken (Told m) none r s mark takes = (let wrong : None ≡ Some r = mark in cc)
-nothing_taken (Restart x) none r s mark takes = (let wrong : None ≡ Some r = mark in cc)
+nothing_taken e none r s mark takes = (let wrong : None ≡ Some r = mark in cc)
 
 -- a receipt's message was sent before
 taken_before : (n : ℕ) (before : List Entry) (e : Entry) (d : Determinant) → receipt_in e ≡ Some d → IsLawful n before e → (k : ℕ) × IsSentInLife (log_of before) d.from d.ssn d.to (named_life e) k
@@ -88,67 +72,31 @@ taken_before n before (Event (Send from ssn to)) d is law = absurd (let wrong : 
 taken_before n before (LaterReceipt x life) d is law = (
     let same : x ≡ d = (let some : Some x ≡ Some d = is in cc) in
     subst (λ (d : Determinant). (k : ℕ) × IsSentInLife (log_of before) d.from d.ssn d.to life k) same law)
-taken_before n before (Hold q x) d is law = absurd (let wrong : None ≡ Some d = is in cc)
-taken_before n before (Store q x) d is law = absurd (let wrong : None ≡ Some d = is in cc)
-taken_before n before (Tell m) d is law = absurd (let wrong : None ≡ Some d = is in cc)
-taken_before n before (Told m) d is law = absurd (let wrong : None ≡ Some d = is in cc)
-taken_before n before (Restart r) d is law = absurd (let wrong : None ≡ Some d = is in cc)
+taken_before n before e d is law = absurd (let wrong : None ≡ Some d = is in cc)
 
 -- it names a life, or the first one
 life_of_receipt : (e : Entry) (d : Determinant) → receipt_in e ≡ Some d → (e ≡ LaterReceipt d (named_life e)) ⊎ (named_life e ≡ 0)
 life_of_receipt (LaterReceipt x life) d is = inl (let same : x ≡ d = (let some : Some x ≡ Some d = is in cc) in ap (λ (d : Determinant). LaterReceipt d life) same)
-life_of_receipt (Event m) d is = inr refl
-life_of_receipt (Hold q x) d is = inr refl
-life_of_receipt (Store q x) d is = inr refl
-life_of_receipt (Tell m) d is = inr refl
-life_of_receipt (Told m) d is = inr refl
-life_of_receipt (Restart r) d is = inr refl
+life_of_receipt e d is = inr refl
 
 pub restart_some : (e : Entry) → is_some (restart_in e) ≡ true → (r : restart.Restart) × (e ≡ Restart r)
 restart_some (Restart r) some = (r, refl)
-restart_some (Event m) some = absurd (false≢true some)
-restart_some (LaterReceipt d life) some = absurd (false≢true some)
-restart_some (Hold q d) some = absurd (false≢true some)
-restart_some (Store q d) some = absurd (false≢true some)
-restart_some (Tell m) some = absurd (false≢true some)
-restart_some (Told m) some = absurd (false≢true some)
+restart_some e some = absurd (false≢true some)
 
 pub restart_none : (e : Entry) → is_some (restart_in e) ≡ false → restart_in e ≡ None
 restart_none (Restart r) none = absurd (false≢true (sym none))
-restart_none (Event m) none = refl
-restart_none (LaterReceipt d life) none = refl
-restart_none (Hold q d) none = refl
-restart_none (Store q d) none = refl
-restart_none (Tell m) none = refl
-restart_none (Told m) none = refl
+restart_none e none = refl
 
 -- ---- few lives
 
-one_restart : (e : Entry) → (is_restart e ≡ false) ⊎ ((r : restart.Restart) × (e ≡ Restart r))
-one_restart (Restart r) = inr (r, refl)
-one_restart (Event m) = inl refl
-one_restart (LaterReceipt d life) = inl refl
-one_restart (Hold q d) = inl refl
-one_restart (Store q d) = inl refl
-one_restart (Tell m) = inl refl
-one_restart (Told m) = inl refl
-
 few_before : (n : ℕ) (entries : List Entry) → AreLawful n entries → (x : ℕ) → restarts (take x entries) ≤ 8
 few_before n entries lawful zero = omega arith
-few_before n entries lawful (suc x) = by_entry (slice_get entries x) refl (few_before n entries lawful x) where
-  by_entry : (o : Option Entry) → slice_get entries x ≡ o → restarts (take x entries) ≤ 8 → restarts (take (suc x) entries) ≤ 8
-  by_entry None none few = subst (λ (t : List Entry). restarts t ≤ 8) (sym (take-none entries x none)) few
-  by_entry (Some e) here few =
-      let count : restarts (take (suc x) entries) ≡ restarts (take x entries) + cond (is_restart e) 1 0 = ap restarts (take-more entries x e here) ∙ restart_counted (take x entries) e in
-      elim (one_restart e) [
-        | inl other ↦ (
-            let none : restarts (take x entries) + cond (is_restart e) 1 0 ≡ restarts (take x entries) + 0 = ap (λ b. restarts (take x entries) + cond b 1 0) other in
-            omega (arith, count, none, few))
-        | inr is ↦ (
-            let one : restarts (take x entries) + cond (is_restart e) 1 0 ≡ restarts (take x entries) + 1 = ap (λ e. restarts (take x entries) + cond (is_restart e) 1 0) is.1 in
-            let law = (lawful x (Restart is.0) (here ∙ ap Some is.1)).1 in
-            omega (arith, count, one, law))
-      ]
+few_before n entries lawful (suc x) =
+    let few = few_before n entries lawful x in
+    elim (restarts_next entries x) [
+      | inl same ↦ omega (arith, same, few)
+      | inr more ↦ (let law = (lawful x (Restart more.0) more.1).1 in let count = more.2 in omega (arith, count, law))
+    ]
 
 pub few_lives : (before : List Entry) (known : Lives) → HasLived before known → (number member life : ℕ) → IsLifeAt known.lives.items number member life → number < 24
 few_lives before known has number member life is =
@@ -248,7 +196,7 @@ module _ (n : ℕ) (entries : List Entry) (lawful : AreLawful n entries) (place 
       let k = found.0 in
       let sent = sent_whole entries (place + 1) d.from d.ssn d.to (named_life e) k found.1 in
       let there = stands_whole entries (place + 1) p (at d.from k) found.2 in
-      carried_place n entries lawful j e at_j p (at d.from k) there (Send d.from d.ssn d.to, receipt_of d, e, sent.0, at_j, receipt_taken e d is, refl, sent.1)
+      carried_place n entries lawful j e at_j p (at d.from k) there (Send d.from d.ssn d.to, receipt_of d, e, sent.0, at_j, mark_of_receipt e d is, refl, sent.1)
 
   pub message_part : (o : Option ℕ) → ((m : ControlMessage) → e ≡ Told m → IsTellPlace before m o)
       → ((d : Determinant) → receipt_in e ≡ Some d
@@ -257,12 +205,7 @@ module _ (n : ℕ) (entries : List Entry) (lawful : AreLawful n entries) (place 
   message_part o told taken other = by_kind (told_or_not e) (receipt_in e) refl where
     told_or_not : (x : Entry) → ((m : ControlMessage) × (x ≡ Told m)) ⊎ ((m : ControlMessage) → x ≢ Told m)
     told_or_not (Told m) = inl (m, refl)
-    told_or_not (Tell m) = inr (λ t is. cc)
-    told_or_not (Event m) = inr (λ t is. cc)
-    told_or_not (LaterReceipt d life) = inr (λ t is. cc)
-    told_or_not (Hold q d) = inr (λ t is. cc)
-    told_or_not (Store q d) = inr (λ t is. cc)
-    told_or_not (Restart r) = inr (λ t is. cc)
+    told_or_not e = inr (λ t is. cc)
 
     by_kind : ((m : ControlMessage) × (e ≡ Told m)) ⊎ ((m : ControlMessage) → e ≢ Told m) → (x : Option Determinant) → receipt_in e ≡ x → IsPlaceOf entries (IsMessageOf (log_of entries) j) o
     by_kind (inl is) x _ = told_part is.0 o is.1 (told is.0 is.1)

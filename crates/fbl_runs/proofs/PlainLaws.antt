@@ -75,13 +75,8 @@ no_lives (x ∷ xs) none (suc i) e here = no_lives xs (rest (has_life x) (list_a
   rest false b is = is
 
 no_restart : (e : Entry) → has_life e ≡ false → restart_in e ≡ None
-no_restart (Event m) none = refl
-no_restart (Hold q d) none = refl
-no_restart (Store q d) none = refl
-no_restart (Tell m) none = refl
-no_restart (Told m) none = refl
-no_restart (LaterReceipt d life) none = refl
 no_restart (Restart r) none = absurd (false≢true (sym none))
+no_restart e none = refl
 
 pub no_lives-front : (entries : List Entry) (p : ℕ) → NoLives entries → NoLives (take p entries)
 no_lives-front entries p none i e here = none i e (get_from_take p entries i e here)
@@ -113,21 +108,12 @@ stands_plain log none k below = (
 -- a mark that is a send is one
 pub is_event_of_send : (x : Entry) (from ssn to : ℕ) → mark_in x ≡ Some (Send from ssn to) → x ≡ Event (Send from ssn to)
 is_event_of_send (Event m) from ssn to is = (let same : m ≡ Send from ssn to = cc in ap Event same)
-is_event_of_send (Hold q d) from ssn to is = absurd cc
-is_event_of_send (Store q d) from ssn to is = absurd cc
-is_event_of_send (Tell m) from ssn to is = absurd cc
-is_event_of_send (Told m) from ssn to is = absurd cc
-is_event_of_send (LaterReceipt d life) from ssn to is = absurd cc
-is_event_of_send (Restart r) from ssn to is = absurd cc
+is_event_of_send e from ssn to is = absurd cc
 
 no_send : (e : Entry) → mark_in e ≡ None → is_send e ≡ false
 no_send (Event m) none = absurd cc
-no_send (Hold q d) none = refl
-no_send (Store q d) none = refl
-no_send (Tell m) none = refl
-no_send (Told m) none = refl
 no_send (LaterReceipt d life) none = absurd cc
-no_send (Restart r) none = refl
+no_send e none = refl
 
 marks-other : (t : List Entry) (e : Entry) → mark_in e ≡ None → marks (t ++ e ∷ []) ≡ marks t
 marks-other t e unmarked = (rw (filter_map-append mark_in t (e ∷ []), unmarked, append-nil) refl)
@@ -157,10 +143,7 @@ sends-own t e m none own before =
           omega (arith, more, marked, before)
       by_entry (LaterReceipt d life) own none more = absurd (false≢true (sym none))
       by_entry (Restart r) own none more = absurd (false≢true (sym none))
-      by_entry (Hold q d) own none more = other (Hold q d) refl more
-      by_entry (Store q d) own none more = other (Store q d) refl more
-      by_entry (Tell x) own none more = other (Tell x) refl more
-      by_entry (Told x) own none more = other (Told x) refl more
+      by_entry e own none more = other e refl more
 
 sends-other : (t : List Entry) (e : Entry) (m : ℕ) → has_life e ≡ false → entry_member e ≢ m → sends_standing (log_of t m) ≡ sends_of (marks t) m
     → sends_standing (log_of (t ++ e ∷ []) m) ≡ sends_of (marks (t ++ e ∷ [])) m
@@ -179,10 +162,7 @@ sends-other t e m none not_own before = ap sends_standing (log_of-other t e m no
       omega (arith, marked)
   by_entry (LaterReceipt d life) not_own none = absurd (false≢true (sym none))
   by_entry (Restart r) not_own none = absurd (false≢true (sym none))
-  by_entry (Hold q d) not_own none = other (Hold q d) refl
-  by_entry (Store q d) not_own none = other (Store q d) refl
-  by_entry (Tell x) not_own none = other (Tell x) refl
-  by_entry (Told x) not_own none = other (Told x) refl
+  by_entry e not_own none = other e refl
 
 module _ (entries : List Entry) (none : NoLives entries) where
   -- as many sends of a member stand as it has
@@ -233,9 +213,8 @@ lawful_plain n entries none obeys told p e here = by_entry e here where
       m.3 ∙ ap (λ k. k + 1) (sym (sends_plain entries (no_lives entries none) p from))
   by_entry (Event (Receipt to rsn from ssn)) here =
       sent_plain n entries obeys p to rsn from ssn (no_lives entries none) (may n entries obeys p (Event (Receipt to rsn from ssn)) (Receipt to rsn from ssn) here refl)
-  by_entry (LaterReceipt d life) here = absurd (false≢true (sym (no_lives entries none p (LaterReceipt d life) here)))
-  by_entry (Restart r) here = absurd (false≢true (sym (no_lives entries none p (Restart r) here)))
   by_entry (Hold q d) here = tt
   by_entry (Store q d) here = tt
   by_entry (Tell m) here = told p (Tell m) here
   by_entry (Told m) here = told p (Told m) here
+  by_entry e here = absurd (false≢true (sym (no_lives entries none p e here)))

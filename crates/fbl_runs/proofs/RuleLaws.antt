@@ -17,11 +17,7 @@ breaks_event n before m life (Outside outsider) broken may = elim broken.1 [
 breaks_event n before m life ToItself broken may = may.1.2 broken.3
 breaks_event n before m life (WrongNumber wanted) broken may = broken.3 (may.2 ∙ sym broken.2)
 breaks_event n before m life NotDue broken may = broken.3 may.3
-breaks_event n before m life TooManyRestarts broken may = broken
-breaks_event n before m life (NotLater other) broken may = broken
-breaks_event n before m life (Stood count) broken may = broken
-breaks_event n before m life OtherReceipts broken may = broken
-breaks_event n before m life (ControlMessages rule) broken may = broken
+breaks_event n before m life x broken may = broken
 
 breaks_restart : (n : ℕ) (before : List Entry) (r : restart.Restart) (rule : LifeRule) → BreaksRestart n before r rule → ¬ (MayRestart n before r)
 breaks_restart n before r TooManyRestarts broken may = (let few = may.0 in omega (arith, few, broken))
@@ -29,11 +25,7 @@ breaks_restart n before r (Outside outsider) broken may = (let b = may.1 in let 
 breaks_restart n before r (NotLater life) broken may = (let later = may.2 in let is = broken.2 in let past = broken.3 in omega (arith, later, is, past))
 breaks_restart n before r (Stood count) broken may = (let within = may.3 in let is = broken.3 in let past = broken.4 in omega (arith, within, is, past))
 breaks_restart n before r OtherReceipts broken may = broken.4 may.4
-breaks_restart n before r TooMany broken may = broken
-breaks_restart n before r ToItself broken may = broken
-breaks_restart n before r (WrongNumber wanted) broken may = broken
-breaks_restart n before r NotDue broken may = broken
-breaks_restart n before r (ControlMessages rule) broken may = broken
+breaks_restart n before r x broken may = broken
 
 pub breaks_life : (n : ℕ) (before : List Entry) (e : Entry) (rule : LifeRule) → BreaksLife n before e rule → ¬ (MayFollow n before e)
 breaks_life n before e (ControlMessages rule) broken may = breaks_control n before e rule broken may.2

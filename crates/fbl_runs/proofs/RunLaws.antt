@@ -1,7 +1,7 @@
 -- Which entries are those of a run.
 use Rattle.std.specs.Option.{is_some}
 use Rattle.fbl_runs.proofs.Common.{Bool, Option, None, true, false, ℕ, zero, suc, ◌≡◌, ◌<◌, ◌≤◌, ◌+◌, ◌↔◌, ◌⊎◌, inl, inr, List, [], ◌∷◌, ◌++◌, length, Some, slice_get, refl, sym, ap, subst, ◌∙◌, arith, take, append-nil, take-more, filter_map, filter_map-append, length-append}
-use Rattle.fbl_runs.proofs.Common.{cases_lt, slice_get_within, receipt_of, Determinant, Mark, Send, Receipt, Entry, Event, Hold, LaterReceipt, Restart, Store, Tell, Told, entry_member, log_of, mark_in, marks, recorded_in, at, IsKnownTo, HappenedBefore}
+use Rattle.fbl_runs.proofs.Common.{cases_lt, slice_get_within, receipt_of, Determinant, Mark, Send, Receipt, Entry, Event, LaterReceipt, Restart, Tell, Told, entry_member, log_of, mark_in, marks, recorded_in, at, IsKnownTo, HappenedBefore}
 use Rattle.fbl_dumps.specs.Dumps.{IsDump, Parts}
 use Rattle.fbl_dumps.proofs.DumpLaws.{member_below}
 use Rattle.std.proofs.Common.{map}
@@ -24,6 +24,8 @@ use Rattle.fbl_runs.proofs.Common.{IsAt, IsReceiptAt, Position, Precedes, itself
 use Rattle.fbl_runs.specs.Clocks.{StandsAt}
 use Rattle.fbl_runs.specs.Receipts.{IsFirstReceipt, IsReceiptPlace}
 use Rattle.fbl_runs.proofs.ClockLaws.{Precedes-joined}
+use Rattle.fbl_runs.proofs.Common.{length-take}
+use Rattle.fbl_trace.proofs.Gets.{length-filter_map}
 use Rattle.fbl_runs.proofs.LeadsLaws.{here_stands, one_position}
 use Rattle.fbl_runs.proofs.Listing.{locate_all, seen-later, stands_at}
 pub use Rattle.fbl_runs.proofs.PlainLaws.{lawful_plain}
@@ -36,10 +38,9 @@ lawful_next n before (Event (Send from ssn to)) may = (may.0 (Send from ssn to) 
 lawful_next n before (Event (Receipt to rsn from ssn)) may = (let due = (may.0 (Receipt to rsn from ssn) refl).3 in (due.send, due.sent))
 lawful_next n before (LaterReceipt d life) may = (let due = (may.0 (receipt_of d) refl).3 in (due.send, due.sent))
 lawful_next n before (Restart r) may = (let m = may.1 r refl in (m.2, m.0))
-lawful_next n before (Hold q d) may = tt
-lawful_next n before (Store q d) may = tt
 lawful_next n before (Tell m) may = may.2
 lawful_next n before (Told m) may = may.2
+lawful_next n before e may = tt
 
 -- where each entry breaks none, the entries are those of a run
 pub lawful_lives : (n : ℕ) (entries : List Entry) → ((i : ℕ) → FollowsAt n entries i) → AreLawful n entries
@@ -72,14 +73,9 @@ own_entry entries p i e stands here = (let same : stands.0 ≡ e = (let some : S
 
 -- a receipt stands in its receiver's log
 receipt_own : (e : Entry) (d : Determinant) → receipt_in e ≡ Some d → entry_member e ≡ d.to
-receipt_own (Event (Send from ssn to)) d is = absurd cc
 receipt_own (Event (Receipt to rsn from ssn)) d is = (let same : record { from = from; ssn = ssn; to = to; rsn = rsn } ≡ d = cc in ap (λ (x : Determinant). x.to) same)
 receipt_own (LaterReceipt x life) d is = (let same : x ≡ d = cc in ap (λ (x : Determinant). x.to) same)
-receipt_own (Hold q x) d is = absurd cc
-receipt_own (Store q x) d is = absurd cc
-receipt_own (Tell m) d is = absurd cc
-receipt_own (Told m) d is = absurd cc
-receipt_own (Restart r) d is = absurd cc
+receipt_own e d is = absurd cc
 
 -- where a determinant's receipts stand
 receipt_place_of : (entries : List Entry) (d : Determinant) (i : Position) → IsReceiptAt (log_of entries) d i → (p : ℕ) × IsReceiptPlace entries d p × StandsAt entries p i
@@ -258,15 +254,7 @@ records-none entries p e here is = ap length (kept-none recorded_in entries p e 
 
 -- there are no more holds and stores than entries
 pub records-le : (entries : List Entry) (p : ℕ) → length (records (take p entries)) ≤ p
-records-le entries zero = omega arith
-records-le [] (suc p) = omega arith
-records-le (Event m ∷ t) (suc p) = (let rest = records-le t p in omega (arith, rest))
-records-le (Hold q d ∷ t) (suc p) = (let rest = records-le t p in omega (arith, rest))
-records-le (Store q d ∷ t) (suc p) = (let rest = records-le t p in omega (arith, rest))
-records-le (Tell m ∷ t) (suc p) = (let rest = records-le t p in omega (arith, rest))
-records-le (Told m ∷ t) (suc p) = (let rest = records-le t p in omega (arith, rest))
-records-le (LaterReceipt d life ∷ t) (suc p) = (let rest = records-le t p in omega (arith, rest))
-records-le (Restart r ∷ t) (suc p) = (let rest = records-le t p in omega (arith, rest))
+records-le entries p = omega (arith, length-filter_map recorded_in (take p entries), length-take p entries)
 
 pub records-is_some : (entries : List Entry) (p : ℕ) (e : Entry) (o : Option Determinant) → slice_get entries p ≡ Some e → o ≡ recorded_in e → is_some o ≡ true
     → length (records (take (p + 1) entries)) ≡ length (records (take p entries)) + 1

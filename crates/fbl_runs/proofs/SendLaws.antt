@@ -1,7 +1,7 @@
 -- The sends that stand, in one member's log: in order they have the numbers from 1 on, and one in a life has each number.
 use Rattle.fbl_runs.proofs.Common.{ℕ, zero, suc, Bool, true, false, cond, ◌≡◌, ◌<◌, ◌+◌, inl, inr, List, [], ◌∷◌, ◌++◌, length, take, drop, Option, Some, None, slice_get, refl, sym, ap, subst, ◌∙◌, arith, append-nil}
 use Rattle.fbl_runs.proofs.Common.{cases_lt, At-front, At-push, take-append-drop, filter-append, false≢true, slice_get-take}
-use Rattle.fbl_runs.proofs.Common.{Mark, Send, Receipt, Entry, Event, Hold, LaterReceipt, Restart, Store, Tell, Told, mark_in, restart_in}
+use Rattle.fbl_runs.proofs.Common.{Mark, Send, Entry, Event, mark_in, restart_in}
 use Rattle.std.proofs.Common.{count_by}
 use Rattle.std.proofs.lemmas.List.Sums.{length-filter}
 use Rattle.std.specs.List.{cons_option, filter}
@@ -84,13 +84,7 @@ IsNumbered log k ssn = (from : ℕ) × (to : ℕ) × (slice_get log k ≡ Some (
 
 send_is : (e : Entry) → is_send e ≡ true → (from : ℕ) × (ssn : ℕ) × (to : ℕ) × (e ≡ Event (Send from ssn to))
 send_is (Event (Send from ssn to)) is = (from, ssn, to, refl)
-send_is (Event (Receipt to rsn from ssn)) is = absurd (false≢true is)
-send_is (Hold q d) is = absurd (false≢true is)
-send_is (Store q d) is = absurd (false≢true is)
-send_is (Tell m) is = absurd (false≢true is)
-send_is (Told m) is = absurd (false≢true is)
-send_is (LaterReceipt d life) is = absurd (false≢true is)
-send_is (Restart r) is = absurd (false≢true is)
+send_is e is = absurd (false≢true is)
 
 module _ (log : List Entry) (numbered : SendsNumbered log) where
   numbered_restart : (x n : ℕ) → ((i k : ℕ) → slice_get (sends_behind log x) i ≡ Some k → IsNumbered log k (suc i))

@@ -84,7 +84,7 @@ abbrev pub IsCovered : Run → Cut → Determinant → ℕ → Type 0
 IsCovered run cut d member =
     ¬ (IsStoredAt run.logs cut d) → (members : Members) → AreStruckOrHold run cut d members → (set.contains members member ≡ true) ⊎ (bound run < set.len members)
 
--- a receipt that stands is covered at each least moment at which a member depends on it, whichever restarts have come
+-- a receipt is covered at each least moment at which it stands and a member depends on it, whichever restarts have come
 abbrev pub IsSafeFromTheFirst : Run → Type 0
 IsSafeFromTheFirst run =
     (i : Position) (d : Determinant) (q : ℕ) (cut : Cut) → IsReceiptAt run.logs d i → IsLeastDependent run.logs i q cut → Stands run.logs cut i

@@ -152,9 +152,7 @@ impl Clocks {
             → (cut : Cut) × IsSourceClock self.now.causality entries links.now place cut
             × ((q : ℕ) → cut_of clock.new q ≡ max (cut_of clock.old q) (cut q)) }
     {
-        if place.is_some() {
-            clock.join(&self.source(links, place));
-        }
+        clock.join(&self.source(links, place));
     }
 
     /// The clock of what leads to an entry at once.

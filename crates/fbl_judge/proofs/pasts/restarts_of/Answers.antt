@@ -1,4 +1,4 @@
-use Rattle.fbl_judge.proofs.Common.{ℕ, true, false, ◌≡◌, ◌∷◌, ◌∙◌, [], inl, inr, refl, sym, ap, subst, arith, cases_eq, Entry, Event, Hold, LaterReceipt, Some, Store, Tell, Told, length, slice_get, slice_get_read, slice_get_within, restart_in, At-front, At-push, Restart}
+use Rattle.fbl_judge.proofs.Common.{ℕ, true, false, ◌≡◌, ◌∷◌, ◌∙◌, [], inl, inr, refl, sym, ap, subst, arith, cases_eq, Entry, Some, length, slice_get, slice_get_read, slice_get_within, restart_in, At-front, At-push, Restart}
 use Rattle.fbl_trace.proofs.Gets.{At-seam}
 use Rattle.std.specs.Option.{is_some}
 use Rattle.fbl_runs.specs.declared.entry.Restart as restart
@@ -8,12 +8,7 @@ use Rattle.fbl_judge.proofs.pasts.restarts_of.Goals.{then-is_some+in_ok-push, el
 -- the entry is a restart exactly where this says so
 is_restart : (e : Entry) → is_some (restart_in e) ≡ true → (r : restart.Restart) × (e ≡ Restart r)
 is_restart (Restart r) is = (r, refl)
-is_restart (Event m) is = cc
-is_restart (LaterReceipt d life) is = cc
-is_restart (Hold q d) is = cc
-is_restart (Store q d) is = cc
-is_restart (Tell m) is = cc
-is_restart (Told m) is = cc
+is_restart e is = cc
 
 no_restart : (e : Entry) → is_some (restart_in e) ≡ false → (r : restart.Restart) → ¬ (e ≡ Restart r)
 no_restart e no' r same = (let t : is_some (restart_in e) ≡ true = ap (λ x. is_some (restart_in x)) same in cc)

@@ -1,25 +1,20 @@
-use Rattle.fbl_runs.proofs.Common.{◌≡◌, ◌∙◌, true, Determinant, List, Entry, Option, Some, None, ap, refl, sym, subst, arith, entry_member, false≢true, length, recorded_in, slice_get, slice_get_read}
+use Rattle.fbl_runs.proofs.Common.{◌≡◌, ◌∙◌, true, Determinant, List, Entry, Some, ap, sym, arith, entry_member, false≢true, length, recorded_in, slice_get}
 use Rattle.std.specs.Option.{is_some}
+use Rattle.fbl_runs.proofs.Listing.{read}
 use Rattle.fbl_runs.proofs.lawful.broken_rule.Goals as goal
 use Rattle.fbl_runs.proofs.lawful.broken_rule.Goals.{After-is_some, else-is_some-via-then-is_some+else-before-ge-MOST_PAIRS, else-is_some-via-else-is_some}
 
 here : (c : After-is_some) → slice_get c.args.index.now c.args.place ≡ Some c.index-entries-place.result
 here c =
-    let es = c.entries.result.now in
     let same_length = ap (λ (es : List Entry). length es) c.entries.ensures in
-    subst (λ (es : List Entry). slice_get es c.args.place ≡ Some c.index-entries-place.result) c.entries.ensures
-    (slice_get_read es (length es) c.args.place c.index-entries-place.result refl (let within = c.requires.place in omega (arith, within, same_length)) c.index-entries-place.is)
+    read c.args.index.now c.entries.result.now c.args.place c.index-entries-place.result c.entries.ensures (let within = c.requires.place in omega (arith, within, same_length)) c.index-entries-place.is
 
 -- the entry there is this one
 one : (c : After-is_some) (e : Entry) → slice_get c.args.index.now c.args.place ≡ Some e → c.index-entries-place.result ≡ e
 one c e there = (let some : Some c.index-entries-place.result ≡ Some e = sym (here c) ∙ there in cc)
 
-some_is : (o : Option Determinant) (d : Determinant) → o ≡ Some d → is_some o ≡ true
-some_is (Some x) d is = refl
-some_is None d is = absurd cc
-
 is_record : (c : After-is_some) (e : Entry) (d : Determinant) → slice_get c.args.index.now c.args.place ≡ Some e → recorded_in e ≡ Some d → c.is_some.result ≡ true
-is_record c e d there is = c.is_some.ensures ∙ some_is c.recorded.result d (c.recorded.ensures ∙ ap recorded_in (one c e there) ∙ is)
+is_record c e d there is = c.is_some.ensures ∙ ap is_some (c.recorded.ensures ∙ ap recorded_in (one c e there) ∙ is)
 
 pub returns : goal.returns
 returns c clocks count =

@@ -1,11 +1,8 @@
-use Rattle.fbl_runs.proofs.Common.{ℕ, ◌≡◌, ◌<◌, ◌≤◌, ◌∙◌, ap, arith, length, List, refl, slice_get, slice_get_read, slice_get_within, Some, subst, sym}
-use Rattle.std.proofs.Common.{get_or}
+use Rattle.fbl_runs.proofs.Common.{◌≡◌, ◌<◌, ◌≤◌, ◌∙◌, ap, arith, length, List, refl, slice_get, slice_get_read, slice_get_within, Some, sym}
 use Rattle.std.proofs.lemmas.Bool.{ltb-false}
 use Rattle.fbl_runs.specs.declared.lives.Life.{Life}
+use Rattle.fbl_runs.proofs.Listing.{read}
 use Rattle.fbl_runs.proofs.life_rules.life_now.Goals as goal
-
-read : {X : Type 0} (all seen : List X) (i : ℕ) (x : X) → seen ≡ all → i < length seen → x ≡ get_or seen i x → slice_get all i ≡ Some x
-read {X} all seen i x same within is = (let there : slice_get seen i ≡ Some x = slice_get_read seen (length seen) i x refl within is in subst (λ (s : List X). slice_get s i ≡ Some x) same there)
 
 pub returns-in-Some : goal.returns-in-Some
 returns-in-Some c before has =

@@ -1,15 +1,13 @@
-use Rattle.fbl_runs.proofs.Common.{ℕ, ◌≡◌, ◌<◌, ◌≤◌, ◌∙◌, arith, ap, at, Determinant, Entry, length, List, log_of, named_life, None, Option, receipt_in, refl, Restart, slice_get, slice_get_read, slice_get_within, Some, subst, sym}
-use Rattle.std.proofs.Common.{MatchOption, get_or}
+use Rattle.fbl_runs.proofs.Common.{ℕ, ◌≡◌, ◌≤◌, ◌∙◌, arith, ap, at, Determinant, Entry, length, List, log_of, named_life, None, Option, receipt_in, Restart, slice_get, slice_get_within, Some, subst, sym}
+use Rattle.std.proofs.Common.{MatchOption}
 use Rattle.std.proofs.lemmas.Bool.{ltb-false}
 use Rattle.fbl_runs.specs.Clocks.{StandsAt}
 use Rattle.fbl_runs.specs.declared.entry.Restart as restart
 use Rattle.fbl_runs.specs.declared.lives.Life.{Life}
 use Rattle.fbl_runs.specs.KnownLives.{IsBeginning}
+use Rattle.fbl_runs.proofs.Listing.{read}
 use Rattle.fbl_runs.proofs.KnownLaws.{begun_at, first_begun, no_number}
 use Rattle.fbl_runs.proofs.links.beginning.Goals as goal
-
-here : {X : Type 0} (all seen : List X) (i : ℕ) (x : X) → seen ≡ all → i < length seen → x ≡ get_or seen i x → slice_get all i ≡ Some x
-here {X} all seen i x same within is = (let there : slice_get seen i ≡ Some x = slice_get_read seen (length seen) i x refl within is in subst (λ (s : List X). slice_get s i ≡ Some x) same there)
 
 same_receipt : (e : Entry) (a b : Determinant) → Some a ≡ receipt_in e → receipt_in e ≡ Some b → a ≡ b
 same_receipt e a b one other = (let some : Some a ≡ Some b = one ∙ other in cc)
@@ -40,7 +38,7 @@ returns-in_err-restart-clause-receipt c before d has is =
     let a = c.in_ok-receipt.receipt in
     let l = c.in_ok-life.ensures in
     let life = c.in_ok-get.field-0.now in
-    let at_life = here c.args.lives.now.lives.items c.deref.result.now c.in_ok-life.life life c.deref.ensures.value c.in_ok-get.ensures.lookup.3.0 c.in_ok-get.ensures.lookup.1 in
+    let at_life = read c.args.lives.now.lives.items c.deref.result.now c.in_ok-life.life life c.deref.ensures.value c.in_ok-get.ensures.lookup.3.0 c.in_ok-get.ensures.lookup.1 in
     let same : l.0 ≡ life = (let some : Some l.0 ≡ Some life = sym l.1 ∙ at_life in cc) in
     moved before c.args.entry.now a d c.life.result c.from_residual-in_err-restart.result c.in_ok-receipt.ensures is c.life.ensures
     (subst (IsBeginning before a.from c.life.result) (sym c.from_residual-in_err-restart.ensures)
@@ -51,7 +49,7 @@ returns-clause-receipt c before d has is =
     let a = c.in_ok-receipt.receipt in
     let l = c.in_ok-life.ensures in
     let life = c.in_ok-get.field-0.now in
-    let at_life = here c.args.lives.now.lives.items c.deref.result.now c.in_ok-life.life life c.deref.ensures.value c.in_ok-get.ensures.lookup.3.0 c.in_ok-get.ensures.lookup.1 in
+    let at_life = read c.args.lives.now.lives.items c.deref.result.now c.in_ok-life.life life c.deref.ensures.value c.in_ok-get.ensures.lookup.3.0 c.in_ok-get.ensures.lookup.1 in
     let same : l.0 ≡ life = (let some : Some l.0 ≡ Some life = sym l.1 ∙ at_life in cc) in
     let begun = begun_at before c.args.lives.now has c.in_ok-life.life a.from c.life.result l.0 l.1 l.2 l.3 c.in_ok-restart.restart (ap (λ (l : Life). l.restart) same ∙ c.in_ok-restart.was) in
     moved before c.args.entry.now a d c.life.result c.place.result c.in_ok-receipt.ensures is c.life.ensures

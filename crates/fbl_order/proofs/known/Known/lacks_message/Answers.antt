@@ -1,4 +1,4 @@
-use Rattle.fbl_order.proofs.Common.{◌≡◌, ◌∙◌, Bool, true, false, not, List, Some, None, inl, inr, refl, subst, sym, Entry, Event, Hold, LaterReceipt, Restart, Store, Tell, Told}
+use Rattle.fbl_order.proofs.Common.{◌≡◌, ◌∙◌, Bool, true, false, not, List, Some, None, inl, inr, refl, subst, sym, Entry, Told}
 use Rattle.fbl_trace.specs.declared.trace.Determinant.{Determinant}
 use Rattle.fbl_runs.specs.ControlMessages.{BreaksControl}
 use Rattle.fbl_runs.specs.Entries.{log_of, named_life, receipt_in}
@@ -10,13 +10,8 @@ use Rattle.fbl_order.proofs.known.Known.lacks_message.Goals as goal
 
 -- a receipt is no entry of a control message
 no_control : (n : _) (before : List Entry) (e : Entry) (d : Determinant) → receipt_in e ≡ Some d → ¬ (BreaksControl n before e NotTold)
-no_control n before (Event m) d is broken = broken
-no_control n before (LaterReceipt x life) d is broken = broken
-no_control n before (Hold q x) d is broken = broken
-no_control n before (Store q x) d is broken = broken
-no_control n before (Restart r) d is broken = broken
-no_control n before (Tell m) d is broken = broken
 no_control n before (Told m) d is broken = (let none : None ≡ Some d = is in cc)
+no_control n before e d is broken = broken
 
 unsent : (b : Bool) (S : Type 0) → ((b ≡ true → S) × (S → b ≡ true)) → not b ≡ true → ¬ S
 unsent true S is no' s = cc

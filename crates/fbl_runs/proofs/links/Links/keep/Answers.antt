@@ -1,9 +1,10 @@
-use Rattle.fbl_runs.proofs.Common.{ℕ, ◌≡◌, ◌<◌, ◌≤◌, ◌+◌, ◌∙◌, arith, ap, length, List, [], None, refl, slice_get, slice_get_read, Some, subst, sym, take, take_all}
-use Rattle.std.proofs.Common.{get_or, set}
+use Rattle.fbl_runs.proofs.Common.{ℕ, ◌≡◌, ◌≤◌, ◌+◌, ◌∙◌, arith, ap, length, List, [], None, refl, slice_get, slice_get_read, Some, subst, sym, take, take_all}
+use Rattle.std.proofs.Common.{set}
 use Rattle.std.proofs.lemmas.Bool.{ltb-false}
 use Rattle.fbl_runs.specs.declared.links.Link.{Link}
 use Rattle.fbl_runs.specs.declared.lives.StandingEvent.{StandingEvent}
 use Rattle.fbl_runs.specs.Links.{AreChanged, IsPlaceOfEvent, kept}
+use Rattle.fbl_runs.proofs.Listing.{read}
 use Rattle.fbl_runs.proofs.LinkLaws.{changed_more, changed_same, events_take_more, events_take_none, nothing_changed, past_none}
 use Rattle.fbl_runs.proofs.links.Links.keep.Goals as goal
 use Rattle.fbl_runs.proofs.links.Links.keep.Goals.{in-Some+in-Some-get_mut, in-Some+in_default-get_mut, in_default}
@@ -27,9 +28,6 @@ module _ (places : List ℕ) (events : List StandingEvent) (i : ℕ) (ev : Stand
   unchanged : slice_get places ev.number ≡ None → AreChanged (IsPlaceOfEvent places (take (i + 1) events)) kept old new
   unchanged none = changed_same (IsPlaceOfEvent places (take i events)) (IsPlaceOfEvent places (take (i + 1) events)) kept old new (λ p. events_take_none places events i p ev next none) changed
 
-read : {X : Type 0} (xs ys : List X) (i : ℕ) (x : X) → xs ≡ ys → i < length xs → x ≡ get_or xs i x → slice_get ys i ≡ Some x
-read {X} xs ys i x same within is = subst (λ (s : List X). slice_get s i ≡ Some x) same (slice_get_read xs (length xs) i x refl within is)
-
 pub loop-event-preserved : goal.loop-event-preserved
 loop-event-preserved c =
     let places = c.args.log.now.places.items in
@@ -38,18 +36,18 @@ loop-event-preserved c =
     let ev = c.event-item.result in
     let new = c.loop-event.self.links.items in
     let old = c.args.self.now.links.items in
-    let next : slice_get events i ≡ Some ev = read c.deref-event-items.result.now events i ev c.deref-event-items.ensures.value c.loop-event-test.true c.event-item.is in
+    let next : slice_get events i ≡ Some ev = read events c.deref-event-items.result.now i ev c.deref-event-items.ensures.value c.loop-event-test.true c.event-item.is in
     elim c.match-get.branch [
       | in-Some+in-Some-get_mut w ↦ (
           let q = w.in-Some.place.now in
           let now = w.in-Some-get_mut.link.now in
-          let at_q : slice_get places ev.number ≡ Some q = read c.deref.result.now places ev.number q c.deref.ensures.value w.in-Some.ensures.lookup.3.0 w.in-Some.ensures.lookup.1 in
+          let at_q : slice_get places ev.number ≡ Some q = read places c.deref.result.now ev.number q c.deref.ensures.value w.in-Some.ensures.lookup.3.0 w.in-Some.ensures.lookup.1 in
           let here : slice_get new q ≡ Some now = slice_get_read new (length new) q now refl w.in-Some-get_mut.ensures.item.3.0 w.in-Some-get_mut.ensures.item.1 in
           let done = changed_some places events i ev next old new c.loop-event.invariant q now at_q here in
           subst (λ (links : List Link). AreChanged (IsPlaceOfEvent places (take (i + 1) events)) kept old links) (sym (ap (λ l. l.links.items) w.self-is)) done)
       | in-Some+in_default-get_mut w ↦ (
           let q = w.in-Some.place.now in
-          let at_q : slice_get places ev.number ≡ Some q = read c.deref.result.now places ev.number q c.deref.ensures.value w.in-Some.ensures.lookup.3.0 w.in-Some.ensures.lookup.1 in
+          let at_q : slice_get places ev.number ≡ Some q = read places c.deref.result.now ev.number q c.deref.ensures.value w.in-Some.ensures.lookup.3.0 w.in-Some.ensures.lookup.1 in
           let none : slice_get new q ≡ None = past_none new q (ltb-false q (length new) (sym w.in_default-get_mut.ensures.item.0)) in
           let done = changed_none places events i ev next old new c.loop-event.invariant q at_q none in
           subst (λ (links : List Link). AreChanged (IsPlaceOfEvent places (take (i + 1) events)) kept old links) (sym (ap (λ l. l.links.items) w.self-is)) done)

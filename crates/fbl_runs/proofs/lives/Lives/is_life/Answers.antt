@@ -1,15 +1,13 @@
-use Rattle.fbl_runs.proofs.Common.{ℕ, ◌≡◌, ◌<◌, ◌≤◌, ◌∙◌, arith, ap, eqb-true, eqb-self, false≢true, length, List, refl, slice_get, slice_get_read, slice_get_within, Some, subst, sym, true}
-use Rattle.std.proofs.Common.{eqb, get_or, nat_eq}
+use Rattle.fbl_runs.proofs.Common.{◌≡◌, ◌≤◌, ◌∙◌, arith, ap, eqb-true, eqb-self, false≢true, length, slice_get, slice_get_within, Some, sym}
+use Rattle.std.proofs.Common.{eqb, nat_eq}
 use Rattle.std.proofs.lemmas.Bool.{ltb-false}
 use Rattle.fbl_runs.specs.declared.lives.Life.{Life}
+use Rattle.fbl_runs.proofs.Listing.{read}
 use Rattle.fbl_runs.proofs.lives.Lives.is_life.Goals as goal
 use Rattle.fbl_runs.proofs.lives.Lives.is_life.Goals.{In-Some}
 
 at_item : (c : In-Some) → slice_get c.args.self.now.lives.items c.args.number ≡ Some c.in-Some.other.now
-at_item c = (
-    let found = c.in-Some.ensures.lookup in
-    let there = slice_get_read c.deref.result.now (length c.deref.result.now) c.args.number c.in-Some.other.now refl found.3.0 found.1 in
-    subst (λ (s : List Life). slice_get s c.args.number ≡ Some c.in-Some.other.now) c.deref.ensures.value there)
+at_item c = (let found = c.in-Some.ensures.lookup in read c.args.self.now.lives.items c.deref.result.now c.args.number c.in-Some.other.now c.deref.ensures.value found.3.0 found.1)
 
 is_item : (c : In-Some) (l : Life) → slice_get c.args.self.now.lives.items c.args.number ≡ Some l → l ≡ c.in-Some.other.now
 is_item c l here = (let some : Some l ≡ Some c.in-Some.other.now = sym here ∙ at_item c in cc)
