@@ -1,6 +1,6 @@
 -- The events of a trace. A determinant names a receipt, by the message's source and send sequence number and by the
 -- destination and its receive sequence number (Alvisi and Marzullo 1998).
-use Rattle.std.specs.Prelude.{ℕ, ◌+◌, ◌*◌, ◌^◌, Bool, false, ◌==◌, ◌&&◌, Option, Some, None, List, slice_get, ◌≡◌}
+use Rattle.std.specs.Prelude.{ℕ, ◌+◌, ◌*◌, ◌^◌, ◌%◌, Bool, false, ◌==◌, ◌&&◌, Option, Some, None, List, slice_get, ◌≡◌}
 use Rattle.std.specs.List.{filter_map}
 use Rattle.fbl_trace.specs.declared.trace.Event.{Event}
 use Rattle.fbl_trace.specs.declared.trace.Event.TheVariants as event
@@ -51,12 +51,9 @@ receipt_of d = Receipt d.to d.rsn d.from d.ssn
 abbrev pub same_determinant : Determinant → Determinant → Bool
 same_determinant a b = (a.from == b.from) && ((a.to == b.to) && ((a.ssn == b.ssn) && (a.rsn == b.rsn)))
 
--- the numbers of a determinant as one number, and its members as one: what its hash is made of
-abbrev pub both_numbers : Determinant → ℕ
-both_numbers d = d.ssn + 2 ^ 32 * d.rsn
-
-abbrev pub both_members : Determinant → ℕ
-both_members d = d.from + 2 ^ 8 * d.to
+-- a determinant as one number of 64 bits: what its hash is made of
+abbrev pub hashed : Determinant → ℕ
+hashed d = (d.ssn + 2 ^ 32 * d.rsn + 2 ^ 48 * (d.from + 2 ^ 8 * d.to)) % 2 ^ 64
 
 -- whether two messages are the same
 abbrev pub same_message : MessageName → MessageName → Bool

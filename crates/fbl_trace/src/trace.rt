@@ -67,21 +67,22 @@ pub struct Determinant {
     pub rsn: u32,
 }
 
-/// The four fields go into two writes, the numbers and the members. A derived `Hash` makes four, and each is a step of a hasher.
+/// The four fields go into one write, since each write is a step of a hasher, and a derived `Hash` makes four. The members go into bits that
+/// the receipt's number leaves free in a trace: no two determinants of traces are written alike.
 impl Hash for Determinant {
     ghost use Rattle.std.specs.Hash as fed;
     ghost use Rattle.std.specs.Cmp.Rules.{hashing};
     ghost use Rattle.std.proofs.Common.{rules};
-    ghost use Rattle.std.specs.Prelude.{◌++◌};
-    ghost use Rattle.fbl_trace.specs.Events.{both_members, both_numbers};
+    ghost use Rattle.fbl_trace.specs.Events.{hashed};
 
-    ghost hash_input = { λ d. fed.u64 (both_numbers d) ++ fed.u16 (both_members d) };
+    ghost hash_input = { λ d. fed.u64 (hashed d) };
 
     ghost respects_eq = { Prim.search (hashing, rules) };
 
     fn hash<H: Hasher>(&self, state: &mut H) {
-        state.write_u64(u64::from(self.ssn) + (u64::from(self.rsn) << 32));
-        state.write_u16(u16::from(self.from.number()) + (u16::from(self.to.number()) << 8));
+        let numbers = u64::from(self.ssn) + (u64::from(self.rsn) << 32);
+        let members = u64::from(self.from.number()) + (u64::from(self.to.number()) << 8);
+        state.write_u64(numbers.wrapping_add(members << 48));
     }
 }
 
