@@ -102,7 +102,7 @@ fn carried_by(reserved: Vec<Entry>, table: &Table, f: u8, messages: usize) -> Ca
     requires { HasRoom (length (piggybacked f table.now)) reserved }
     ensures { result ≡ piggybacked f table.now }
 {
-    let entries = passed_on(reserved, table, f);
+    let entries = passed_on(reserved, table, f, messages);
     if messages > 1 {
         Carried::for_several(entries)
     } else {
@@ -111,13 +111,16 @@ fn carried_by(reserved: Vec<Entry>, table: &Table, f: u8, messages: usize) -> Ca
 }
 
 /// What the table passes on, in the list for which room was taken. How many of the carried entries are new shows only once the
-/// table has taken them in. The room is mostly much more than is needed: the rest is given back.
-fn passed_on(reserved: Vec<Entry>, table: &Table, f: u8) -> Vec<Entry>
+/// table has taken them in, so there is room for more than is needed. A step with several messages gives the rest back, as many of
+/// them may be in flight; one with a single message does where more than three quarters are left.
+fn passed_on(reserved: Vec<Entry>, table: &Table, f: u8, messages: usize) -> Vec<Entry>
     requires { HasRoom (length (piggybacked f table.now)) reserved }
     ensures { result.items ≡ piggybacked f table.now }
 {
     let mut entries = reserved;
     table.piggyback_into(f, &mut entries);
-    entries.shrink_to_fit();
+    if messages > 1 || entries.len() < entries.capacity() / 4 {
+        entries.shrink_to_fit();
+    }
     entries
 }
