@@ -5,6 +5,8 @@ pub use Rattle.fbl_group.proofs.Common.{AreReplaced, AreSentAgain, IsReady, w32,
 pub use Rattle.fbl_group.proofs.Common.{replaying-room, replayed_in-short, deque_items, length-map, sent_again, length-set, contains}
 use Rattle.std.specs.FinSet as set
 use mir.Val.{bool_byte}
+use Rattle.std.specs.Prelude.{◌∷◌}
+use Rattle.std.proofs.lemmas.List.Sums.{length-filter, count_by-le-length}
 pub use Rattle.fbl_group.proofs.Queues.{Turned, made-mapped}
 use Rattle.fbl_group.proofs.Reading.{received-twice}
 
@@ -12,6 +14,11 @@ module _ {S N : Type 0} where
   -- a record that is read at a place of the list, whatever stands past its end
   pub read_at : (outside : S) (ms : List (MemberRecord S N)) {place i : ℕ} {m : MemberRecord S N} → place ≡ i → i < length ms → m ≡ get_or ms place m → m ≡ slice_index_or ms i (blank outside)
   read_at outside ms {i = i} {m = m} is below read = grind (arith, get_or_default)
+
+-- what is left of a list is all of it where it is as long
+nothing_dropped : {X : Type 0} (p : X → Bool) (xs : List X) → length (filter p xs) ≡ length xs → filter p xs ≡ xs
+nothing_dropped p [] same = refl
+nothing_dropped p (x ∷ xs) same = grind (arith, length-filter p xs, count_by-le-length p xs, nothing_dropped p xs)
 
 pub one-at-most : (b : Bool) → bool_byte b ≤ 1
 one-at-most true = omega arith
@@ -152,6 +159,14 @@ module _ {S N : Type 0} {next : Next S N} {old now : GroupRecord S N} {rebuilt :
 
     cut-left : rest ≡ left
     cut-left = (rw same-down at is_cut)
+
+    -- where no event is dropped it has as many receipts as before
+    pub all-left : {before events : ℕ} {last : List (Event N)} → before ≡ length (receipts (marks now)) → events ≡ length old.trace → last ≡ rest → length last ≡ events
+        → length (receipts (map mark_of last)) ≡ before
+    all-left {last = last} counted all is_last same =
+        let kept : last ≡ filter (λ e. stays_by s (λ p. slice_index_or rebuilt p (blank old.outside)) (mark_of e)) old.trace = is_last ∙ is_cut in
+        let whole = nothing_dropped (λ e. stays_by s (λ p. slice_index_or rebuilt p (blank old.outside)) (mark_of e)) old.trace (sym (ap length kept) ∙ same ∙ all) in
+        ap (λ (l : List (Event N)). length (receipts (map mark_of l))) (kept ∙ whole) ∙ sym (rw view counted)
 
     -- its receipts, counted before and after
     module _ {before after : ℕ} {last : List (Event N)} (counts_first : before ≡ length (receipts (marks now)))

@@ -70,8 +70,9 @@ impl<B: Behaviour> Group<B> {
         let replayed = rebuilt.replayed;
         let resent = again.messages(n) as u32;
         let before = self.receipt_count();
+        let events = self.trace.len();
         rebuilt.cut(&mut self.trace);
-        let undone = before - count_receipts(self.trace.as_slice());
+        let undone = before - receipts_left(self.trace.as_slice(), events, before);
         rebuilt.put_back(&mut self.members, n);
         self.channels.replace(&mut again, self.down, n);
         self.down = MemberSet::empty();
@@ -84,9 +85,15 @@ impl<B: Behaviour> Group<B> {
     }
 }
 
-fn count_receipts<N: Copy>(trace: &[Event<N>]) -> u64
+/// How many receipts are left in a trace that had `events` events, `before` of them receipts. Where none was dropped, they are not
+/// counted again.
+fn receipts_left<N: Copy>(trace: &[Event<N>], events: usize, before: u64) -> u64
+    requires { length trace.now ≡ events → length (receipts (map mark_of trace.now)) ≡ before }
     ensures { result ≡ length (receipts (map mark_of trace.now)) }
 {
+    if trace.len() == events {
+        return before;
+    }
     let marks = trace.iter().map(|event| event.mark());
     marks.filter_map(|mark| mark.determinant()).count() as u64
 }

@@ -1,4 +1,4 @@
-use Rattle.fbl_group.proofs.Recovering.{arith, rows, ap, subst, ◌∙◌, GroupRecord, IsSound, group_recovery_keeps, size, short-again, fewer, undone-few, undone-fits, recovers}
+use Rattle.fbl_group.proofs.Recovering.{◌≡◌, length, arith, rows, ap, subst, sym, ◌∙◌, GroupRecord, IsSound, group_recovery_keeps, size, short-again, all-left, fewer, undone-few, undone-fits, recovers}
 use Rattle.fbl_group.proofs.group.Group.put_in_place.Goals as goal
 
 pub messages-resent-requires : goal.messages-resent-requires
@@ -11,8 +11,13 @@ messages-resent-requires g c = record {
 pub overflow_cast-resent : goal.overflow_cast-resent
 overflow_cast-resent g c = omega (arith, c.messages-resent.ensures.few)
 
+pub receipts_left-requires : goal.receipts_left-requires
+receipts_left-requires g c same =
+    let all : c.len-events.result ≡ length c.self.inside.trace.items = omega (arith, c.len-events.ensures, c.self.inside.trace.ok.0) in
+    all-left c.self.invariant c.self.view_is c.requires.ready c.requires.down c.cut.ensures c.receipt_count-before.ensures all c.as_slice-2.ensures.value same
+
 pub overflow_sub-undone : goal.overflow_sub-undone
-overflow_sub-undone g c = fewer c.self.invariant c.self.view_is c.requires.ready c.requires.down c.cut.ensures c.receipt_count-before.ensures c.count_receipts.ensures c.as_slice-2.ensures.value
+overflow_sub-undone g c = fewer c.self.invariant c.self.view_is c.requires.ready c.requires.down c.cut.ensures c.receipt_count-before.ensures c.receipts_left.ensures c.as_slice-2.ensures.value
 
 pub put_back-requires : goal.put_back-requires
 put_back-requires g c = record {
@@ -29,15 +34,15 @@ replace-requires g c = record {
 }
 
 pub overflow_add-self : goal.overflow_add-self
-overflow_add-self g c = undone-fits c.self.invariant c.self.view_is c.requires.ready c.requires.down c.cut.ensures c.receipt_count-before.ensures c.count_receipts.ensures c.as_slice-2.ensures.value c.self.ranges.1.1.1.1.1.1.0.1
+overflow_add-self g c = undone-fits c.self.invariant c.self.view_is c.requires.ready c.requires.down c.cut.ensures c.receipt_count-before.ensures c.receipts_left.ensures c.as_slice-2.ensures.value c.self.ranges.1.1.1.1.1.1.0.1
 
 pub overflow_cast-result : goal.overflow_cast-result
-overflow_cast-result g c = undone-few c.self.invariant c.self.view_is c.requires.ready c.requires.down c.cut.ensures c.receipt_count-before.ensures c.count_receipts.ensures c.as_slice-2.ensures.value
+overflow_cast-result g c = undone-few c.self.invariant c.self.view_is c.requires.ready c.requires.down c.cut.ensures c.receipt_count-before.ensures c.receipts_left.ensures c.as_slice-2.ensures.value
 
 pub returns-clause-recovered : goal.returns-clause-recovered
 returns-clause-recovered g c =
     recovers c.self.invariant c.self.view_is c.requires.ready c.requires.down c.cut.ensures
-    c.receipt_count-before.ensures c.count_receipts.ensures c.as_slice-2.ensures.value (rows c.in_ok-again.again) c.members-n.ensures.value
+    c.receipt_count-before.ensures c.receipts_left.ensures c.as_slice-2.ensures.value (rows c.in_ok-again.again) c.members-n.ensures.value
     (rw c.as_slice.ensures.value at c.in_ok-again.ensures.each) c.put_back.ensures c.replace.ensures c.empty-self-inside.ensures
     c.messages-resent.ensures.messages
 
