@@ -4,4 +4,3 @@ pub mod Forms
 pub mod Faults
 pub mod Explanations
 pub mod Lines
-pub mod Sources

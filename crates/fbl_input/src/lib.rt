@@ -1,5 +1,5 @@
 //! Reading an input whole, JSON values by their shapes, why a script or a recorded run is not taken to its end, writing a text out, and
-//! how sets of members and places in files are printed.
+//! how sets of members are printed.
 #![tactic(auto)]
 
 mod command_form;
@@ -15,7 +15,6 @@ mod not_json;
 mod output;
 mod printed_set;
 pub mod shapes;
-mod sources;
 
 pub use command_form::{CommandForm, MOST_COMMANDS, Version, VersionShape, form_named};
 pub use explanation::Explanation;
@@ -26,4 +25,3 @@ pub use input_kind::InputKind;
 pub use key::Key;
 pub use output::{OutputFault, put};
 pub use printed_set::{push_set, set_text};
-pub use sources::{InFile, Sources, Spot, spot_text};

@@ -1,8 +1,8 @@
 -- Where entries stand in the list and in their members' logs.
-use Rattle.fbl_judge.proofs.Common.{ℕ, ◌≡◌, ◌<◌, ◌⊎◌, ◌∙◌, inl, inr, List, length, Some, slice_get, refl, sym, ap, subst, arith, cases_order, slice_get_read, slice_get_within}
-use Rattle.std.proofs.Common.{get_or}
+use Rattle.fbl_judge.proofs.Common.{ℕ, ◌≡◌, ◌<◌, ◌⊎◌, ◌∙◌, inl, inr, List, length, Some, slice_get, refl, sym, ap, arith, cases_order, slice_get_within}
 use Rattle.fbl_judge.proofs.Common.{Causality, Entry, entry_member, log_of, IsAt, Position, Precedes, StandsAt, at, itself, step, seen}
 use Rattle.fbl_runs.specs.Rules.{AreLawful}
+pub use Rattle.fbl_runs.proofs.Listing.{read_at}
 use Rattle.fbl_runs.proofs.Listing.{locate_all, seen-later, some_entry, stands_at}
 use Rattle.fbl_runs.proofs.LeadsLaws.{leads_before}
 use Rattle.fbl_runs.proofs.ClockLaws.{leads_there}
@@ -48,12 +48,6 @@ placed_at entries p i e stands here =
 -- its member's log has it
 pub number_within : (entries : List Entry) (p : ℕ) (i : Position) → StandsAt entries p i → i.number < length (log_of entries i.member)
 number_within entries p i stands = slice_get_within (log_of entries i.member) i.number stands.0 (stands_at entries p i stands.0 stands stands.1)
-
--- what is read at a place is what stands there
-pub read_at : (entries list : List Entry) (p : ℕ) (e : Entry) → list ≡ entries → p < length entries → e ≡ get_or list p e → slice_get entries p ≡ Some e
-read_at entries list p e same within is =
-    let count = ap (λ (es : List Entry). length es) same in
-    subst (λ (es : List Entry). slice_get es p ≡ Some e) same (slice_get_read list (length list) p e refl (omega (arith, within, count)) is)
 
 -- it is of its member
 pub member_is : (entries : List Entry) (p : ℕ) (e : Entry) (i : Position) → slice_get entries p ≡ Some e → StandsAt entries p i → entry_member e ≡ i.member

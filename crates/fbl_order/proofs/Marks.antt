@@ -5,12 +5,13 @@ use Rattle.fbl_trace.proofs.Common.{cons_option}
 use Rattle.fbl_trace.proofs.Gets.{map-At}
 use Rattle.fbl_runs.specs.declared.entry.Restart as restart
 use Rattle.fbl_runs.specs.Rules.{is_restart, restarts}
+use Rattle.fbl_runs.proofs.RestartCounts.{restart_counted}
 use Rattle.fbl_order.proofs.Common.{Option, is_some, restart_in}
 use Rattle.fbl_order.proofs.Common.{Bool, count_by, append_cancel_left, SameEntryLogs, sum_by, sum_by-cons}
 use Rattle.fbl_order.proofs.Own.{beyond, first_of, same_own-permutation}
 use Rattle.std.proofs.Common.{option_map}
 use Rattle.std.proofs.lemmas.List.Sorted.{sum_by-IsPermutation}
-use Rattle.std.proofs.lemmas.List.Sums.{sum_by-append, sum_by_push}
+use Rattle.std.proofs.lemmas.List.Sums.{sum_by-append}
 use Rattle.std.proofs.lemmas.Option.{slice_get-map}
 
 -- those of a member's log are the member's own
@@ -108,7 +109,7 @@ marks-count (e ∷ es) = by_mark (mark_in e) refl (marks-count es) where
 
 -- and of restarts with one entry more
 pub restarts-more : (es : List Entry) (k : ℕ) (e : Entry) → slice_get es k ≡ Some e → restarts (take (k + 1) es) ≡ restarts (take k es) + weight (is_restart e)
-restarts-more es k e at = ap restarts (ap (λ (x : ℕ). take x es) (add-one k) ∙ take-more es k e at) ∙ sum_by_push (λ x. cond (is_restart x) 1 0) (take k es) e
+restarts-more es k e at = ap restarts (ap (λ (x : ℕ). take x es) (add-one k) ∙ take-more es k e at) ∙ restart_counted (take k es) e
 
 pub is_restart-is : (e : Entry) → is_restart e ≡ is_some (restart_in e)
 is_restart-is (Restart r) = refl

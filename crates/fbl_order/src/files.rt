@@ -129,7 +129,7 @@ fn common_group<P: Grouped>(files: &[P]) -> Result<RunGroup, FilesDiffer>
 
 /// The dumps as one: their events one file's behind another's, who held what in any of them, and who is struck in any of them.
 /// They have the same members, and the same number of them might be lost at once.
-pub fn union_of_dumps(alloc: Global, files: &[RawDump]) -> Result<RawDump, FilesDiffer>
+pub(crate) fn union_of_dumps(alloc: Global, files: &[RawDump]) -> Result<RawDump, FilesDiffer>
     requires { 0 < length files.now }
     ensures union { IfOk result (λ whole. IsUnionOfDumps files.now (parts_of whole)) }
     ensures refused { IfErr result (RefusesFiles dump_group files.now) }
@@ -163,7 +163,7 @@ fn entries_of(alloc: Global, files: &[RawLog]) -> Result<Vec<Entry>, AllocError>
 
 /// The logs as one: their entries one file's behind another's, but for a member's pieces, which follow by their lives; and who is struck in
 /// any of them. They have the same members, and the same number of them might be lost at once.
-pub fn union_of_logs(alloc: Global, files: &[RawLog]) -> Result<Ordered<RawLog>, FilesDiffer>
+pub(crate) fn union_of_logs(alloc: Global, files: &[RawLog]) -> Result<Ordered<RawLog>, FilesDiffer>
     requires { 0 < length files.now }
     ensures union { IfOk result (λ o. IsUnionOfLogs files.now (parts_of_log o.run) o.places.items) }
     ensures count { IfOk result (λ o. length o.places.items ≡ length o.run.entries.items) }
@@ -184,7 +184,7 @@ pub fn union_of_logs(alloc: Global, files: &[RawLog]) -> Result<Ordered<RawLog>,
 }
 
 /// Of the files' strike sets, the number of the first file with a member outside a group of so many, and the least such member in it.
-pub fn first_outsider(strikes: &[MemberSet], members: u8) -> Option<(usize, Outsider)>
+pub(crate) fn first_outsider(strikes: &[MemberSet], members: u8) -> Option<(usize, Outsider)>
     ensures { MatchOption result ((i : ℕ) → IsWithinAt strikes.now members i) (IsFirstOutside strikes.now members) }
 {
     for file in 0..strikes.len() {

@@ -58,7 +58,7 @@ fn refusal_as_given(refusal: DumpRefusal, breach: LogBreach, places: &[usize]) -
 ///
 /// Where several faults hold, that of the group's numbers is answered before that the entries have no order, and this before those that
 /// `checked_log` finds in an order of them: of the strike set, and of a hold or a store. The time taken is that of the entries by the members.
-pub fn order_log(alloc: Global, raw: RawLog) -> Result<Ordered<Run>, OrderFault>
+pub(crate) fn order_log(alloc: Global, raw: RawLog) -> Result<Ordered<Run>, OrderFault>
     ensures rules { IfOk result (λ o. IsLog o.run) }
     ensures parts { IfOk result (λ o. o.run ≡ with_entries o.run.entries (parts_of_log raw)) }
     ensures order { IfOk result (λ o. IsOrderOfEntries raw.members raw.entries.items o.run.entries) }
@@ -112,7 +112,7 @@ fn fault_given(fault: OrderFault, places: &[usize]) -> OrderFault
 }
 
 /// What `order_log` makes of the log, whose entries were put in another order before: places are those at which they were given then.
-pub fn order_union(alloc: Global, whole: Ordered<RawLog>) -> Result<Ordered<Run>, OrderFault>
+pub(crate) fn order_union(alloc: Global, whole: Ordered<RawLog>) -> Result<Ordered<Run>, OrderFault>
     requires { length whole.places.items ≡ length whole.run.entries.items }
     ensures ordered { IfOk result (λ o. IsOrderGiven (parts_of_log whole.run) whole.places.items o.run o.places.items) }
     ensures refused { IfErr result (RefusesGiven (parts_of_log whole.run) whole.places.items) }

@@ -1,6 +1,6 @@
 -- The pictures of what an audit and a check find.
 use Rattle.fbl_pictures.proofs.Common.{ℕ, List, Option, Some, ◌≡◌, length, subst, Glyph, IsPictureText, Shape}
-use Rattle.fbl_input.specs.declared.sources.Sources.{Sources}
+use Rattle.fbl_runs.specs.declared.sources.Sources.{Sources}
 use Rattle.fbl_judge.specs.Audits.{IsAudit}
 use Rattle.fbl_judge.specs.declared.audit.Audit.{Audit}
 use Rattle.fbl_judge.specs.declared.check.UnsafeReceipt.{UnsafeReceipt}

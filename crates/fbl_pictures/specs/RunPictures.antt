@@ -1,7 +1,7 @@
 -- The picture of a recorded run: what an audit finds of it, or what a check says first, of an unsafe receipt or of one that a restart undid.
 use Rattle.std.specs.Prelude.{ℕ, ◌≡◌, ◌<◌, ◌≤◌, ◌⊎◌, ◌-◌, nat_lt, List, [], ◌∷◌, ◌++◌, Option, Some, None, length, codes, decimal, if◌then◌else◌}
-use Rattle.fbl_input.specs.Sources.{IsSpotText}
-use Rattle.fbl_input.specs.declared.sources.Sources.{Sources}
+use Rattle.fbl_runs.specs.Sources.{IsSpotText}
+use Rattle.fbl_runs.specs.declared.sources.Sources.{Sources}
 use Rattle.fbl_judge.specs.Audits.{IsAudit, end_of}
 use Rattle.fbl_judge.specs.Undone.{IsSaidUndone, LeavesOrphans}
 use Rattle.fbl_judge.specs.Unsafe.{IsFirstUnsafe, IsReceiptPlace, IsUnsafe}

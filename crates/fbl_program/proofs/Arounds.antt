@@ -1,5 +1,5 @@
 -- The entry around which a run is drawn.
-use Rattle.fbl_input.specs.declared.sources.Sources.{Sources}
+use Rattle.fbl_runs.specs.declared.sources.Sources.{Sources}
 use Rattle.std.specs.Prelude.{IfSome}
 use Rattle.fbl_program.specs.Arounds.{IsAround}
 use Rattle.fbl_program.proofs.Common.{ℕ, ◌<◌, ◌≡◌, Bor, List, None, Option, Some, subst}

@@ -2,12 +2,12 @@
 use Rattle.std.specs.List.{AllZip}
 use Rattle.std.specs.Prelude.{slice_get, take}
 use Rattle.clap.specs.Words.{Text}
-use Rattle.fbl_records.specs.declared.reader.RawRecording.{RawRecording}
-use Rattle.fbl_records.specs.declared.reader.RawRecording.TheVariants as raws
-use Rattle.fbl_records.specs.declared.merge.MergeFault.TheVariants as faults
-use Rattle.fbl_records.specs.declared.merge.Together.{Together}
-use Rattle.fbl_records.specs.declared.merge.Together.TheVariants.{Dumps, Logs}
-use Rattle.fbl_records.specs.Merges.{AreTogether, RefusesMerge, count_of}
+use Rattle.fbl_runs.specs.declared.recording.RawRecording.{RawRecording}
+use Rattle.fbl_runs.specs.declared.recording.RawRecording.TheVariants as raws
+use Rattle.fbl_order.specs.declared.together.MergeFault.TheVariants as faults
+use Rattle.fbl_order.specs.declared.together.Together.{Together}
+use Rattle.fbl_order.specs.declared.together.Together.TheVariants.{Dumps, Logs}
+use Rattle.fbl_order.specs.Together.{AreTogether, RefusesMerge, count_of}
 use Rattle.fbl_records.specs.Logs.{IsNotRecorded}
 use Rattle.fbl_program.specs.Jobs.{IsUnrecorded, Known, NotTogether, RecordTogether, Records}
 use Rattle.fbl_input.specs.declared.input_fault.InputFault.{InputFault}

@@ -1,9 +1,9 @@
 -- The entry around which a run is drawn, as a command line names it.
 use Rattle.std.specs.Prelude.{◌≡◌, ◌≢◌, ◌<◌, ℕ, List, Option, Some, None, Result, Ok, Err}
 use Rattle.std.specs.Borrow.{Bor}
-use Rattle.fbl_input.specs.Sources.{IsSpotText}
+use Rattle.fbl_runs.specs.Sources.{IsSpotText}
 use Rattle.fbl_input.specs.declared.output.OutputFault.TheVariants.{Memory}
-use Rattle.fbl_input.specs.declared.sources.Sources.{Sources}
+use Rattle.fbl_runs.specs.declared.sources.Sources.{Sources}
 use Rattle.fbl_program.specs.declared.fault.AnswerFault.{AnswerFault}
 use Rattle.fbl_program.specs.declared.fault.AnswerFault.TheVariants.{Output, Refused}
 

@@ -4,11 +4,12 @@ use Rattle.std.specs.List.{AllZip}
 use Rattle.std.specs.Str.{bytes_eq}
 use Rattle.clap.specs.Words.{Text}
 use Rattle.fbl_input.specs.declared.input_fault.InputFault.{InputFault}
-use Rattle.fbl_records.specs.Logs.{IsNotRecorded, recorded_of_input, recorded_parts}
-use Rattle.fbl_records.specs.Merges.{AreTogether, RefusesVersions}
-use Rattle.fbl_records.specs.declared.merge.MergeFault.{MergeFault}
-use Rattle.fbl_records.specs.declared.merge.Together.{Together}
-use Rattle.fbl_records.specs.declared.reader.RawRecording.{RawRecording}
+use Rattle.fbl_records.specs.Logs.{IsNotRecorded, recorded_of_input}
+use Rattle.fbl_runs.specs.Recordings.{recorded_parts}
+use Rattle.fbl_order.specs.Together.{AreTogether, RefusesVersions}
+use Rattle.fbl_order.specs.declared.together.MergeFault.{MergeFault}
+use Rattle.fbl_order.specs.declared.together.Together.{Together}
+use Rattle.fbl_runs.specs.declared.recording.RawRecording.{RawRecording}
 use Rattle.fbl_program.specs.declared.command_line.Misuse.{Misuse}
 use Rattle.fbl_program.specs.declared.job.Job.{Job}
 use Rattle.fbl_program.specs.declared.job.RunTask.{RunTask}

@@ -9,7 +9,7 @@ use Rattle.fbl_input.specs.Faults.{OverInput, PutsOut, run_result}
 use Rattle.fbl_input.specs.declared.fault.RunFault.{RunFault}
 use Rattle.fbl_input.specs.declared.input_fault.InputFault.{InputFault}
 use Rattle.fbl_input.specs.declared.output.OutputFault.{OutputFault}
-use Rattle.fbl_input.specs.declared.sources.Sources.{Sources}
+use Rattle.fbl_runs.specs.declared.sources.Sources.{Sources}
 use Rattle.fbl_judge.specs.Audits.{IsAudit}
 use Rattle.fbl_judge.specs.declared.audit.Audit.{Audit as Found}
 use Rattle.fbl_order.specs.declared.order.Ordered.{Ordered}
@@ -22,15 +22,16 @@ use Rattle.fbl_play.specs.Transcripts.{history, text}
 use Rattle.fbl_records.specs.DumpLines.{dump_line}
 use Rattle.fbl_records.specs.Lines.{audit_lines}
 use Rattle.fbl_records.specs.LogLines.{log_line}
-use Rattle.fbl_records.specs.Logs.{IsCheckedOf, IsNotChecked, IsNotRecorded, recorded_of_input, recorded_parts}
-use Rattle.fbl_records.specs.Merges.{AreTogether, IsMergeOf, RefusesMerge, lengths_of}
+use Rattle.fbl_records.specs.Logs.{IsCheckedOf, IsNotChecked, IsNotRecorded, recorded_of_input}
+use Rattle.fbl_runs.specs.Recordings.{recorded_parts}
+use Rattle.fbl_order.specs.Together.{AreTogether, IsMergeOf, RefusesMerge, lengths_of}
 use Rattle.fbl_records.specs.Texts.{IsChecked, IsCheckText, says_nothing}
 use Rattle.fbl_records.specs.declared.check_text.Checked.{Checked}
-use Rattle.fbl_records.specs.declared.merge.MergeFault.{MergeFault}
-use Rattle.fbl_records.specs.declared.merge.Together.{Together}
-use Rattle.fbl_records.specs.declared.reader.Recording.{Recording}
-use Rattle.fbl_records.specs.declared.reader.Recording.TheVariants as checked
-use Rattle.fbl_records.specs.declared.reader.RawRecording.{RawRecording}
+use Rattle.fbl_order.specs.declared.together.MergeFault.{MergeFault}
+use Rattle.fbl_order.specs.declared.together.Together.{Together}
+use Rattle.fbl_runs.specs.declared.recording.Recording.{Recording}
+use Rattle.fbl_runs.specs.declared.recording.Recording.TheVariants as checked
+use Rattle.fbl_runs.specs.declared.recording.RawRecording.{RawRecording}
 use Rattle.fbl_runs.specs.Logs.{RunParts, run_of_dump}
 use Rattle.fbl_scripts.specs.Scripts.{Outline, IsScriptFault, IsScriptOf, behaviour_word}
 use Rattle.fbl_program.specs.declared.fault.AnswerFault.{AnswerFault}

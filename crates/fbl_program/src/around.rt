@@ -4,7 +4,7 @@ ghost use Rattle.std.specs.Prelude.{IfOk};
 ghost use Rattle.fbl_program.specs.Arounds.{IsAsked, IsPlaceNamed};
 
 use crate::fault::AnswerFault;
-use fbl_input::{Sources, spot_text};
+use fbl_runs::{Sources, spot_text};
 use std::alloc::{AllocError, Global};
 
 /// The place of the first of so many entries that stands where these words say, if one does.

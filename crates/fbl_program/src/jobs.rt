@@ -13,9 +13,9 @@ use crate::status::{INPUT_FAULT, end, fail};
 use crate::streams::{Named, Streams};
 use crate::teller::{refuse_input, refuse_merge};
 use fbl_input::RunFault;
-use fbl_records::{
-    InputFiles, RawRecording, Together, in_one_version, read_checked, read_recorded,
-};
+use fbl_order::{InputFiles, Together, in_one_version};
+use fbl_records::{read_checked, read_recorded};
+use fbl_runs::RawRecording;
 use fbl_scripts::read_script;
 use std::alloc::Global;
 use std::io::{Read, Write};

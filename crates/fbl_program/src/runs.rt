@@ -3,7 +3,7 @@
 ghost use Rattle.std.specs.Prelude.{◌≡◌, ◌<◌, [], IfOk, map, string_bytes};
 ghost use Rattle.fbl_input.specs.Faults.{PutsOut};
 ghost use Rattle.fbl_judge.specs.Audits.{AreNamed};
-ghost use Rattle.fbl_records.specs.Merges.{count_of};
+ghost use Rattle.fbl_order.specs.Together.{count_of};
 ghost use Rattle.fbl_records.specs.Texts.{IsChecked};
 ghost use Rattle.fbl_program.specs.Outcomes.{Answers, EndsMerged, EndsRecorded, EndsWith, IsAnswer, IsAnswerTo, IsPlaceMissing, IsPlaceMissingOf, run_line, run_of};
 
@@ -14,14 +14,12 @@ use crate::status::{INPUT_FAULT, end, fail};
 use crate::streams::Named;
 use crate::teller::refuse_merge;
 use fbl_input::shapes::LONGEST;
-use fbl_input::{OutputFault, RunFault, Sources, put};
+use fbl_input::{OutputFault, RunFault, put};
 use fbl_judge::{LostReceipt, Pasts, audit_of};
+use fbl_order::{InputFiles, Together, merge_of};
 use fbl_pictures::{column_count, write_run_picture};
-use fbl_records::{
-    Checked, InputFiles, RawRecording, Recording, RunExplanation, Together, dump_text, log_text,
-    merge_of, write_audit, write_check,
-};
-use fbl_runs::Run;
+use fbl_records::{Checked, RunExplanation, dump_text, log_text, write_audit, write_check};
+use fbl_runs::{RawRecording, Recording, Run, Sources};
 use std::alloc::{AllocError, Global};
 use std::io::Write;
 

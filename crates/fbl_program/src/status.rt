@@ -7,8 +7,7 @@ ghost use Rattle.fbl_program.specs.Statuses.{fault_status, merge_status, status_
 use crate::streams::Failure;
 use fbl_dumps::DumpRefusal;
 use fbl_input::{OutputFault, RunFault};
-use fbl_order::{FilesDiffer, OrderFault};
-use fbl_records::MergeFault;
+use fbl_order::{FilesDiffer, MergeFault, OrderFault};
 use std::fmt;
 
 /// Everything was done, and all is well.

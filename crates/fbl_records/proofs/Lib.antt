@@ -13,4 +13,3 @@ pub mod OverviewLaws
 pub mod InFlightLaws
 pub mod Sayings
 pub mod Zips
-pub mod Merges

@@ -5,7 +5,7 @@ use Rattle.fbl_runs.specs.Logs.{IsRun, RunParts}
 use Rattle.fbl_records.specs.LogLines.{IsLogRead, log_data}
 use Rattle.fbl_records.specs.DumpLines.{IsReadBack, entry_data}
 use Rattle.fbl_records.specs.Logs.{log_of_data, recorded_of_data}
-use Rattle.fbl_records.specs.declared.reader.Recording.TheVariants.{Log}
+use Rattle.fbl_runs.specs.declared.recording.Recording.TheVariants.{Log}
 use Rattle.fbl_records.proofs.Values.{number_read, number_spelled, set_read}
 
 pub log_read : (log : RunParts) → IsRun log → IsReadBack (λ es. list_data (map entry_data es)) (list_of entry_shape) 2 log.entries → IsReadBack (λ ms. list_data (map number_data ms)) (list_of member_shape) 1 (member_list log.strike) → IsLogRead log

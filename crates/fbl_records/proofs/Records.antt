@@ -27,8 +27,8 @@ use Rattle.fbl_records.specs.Dumps.{IsNoDump, BreaksParts, RefusesParts}
 use Rattle.fbl_records.specs.Logs.{HasKind, IsNotChecked, IsNotRecorded, IsRefusal, BreaksRecorded, RefusesNone, RefusesRecorded, kind_of, log_of_data, recorded_as, recorded_kind, recorded_of_data, recorded_of_input, value_meant}
 use Rattle.fbl_records.specs.EventLines.{is_whole, json_text, lines_text, log_version}
 use Rattle.fbl_records.proofs.EventLines.{meant_as_it_is, own_text}
-use Rattle.fbl_records.specs.declared.reader.Recording.{Recording}
-use Rattle.fbl_records.specs.declared.reader.Recording.TheVariants as parts
+use Rattle.fbl_runs.specs.declared.recording.Recording.{Recording}
+use Rattle.fbl_runs.specs.declared.recording.Recording.TheVariants as parts
 
 -- ---- the kind
 

@@ -6,7 +6,6 @@ pub mod EventLines
 pub mod Logs
 pub mod LogLines
 pub mod Texts
-pub mod Merges
 pub mod Forgotten
 pub mod UndoneReasons
 pub mod Overviews

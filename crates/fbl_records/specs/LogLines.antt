@@ -7,7 +7,7 @@ use Rattle.fbl_input.specs.declared.key.Key.TheVariants as keys
 use Rattle.fbl_input.specs.Shapes.{longest, name_of}
 use Rattle.fbl_runs.specs.Logs.{RunParts}
 use Rattle.fbl_runs.specs.declared.judged.Judged.TheVariants.{AtEachMoment}
-use Rattle.fbl_records.specs.declared.reader.Recording.TheVariants.{Log}
+use Rattle.fbl_runs.specs.declared.recording.Recording.TheVariants.{Log}
 use Rattle.fbl_records.specs.DumpLines.{IsSpelled, entry_data, list_data, number_data}
 use Rattle.fbl_records.specs.Logs.{log_of_data, recorded_of_input}
 

@@ -3,7 +3,6 @@ use Rattle.std.specs.Prelude.{◌≡◌, ℕ, ◌⊎◌, List, true, Option, Som
 use Rattle.serde_json.specs.Data.{Data}
 use Rattle.serde_json.specs.Find.{as_object, get}
 use Rattle.fbl_dumps.specs.declared.refusal.DumpRefusal.TheVariants as dump
-use Rattle.fbl_dumps.specs.Dumps.{IsDump, parts_of}
 use Rattle.fbl_input.specs.declared.key.Key.TheVariants as keys
 use Rattle.fbl_input.specs.declared.fault.RunFault.{RunFault}
 use Rattle.fbl_input.specs.declared.fault.RunFault.TheVariants as faults
@@ -14,12 +13,11 @@ use Rattle.fbl_input.specs.Faults.{IsFaultOf}
 use Rattle.fbl_runs.specs.declared.fault.LogBreach.{LogBreach}
 use Rattle.fbl_input.specs.Items.{entry_shape, unknown_key}
 use Rattle.fbl_input.specs.Shapes.{◌>>=◌, or_fault, byte_shape, field, json_of, list_of, longest, name_of, set_shape, value_of_input}
-use Rattle.fbl_runs.specs.Logs.{IsLog, IsLogBreach, RunParts, RefusesLog, parts_of_log}
+use Rattle.fbl_runs.specs.Logs.{IsLogBreach, RunParts, RefusesLog}
 use Rattle.fbl_runs.specs.declared.judged.Judged.TheVariants.{AtEachMoment}
-use Rattle.fbl_records.specs.declared.reader.Recording.{Recording}
-use Rattle.fbl_records.specs.declared.reader.Recording.TheVariants as parts
-use Rattle.fbl_records.specs.declared.reader.RawRecording.{RawRecording}
-use Rattle.fbl_records.specs.declared.reader.RawRecording.TheVariants as raws
+use Rattle.fbl_runs.specs.declared.recording.Recording.{Recording}
+use Rattle.fbl_runs.specs.declared.recording.Recording.TheVariants as parts
+use Rattle.fbl_runs.specs.Recordings.{ObeysRules, recorded_parts}
 use Rattle.fbl_records.specs.declared.reader.RecordedInput.{RecordedInput}
 use Rattle.fbl_records.specs.EventLines.{is_whole, json_text, lines_text, log_version}
 use Rattle.fbl_records.specs.Dumps.{BreaksParts, RefusesParts, parts_of_data}
@@ -63,19 +61,9 @@ OtherInputsLaw = (input : List ℕ) → (is_whole (json_of input) ≡ true) ⊎ 
 
 -- ---- what a reader says of it
 
--- the parts, whether or not they obey the rules
-abbrev pub recorded_parts : RawRecording → Recording
-recorded_parts (raws.Dump raw) = parts.Dump (parts_of raw)
-recorded_parts (raws.Log raw) = parts.Log (parts_of_log raw)
-
 -- the input gives these parts, and means the text with these bytes
 abbrev pub IsRecordedOf : List ℕ → RecordedInput → Type 0
 IsRecordedOf input found = (recorded_of_input input ≡ Ok (recorded_parts found.recorded)) × (found.bytes.items ≡ json_text input)
-
--- the parts obey the rules of their kind
-abbrev pub ObeysRules : Recording → Type 0
-ObeysRules (parts.Dump dump) = IsDump dump
-ObeysRules (parts.Log log) = IsLog log
 
 -- the input records this of a run, which obeys the rules
 abbrev pub IsCheckedOf : List ℕ → Recording → Type 0

@@ -1,7 +1,7 @@
 -- What is told beside an audit or a check: why receipts are lost, unsafe or undone.
 use Rattle.std.specs.Prelude.{◌≡◌, [], List, None}
 use Rattle.std.specs.List.{AllZip}
-use Rattle.fbl_input.specs.declared.sources.Sources.{Sources}
+use Rattle.fbl_runs.specs.declared.sources.Sources.{Sources}
 use Rattle.fbl_judge.specs.Reasons.{AreLossReasons, AreUnsafeReasons}
 use Rattle.fbl_judge.specs.declared.audit.LostReceipt.{LostReceipt}
 use Rattle.fbl_judge.specs.declared.reason.Reason.{Reason}

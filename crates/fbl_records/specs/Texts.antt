@@ -16,9 +16,9 @@ use Rattle.fbl_runs.specs.Logs.{RunParts, run_of}
 use Rattle.fbl_runs.specs.Runs.{IsSafe}
 use Rattle.fbl_input.specs.Faults.{OverInput, PutsOut}
 use Rattle.fbl_input.specs.Lines.{line}
-use Rattle.fbl_input.specs.Sources.{IsSpotText}
+use Rattle.fbl_runs.specs.Sources.{IsSpotText}
 use Rattle.fbl_input.specs.declared.fault.RunFault.{RunFault}
-use Rattle.fbl_input.specs.declared.sources.Sources.{Sources}
+use Rattle.fbl_runs.specs.declared.sources.Sources.{Sources}
 use Rattle.fbl_records.specs.Dumps.{IsDumpFault, IsDumpOf}
 use Rattle.fbl_records.specs.Lines.{audit_lines, said_place, undone_line, unsafe_line}
 use Rattle.fbl_records.specs.declared.check_text.Checked.{Checked}

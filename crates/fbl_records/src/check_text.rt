@@ -6,8 +6,9 @@ ghost use Rattle.fbl_records.specs.Texts.{AddsLine, AddsMoment, AddsSpot, AddsUn
 ghost use Rattle.fbl_records.specs.declared.check_text.Said.TheVariants.{Undone, Unsafe};
 
 use crate::audit_text::push_numbers;
-use fbl_input::{OutputFault, Sources, push_set, put, spot_text};
+use fbl_input::{OutputFault, push_set, put};
 use fbl_judge::{Pasts, UndoneReceipt, UnsafeReceipt, undone_receipts, unsafe_receipts};
+use fbl_runs::{Sources, spot_text};
 use fbl_trace::MemberSet;
 use std::alloc::{AllocError, Global};
 use std::io::Write;

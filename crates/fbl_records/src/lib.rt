@@ -1,5 +1,5 @@
-//! Recorded runs as text: dumps and logs as JSON, read and written, what several files have together, what audits and checks say, and why
-//! receipts are lost, in words for a person.
+//! Recorded runs as text: dumps and logs as JSON, read and written, what audits and checks say, and why receipts are lost, in words for a
+//! person.
 #![tactic(auto)]
 
 mod audit_text;
@@ -10,8 +10,6 @@ mod forgotten;
 pub mod laws;
 mod lines;
 mod log_version;
-mod merge;
-mod merge_words;
 mod overview;
 mod reader;
 mod reason_text;
@@ -22,11 +20,7 @@ pub use audit_text::{audit, write_audit};
 pub use check_text::{Checked, write_check};
 pub use forgotten::Forgotten;
 pub use lines::{dump_text, log_text};
-pub use merge::{MergeFault, Together, in_one_version, merge_of};
-pub use merge_words::{InputFiles, MergeExplanation, MergeLine};
 pub use overview::Overview;
-pub use reader::{
-    RawRecording, RecordedInput, Recording, checked_input, read_checked, read_dump, read_recorded,
-};
+pub use reader::{RecordedInput, checked_input, read_checked, read_dump, read_recorded};
 pub use run_explanation::RunExplanation;
 pub use undone_text::UndoneReason;

@@ -12,9 +12,8 @@ ghost use Rattle.fbl_runs.specs.declared.entry.Entry.TheVariants.{Event};
 ghost use Rattle.fbl_trace.specs.declared.trace.Mark.TheVariants.{Send};
 
 use crate::check_text::Checked;
-use fbl_input::Sources;
 use fbl_judge::Pasts;
-use fbl_runs::{Causality, Entry, Run};
+use fbl_runs::{Causality, Entry, Run, Sources};
 use fbl_trace::Mark;
 use std::alloc::{AllocError, Global};
 use std::fmt;

@@ -6,8 +6,9 @@ ghost use Rattle.fbl_dumps.specs.Dumps.{IsDump, parts_of};
 ghost use Rattle.fbl_input.specs.Shapes.{Gives, longest};
 ghost use Rattle.fbl_runs.specs.Logs.{IsLog, parts_of_log};
 ghost use Rattle.fbl_records.specs.Dumps.{IsDumpOf, IsNoDump, parts_of_data, parts_of_input};
-ghost use Rattle.fbl_records.specs.Logs.{IsCheckedOf, IsNotChecked, IsNotRecorded, IsRecordedOf, IsRefusal, ObeysRules, log_of_data, recorded_kind, recorded_of_data, recorded_parts};
-ghost use Rattle.fbl_records.specs.declared.reader.Recording.TheVariants as parts;
+ghost use Rattle.fbl_records.specs.Logs.{IsCheckedOf, IsNotChecked, IsNotRecorded, IsRecordedOf, IsRefusal, log_of_data, recorded_kind, recorded_of_data};
+ghost use Rattle.fbl_runs.specs.Recordings.{ObeysRules, recorded_parts};
+ghost use Rattle.fbl_runs.specs.declared.recording.Recording.TheVariants as parts;
 
 use crate::dump_tokens::dump_in_tokens;
 use crate::event_lines::{JsonText, json_text};
@@ -18,20 +19,11 @@ use fbl_input::shapes::{
     ByteShape, SetShape, no_other_key, object_in, value_field, value_in, values_field,
 };
 use fbl_input::{InputFault, InputKind, Key, RunFault, read_input};
-use fbl_runs::{Entry, LogBreach, RawLog, Run, checked_log};
+use fbl_runs::{Entry, LogBreach, RawLog, RawRecording, Recording, Run, checked_log};
 use fbl_trace::{Determinant, Mark, Member, MemberSet};
 use serde_json::Value;
 use std::alloc::Global;
 use std::io::Read;
-
-/// What an input records of a run. It may break the rules of its kind.
-#[derive(Drop)]
-pub enum RawRecording {
-    /// The run's end.
-    Dump(RawDump),
-    /// The run.
-    Log(RawLog),
-}
 
 /// An input that has the form of a dump or of a log.
 #[derive(Drop)]
@@ -40,15 +32,6 @@ pub struct RecordedInput {
     pub recorded: RawRecording,
     /// The bytes of the JSON text that the input means: its own, or that for which its lines stand.
     pub bytes: Vec<u8>,
-}
-
-/// What an input records of a run, which obeys the rules of its kind.
-#[derive(Drop)]
-pub enum Recording {
-    /// The run's end.
-    Dump(Dump),
-    /// The run.
-    Log(Run),
 }
 
 /// The dump that a value gives, its rules not yet checked.

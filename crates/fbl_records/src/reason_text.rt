@@ -2,9 +2,8 @@
 //! learned of them, and by which paths members that are left depend on them.
 
 use crate::forgotten::Forgotten;
-use fbl_input::Sources;
 use fbl_judge::{OrphanPath, Reason};
-use fbl_runs::{Entry, Run};
+use fbl_runs::{Entry, Run, Sources};
 use fbl_trace::{Determinant, Mark};
 use std::fmt;
 

@@ -10,9 +10,8 @@ use crate::forgotten::{Forgotten, all_forgotten};
 use crate::overview::{Overview, OverviewLine};
 use crate::reason_text::Why;
 use crate::undone_text::{UndoneReason, WhyUndone, undone_reasons};
-use fbl_input::Sources;
 use fbl_judge::{LostReceipt, Pasts, Reason, loss_reasons, unsafe_reasons};
-use fbl_runs::Run;
+use fbl_runs::{Run, Sources};
 use std::alloc::{AllocError, Global};
 use std::fmt;
 

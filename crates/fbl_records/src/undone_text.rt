@@ -8,9 +8,8 @@ ghost use Rattle.fbl_runs.specs.HappenedBefore.{Position};
 ghost use Rattle.fbl_records.specs.UndoneReasons.{AreUndoneReasons, IsCountAt, IsCountBeside, IsMomentOf, IsUndoneReason};
 
 use crate::reason_text::write_path;
-use fbl_input::Sources;
 use fbl_judge::{OrphanPath, Pasts, UndoneReceipt, paths_to, recorded_at};
-use fbl_runs::{Causality, Clock, Run};
+use fbl_runs::{Causality, Clock, Run, Sources};
 use fbl_trace::{Determinant, Member, MemberSet};
 use std::alloc::{AllocError, Global};
 use std::fmt;

@@ -13,9 +13,13 @@ use Rattle.fbl_runs.specs.Clocks.{StandsAt, seen}
 pub read : {X : Type 0} (all seen : List X) (i : ℕ) (x : X) → seen ≡ all → i < length seen → x ≡ get_or seen i x → slice_get all i ≡ Some x
 read {X} all seen i x same within is = subst (λ (s : List X). slice_get s i ≡ Some x) same (slice_get_read seen (length seen) i x refl within is)
 
+-- and so it does where the same list is known to have the place
+pub read_at : {X : Type 0} (all seen : List X) (i : ℕ) (x : X) → seen ≡ all → i < length all → x ≡ get_or seen i x → slice_get all i ≡ Some x
+read_at all seen i x same within is = read all seen i x same (subst (λ s. i < length s) (sym same) within) is
+
 -- and at a place of the same number
-pub read_at : {X : Type 0} (xs : List X) (i j : ℕ) (x : X) → i ≡ j → i < length xs → x ≡ get_or xs i x → slice_get xs j ≡ Some x
-read_at {X} xs i j x same within is = subst (λ (k : ℕ). slice_get xs k ≡ Some x) same (slice_get_read xs (length xs) i x refl within is)
+pub read_number : {X : Type 0} (xs : List X) (i j : ℕ) (x : X) → i ≡ j → i < length xs → x ≡ get_or xs i x → slice_get xs j ≡ Some x
+read_number {X} xs i j x same within is = subst (λ (k : ℕ). slice_get xs k ≡ Some x) same (slice_get_read xs (length xs) i x refl within is)
 
 pub some_item : {X : Type 0} (xs : List X) (p : ℕ) → p < length xs → (x : X) × (slice_get xs p ≡ Some x)
 some_item [] p below = absurd (omega (arith, below))

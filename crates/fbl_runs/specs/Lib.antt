@@ -15,3 +15,5 @@ pub mod Indexes
 pub mod LifeRules
 pub mod Lawful
 pub mod Logs
+pub mod Sources
+pub mod Recordings

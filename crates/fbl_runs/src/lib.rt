@@ -1,5 +1,5 @@
-//! Recorded runs, from dumps and from logs, with what the members hold and store from when on: their rules, their index, and the clocks of
-//! their entries.
+//! Recorded runs, from dumps and from logs, with what the members hold and store from when on: their rules, their index, the clocks of their
+//! entries, and where these stand in the files of a run.
 #![tactic(auto)]
 
 mod causality;
@@ -15,8 +15,10 @@ mod life_rules;
 mod links;
 mod lives;
 mod receipts;
+mod recording;
 mod records;
 mod run;
+mod sources;
 
 pub use causality::Causality;
 pub use clock::Clock;
@@ -31,5 +33,7 @@ pub use judged::Judged;
 pub use lawful::{event_place, marks_of};
 pub use life_rules::{LifeRules, MOST_RESTARTS};
 pub use links::Link;
+pub use recording::{RawRecording, Recording};
 pub use records::RecordPlaces;
 pub use run::{RawLog, Run, checked_log};
+pub use sources::{InFile, Sources, Spot, spot_text};

@@ -2,10 +2,11 @@
 
 use crate::texts::{LATE, LOST};
 use crate::unsteady::{FailedWrite, UnsteadyReader, UnsteadyWriter};
-use fbl_input::{RunFault, Sources};
+use fbl_input::RunFault;
 use fbl_play::play;
 use fbl_program::{CHANNEL_FAULT, DONE, NOT_WELL, Named, Streams, run};
 use fbl_records::audit;
+use fbl_runs::Sources;
 use std::alloc::{AllocError, Global};
 use std::io::{self, Read};
 use std::process::Abort;

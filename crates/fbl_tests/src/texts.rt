@@ -1,7 +1,8 @@
 //! A dump and a log as texts, and what a dump's text is read as.
 
 use fbl_base::RawDump;
-use fbl_records::{RawRecording, RecordedInput, read_recorded};
+use fbl_records::{RecordedInput, read_recorded};
+use fbl_runs::RawRecording;
 use std::alloc::{AllocError, Global};
 
 /// A message that went once round three members, of whom one may be lost, in a dump without a pair that a run leaves: its first receipt

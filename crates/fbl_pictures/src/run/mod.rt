@@ -34,12 +34,12 @@ use crate::run::standing::standing_of;
 use crate::run::window::Window;
 use crate::svg::picture_text;
 use fbl_history::Shape;
-use fbl_input::{OutputFault, Sources, put, spot_text};
+use fbl_input::{OutputFault, put};
 use fbl_judge::{
     Audit, LostReceipt, Pasts, UndoneReceipt, UnsafeReceipt, audit_of, first_unsafe,
     undone_receipts,
 };
-use fbl_runs::{Entry, Judged};
+use fbl_runs::{Entry, Judged, Sources, spot_text};
 use std::alloc::{AllocError, Global};
 use std::io::Write;
 

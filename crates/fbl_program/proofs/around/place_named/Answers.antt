@@ -2,7 +2,7 @@ use Rattle.fbl_program.proofs.Common.{ℕ, List, ◌≡◌, ◌∙◌, arith, in
 use Rattle.std.proofs.lemmas.Bool.{cases_lt, false≢true}
 use Rattle.std.proofs.lemmas.Slice.Eq.{bytes_eq-Decides}
 use Rattle.std.specs.Prelude.{◌≢◌}
-use Rattle.fbl_input.specs.Sources.{IsSpotText}
+use Rattle.fbl_runs.specs.Sources.{IsSpotText}
 use Rattle.fbl_program.proofs.around.place_named.Goals as goal
 
 pub loop-place-preserved : goal.loop-place-preserved

@@ -1,7 +1,7 @@
 use Rattle.std.proofs.lemmas.List.{take_all}
 use Rattle.std.proofs.lemmas.Option.{slice_get-get_or}
 use Rattle.fbl_program.proofs.Common.{◌∙◌, inl, inr, sym}
-use Rattle.fbl_records.proofs.Merges.{passed}
+use Rattle.fbl_order.proofs.TogetherLaws.{passed}
 use Rattle.fbl_program.proofs.Several.{item_at, pushed, read_more, read_none}
 use Rattle.fbl_program.proofs.jobs.files_at.Goals as goal
 

@@ -1,7 +1,7 @@
 use Rattle.fbl_order.specs.declared.files.FilesDiffer.TheVariants.{Memory}
 use Rattle.fbl_program.proofs.Common.{◌∙◌, ap, inl, inr, keeps_itself, map}
 use Rattle.fbl_program.proofs.Several.{short_of_memory}
-use Rattle.fbl_records.specs.declared.merge.MergeFault.TheVariants.{Files}
+use Rattle.fbl_order.specs.declared.together.MergeFault.TheVariants.{Files}
 use Rattle.fbl_program.proofs.runs.end_merged.Goals as goal
 
 pub returns-in-Err : goal.returns-in-Err

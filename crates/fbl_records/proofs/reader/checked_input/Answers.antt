@@ -2,8 +2,9 @@ use Rattle.std.proofs.Common.{ap, ◌∙◌, Ok}
 use Rattle.fbl_dumps.specs.Dumps.{parts_of}
 use Rattle.fbl_runs.specs.Logs.{parts_of_log}
 use Rattle.fbl_input.proofs.Unread.{is_passed}
-use Rattle.fbl_records.specs.Logs.{IsNotChecked, recorded_parts}
-use Rattle.fbl_records.specs.declared.reader.Recording.TheVariants as parts
+use Rattle.fbl_records.specs.Logs.{IsNotChecked}
+use Rattle.fbl_runs.specs.Recordings.{recorded_parts}
+use Rattle.fbl_runs.specs.declared.recording.Recording.TheVariants as parts
 use Rattle.fbl_records.proofs.Records.{refused}
 use Rattle.fbl_records.proofs.reader.checked_input.Goals as goal
 

@@ -1,13 +1,11 @@
-use Rattle.fbl_runs.proofs.Common.{◌≡◌, ◌∙◌, true, Determinant, List, Entry, Some, ap, sym, arith, entry_member, false≢true, length, recorded_in, slice_get}
+use Rattle.fbl_runs.proofs.Common.{◌≡◌, ◌∙◌, true, Determinant, Entry, Some, ap, sym, arith, entry_member, false≢true, recorded_in, slice_get}
 use Rattle.std.specs.Option.{is_some}
-use Rattle.fbl_runs.proofs.Listing.{read}
+use Rattle.fbl_runs.proofs.Listing.{read_at}
 use Rattle.fbl_runs.proofs.lawful.broken_rule.Goals as goal
 use Rattle.fbl_runs.proofs.lawful.broken_rule.Goals.{After-is_some, else-is_some-via-then-is_some+else-before-ge-MOST_PAIRS, else-is_some-via-else-is_some}
 
 here : (c : After-is_some) → slice_get c.args.index.now c.args.place ≡ Some c.index-entries-place.result
-here c =
-    let same_length = ap (λ (es : List Entry). length es) c.entries.ensures in
-    read c.args.index.now c.entries.result.now c.args.place c.index-entries-place.result c.entries.ensures (let within = c.requires.place in omega (arith, within, same_length)) c.index-entries-place.is
+here c = read_at c.args.index.now c.entries.result.now c.args.place c.index-entries-place.result c.entries.ensures c.requires.place c.index-entries-place.is
 
 -- the entry there is this one
 one : (c : After-is_some) (e : Entry) → slice_get c.args.index.now c.args.place ≡ Some e → c.index-entries-place.result ≡ e

@@ -1,16 +1,14 @@
-use Rattle.fbl_runs.proofs.Common.{◌≡◌, ◌∙◌, List, Entry, Option, ℕ, Some, at, ap, sym, subst, arith, entry_member, false≢true, length, slice_get, slice_get_within}
+use Rattle.fbl_runs.proofs.Common.{◌≡◌, ◌∙◌, Option, ℕ, Some, at, sym, subst, entry_member, false≢true, slice_get, slice_get_within}
 use Rattle.fbl_runs.specs.Clocks.{seen}
 use Rattle.fbl_runs.specs.Receipts.{IsFirstReceipt}
 use Rattle.fbl_runs.proofs.LeadsLaws.{here_stands}
-use Rattle.fbl_runs.proofs.Listing.{read}
+use Rattle.fbl_runs.proofs.Listing.{read_at}
 use Rattle.fbl_runs.proofs.RunLaws.{is_known, known_first, known_none}
 use Rattle.fbl_runs.proofs.lawful.is_known.Goals as goal
 use Rattle.fbl_runs.proofs.lawful.is_known.Goals.{After-recorded}
 
 here : (c : After-recorded) → slice_get c.args.index.now c.args.place ≡ Some c.index-entries-place.result
-here c =
-    let same_length = ap (λ (es : List Entry). length es) c.entries.ensures in
-    read c.args.index.now c.entries.result.now c.args.place c.index-entries-place.result c.entries.ensures (let within = c.requires.place in omega (arith, within, same_length)) c.index-entries-place.is
+here c = read_at c.args.index.now c.entries.result.now c.args.place c.index-entries-place.result c.entries.ensures c.requires.place c.index-entries-place.is
 
 pub precedes-requires-clause-first : goal.precedes-requires-clause-first
 precedes-requires-clause-first c =

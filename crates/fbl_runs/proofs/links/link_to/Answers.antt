@@ -2,7 +2,7 @@ use Rattle.fbl_runs.proofs.Common.{ℕ, ◌≡◌, ◌<◌, ◌+◌, ◌∙◌, 
 use Rattle.std.specs.Option.{is_some}
 use Rattle.fbl_runs.specs.KnownLives.{IsKnownLog}
 use Rattle.fbl_runs.specs.Links.{IsLastPlace}
-use Rattle.fbl_runs.proofs.Listing.{read_at}
+use Rattle.fbl_runs.proofs.Listing.{read_number}
 use Rattle.fbl_runs.proofs.NewLinkLaws.{begins_part, events_placed, few_lives, kept_part, life_part, message_part, own, previous_part, restart_none, restart_some, size, stood_part}
 use Rattle.fbl_runs.proofs.links.link_to.Goals as goal
 use Rattle.fbl_runs.proofs.links.link_to.Goals.{then-is_some, else-is_some}
@@ -12,7 +12,7 @@ overflow_cast-result c =
     let lives = c.args.lives.now in
     let log = c.index-log.result.now in
     let within : c.number.result < length lives.logs.items = (let room = lives.room in let bound = c.number.ensures.bound in omega (arith, room, bound)) in
-    let at_log = read_at lives.logs.items c.number.result (entry_member c.args.entry.now) log (c.number.ensures.value ∙ c.member.ensures) within c.index-log.ensures in
+    let at_log = read_number lives.logs.items c.number.result (entry_member c.args.entry.now) log (c.number.ensures.value ∙ c.member.ensures) within c.index-log.ensures in
     let few = few_lives c.requires.0 lives c.requires.1 log.life (entry_member c.args.entry.now) _ (c.requires.1.logs (entry_member c.args.entry.now) log at_log).life in
     omega (arith, few)
 
@@ -24,7 +24,7 @@ returns-clause-new c n entries place j lawful stands here has =
     let before = take (place + 1) entries in
     let member : entry_member e ≡ j.member = own n entries lawful place j e stands here lives has in
     let within : c.number.result < length lives.logs.items = (let room = lives.room in let bound = c.number.ensures.bound in omega (arith, room, bound)) in
-    let at_log = read_at lives.logs.items c.number.result j.member log (c.number.ensures.value ∙ c.member.ensures ∙ member) within c.index-log.ensures in
+    let at_log = read_number lives.logs.items c.number.result j.member log (c.number.ensures.value ∙ c.member.ensures ∙ member) within c.index-log.ensures in
     let is : IsKnownLog before lives.lives.items j.member log = has.logs j.member log at_log in
     let stood : IsLastPlace entries (λ i. StoodBefore (log_of entries) i j) (StoodBefore (log_of entries)) c.if-is_some.stood = elim c.if-is_some.branch [
       | then-is_some w ↦ (

@@ -2,7 +2,7 @@ use Rattle.fbl_runs.proofs.Common.{ℕ, ◌≡◌, ◌<◌, ◌+◌, ◌∙◌, 
 use Rattle.std.specs.Option.{is_some}
 use Rattle.fbl_runs.specs.declared.links.Link.{Link}
 use Rattle.fbl_runs.specs.Clocks.{StandsAt}
-use Rattle.fbl_runs.proofs.Listing.{read_at}
+use Rattle.fbl_runs.proofs.Listing.{read_number}
 use Rattle.fbl_runs.proofs.NewLinkLaws.{restart_none, restart_some}
 use Rattle.fbl_runs.proofs.PassLaws.{HasLinks, IsRight, all_links, all_lived, front_size, has_entry, linked, lived_more, no_links, passed, restarted, restarted_count}
 use Rattle.fbl_runs.proofs.links.Links.of.Goals as goal
@@ -16,7 +16,7 @@ link_to-requires c =
     let entries = c.args.entries.now in
     let place = c.loop-place.place in
     let e = c.index-entries-place.result in
-    let here : slice_get entries place ≡ Some e = read_at entries place place e refl c.loop-place-test.true c.index-entries-place.is in
+    let here : slice_get entries place ≡ Some e = read_number entries place place e refl c.loop-place-test.true c.index-entries-place.is in
     let has = lived_more entries place e c.add.new.self here
     (c.in_ok-add.ensures.lived c.requires.0 (take place entries) c.loop-place.invariant.lived (c.requires.1 place e here) (front_size entries place c.loop-place-test.true)) in
     (take (place + 1) entries, has, has_entry entries place e here)
@@ -32,13 +32,13 @@ loop-place-preserved c =
     let lives' = c.add.new.self in
     let links = c.loop-place.links.links.items in
     let old = c.loop-place.invariant in
-    let here : slice_get entries place ≡ Some e = read_at entries place place e refl c.loop-place-test.true c.index-entries-place.is in
+    let here : slice_get entries place ≡ Some e = read_number entries place place e refl c.loop-place-test.true c.index-entries-place.is in
     let size = front_size entries place c.loop-place-test.true in
     let has = lived_more entries place e lives' here (c.in_ok-add.ensures.lived n (take place entries) old.lived (lawful place e here) size) in
     let still = c.in_ok-add.ensures.kept n (take place entries) old.lived (lawful place e here) size in
     let log = c.index-log.result.now in
     let within : c.number.result < length lives'.logs.items = (let room = lives'.room in let bound = c.number.ensures.bound in omega (arith, room, bound)) in
-    let at_log = read_at lives'.logs.items c.number.result (entry_member e) log (c.number.ensures.value ∙ c.member.ensures) within c.index-log.ensures in
+    let at_log = read_number lives'.logs.items c.number.result (entry_member e) log (c.number.ensures.value ∙ c.member.ensures) within c.index-log.ensures in
     let known = has.logs (entry_member e) log at_log in
     let now = c.if-is_some.links.links.items in
     let Right : List Link → Type 0 = λ items. (length items ≡ place) × ((p : ℕ) (j : Position) (link : Link) → StandsAt entries p j → slice_get items p ≡ Some link → IsRight n entries lawful place e here lives lives' links old has still j link) in

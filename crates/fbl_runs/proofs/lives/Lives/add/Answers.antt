@@ -9,7 +9,7 @@ use Rattle.fbl_runs.specs.declared.lives.Life.{Life}
 use Rattle.fbl_runs.specs.declared.lives.StandingEvent.{StandingEvent}
 use Rattle.fbl_runs.specs.KnownLives.{HasLived, IsLifeAt, IsTellPlace, events_after, sent_now}
 use Rattle.fbl_runs.specs.Rules.{IsLawful, is_send}
-use Rattle.fbl_runs.proofs.Listing.{read_at}
+use Rattle.fbl_runs.proofs.Listing.{read_number}
 use Rattle.fbl_runs.proofs.LifeLaws.{restart_is}
 use Rattle.fbl_runs.proofs.LivedLaws.{begun_kept, lived_kept, lived_on, set_here, set_itself, tells_kept, tells_more}
 use Rattle.fbl_runs.proofs.lives.Lives.add.Goals as goal
@@ -21,7 +21,7 @@ at_log : (c : In_ok-number) → slice_get c.args.self.now.logs.items (entry_memb
 at_log c =
     let logs = c.args.self.now.logs.items in
     let below : c.number-at.result < length logs = (let room = c.args.self.now.room in let bound = c.number-at.ensures.bound in omega (arith, room, bound)) in
-    read_at logs c.number-at.result (entry_member c.args.entry.now) c.index_mut.result.now (c.number-at.ensures.value ∙ c.member.ensures) below c.index_mut.ensures.value
+    read_number logs c.number-at.result (entry_member c.args.entry.now) c.index_mut.result.now (c.number-at.ensures.value ∙ c.member.ensures) below c.index_mut.ensures.value
 
 below : (c : In_ok-number) → entry_member c.args.entry.now < 16
 below c = (let bound = c.number-at.ensures.bound in let same = c.number-at.ensures.value ∙ c.member.ensures in omega (arith, bound, same))

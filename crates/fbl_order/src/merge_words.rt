@@ -1,13 +1,13 @@
 //! What is told of files that record no run together: the line of the fault, and its explanation.
 
 ghost use Rattle.std.specs.Prelude.{◌≡◌, [], IfOk, length, map};
-ghost use Rattle.fbl_records.specs.Merges.{lengths_of};
+ghost use Rattle.fbl_order.specs.Together.{lengths_of};
 
-use crate::merge::{MergeFault, Together};
+use crate::fault::{Obstacle, OrderFault, Stuck};
+use crate::files::{FilesDiffer, first_outsider};
+use crate::together::{MergeFault, Together};
 use fbl_dumps::{DumpRefusal, RawDump};
-use fbl_input::{InFile, Sources, Spot};
-use fbl_order::{FilesDiffer, Obstacle, OrderFault, Stuck, first_outsider};
-use fbl_runs::{LogBreach, RawLog};
+use fbl_runs::{InFile, LogBreach, RawLog, Sources, Spot};
 use fbl_trace::{Breach, MemberSet, PairFault};
 use std::alloc::{AllocError, Global};
 use std::fmt;

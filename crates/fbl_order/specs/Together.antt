@@ -9,14 +9,14 @@ use Rattle.fbl_order.specs.Files.{IsUnionOfDumps, IsUnionOfLogs, RefusesFiles, d
 use Rattle.fbl_order.specs.Answers.{DumpsAnswerAlike, IsOrderGiven}
 use Rattle.fbl_order.specs.Orders.{ArePlaces, IsOrder, as_entries, with_events}
 use Rattle.fbl_runs.specs.Logs.{RunParts}
-use Rattle.fbl_records.specs.declared.reader.Recording.{Recording}
-use Rattle.fbl_records.specs.declared.reader.Recording.TheVariants as checked
-use Rattle.fbl_records.specs.declared.reader.RawRecording.{RawRecording}
-use Rattle.fbl_records.specs.declared.reader.RawRecording.TheVariants as raws
-use Rattle.fbl_records.specs.declared.merge.MergeFault.{MergeFault}
-use Rattle.fbl_records.specs.declared.merge.MergeFault.TheVariants as faults
-use Rattle.fbl_records.specs.declared.merge.Together.{Together}
-use Rattle.fbl_records.specs.declared.merge.Together.TheVariants.{Dumps, Logs}
+use Rattle.fbl_runs.specs.declared.recording.Recording.{Recording}
+use Rattle.fbl_runs.specs.declared.recording.Recording.TheVariants as checked
+use Rattle.fbl_runs.specs.declared.recording.RawRecording.{RawRecording}
+use Rattle.fbl_runs.specs.declared.recording.RawRecording.TheVariants as raws
+use Rattle.fbl_order.specs.declared.together.MergeFault.{MergeFault}
+use Rattle.fbl_order.specs.declared.together.MergeFault.TheVariants as faults
+use Rattle.fbl_order.specs.declared.together.Together.{Together}
+use Rattle.fbl_order.specs.declared.together.Together.TheVariants.{Dumps, Logs}
 
 -- what was found are these dumps, or these logs, of which there is one, in their order
 abbrev pub AreTogether : List RawRecording → Together → Type 0

@@ -1,6 +1,6 @@
-use Rattle.fbl_input.proofs.Common.{IfOk-weaker}
+use Rattle.std.proofs.lemmas.Result.{IfOk-weaker}
 use Rattle.std.specs.Prelude.{option_map, string_bytes}
-use Rattle.fbl_input.proofs.sources.spot_text.Goals as goal
+use Rattle.fbl_runs.proofs.sources.spot_text.Goals as goal
 
 pub returns : goal.returns
 returns c =

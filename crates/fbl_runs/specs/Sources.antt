@@ -1,7 +1,7 @@
 -- Where an entry stands in the files from which a run was put together.
 use Rattle.std.specs.Prelude.{◌≡◌, ◌<◌, ◌≤◌, ◌+◌, ◌⊎◌, ℕ, List, [], ◌++◌, codes, decimal, Option, Some, None, IfSome, map, slice_get, slice_index, slice_index_or, sum, take}
 use Rattle.std.specs.Fmt.{debug_str, ◌++?◌}
-use Rattle.fbl_input.specs.declared.sources.Sources.{Sources}
+use Rattle.fbl_runs.specs.declared.sources.Sources.{Sources}
 
 -- of lists of these lengths one behind another, the place stands in the list that is named first, at the place that is named second
 abbrev pub IsPlaceIn : List ℕ → ℕ → ℕ × ℕ → Type 0

@@ -1,7 +1,7 @@
 //! Where the entries of a run stand in the files from which it was put together.
 
 ghost use Rattle.std.specs.Prelude.{◌≡◌, ◌≤◌, IfOk, MatchOption, option_map, string_bytes, sum};
-ghost use Rattle.fbl_input.specs.Sources.{IsPlaceIn, IsSpot, IsSpotText};
+ghost use Rattle.fbl_runs.specs.Sources.{IsPlaceIn, IsSpot, IsSpotText};
 
 use std::alloc::{AllocError, Global};
 use std::fmt;
@@ -40,7 +40,7 @@ pub struct InFile<'a> {
 
 impl fmt::Display for InFile<'_> {
     ghost use Rattle.std.specs.Prelude.{option_map};
-    ghost use Rattle.fbl_input.specs.Sources.{file_words};
+    ghost use Rattle.fbl_runs.specs.Sources.{file_words};
 
     ghost output = { λ file. file_words (option_map (λ name. name.now) file.name) };
 

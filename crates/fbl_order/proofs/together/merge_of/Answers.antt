@@ -1,10 +1,10 @@
 use Rattle.fbl_dumps.specs.Dumps.{parts_of}
 use Rattle.fbl_runs.specs.Logs.{parts_of_log}
-use Rattle.fbl_records.proofs.Merges.{passed}
-use Rattle.fbl_records.specs.Merges.{RefusesMerge}
-use Rattle.fbl_records.specs.declared.merge.MergeFault.TheVariants.{Files, Order}
-use Rattle.fbl_records.specs.declared.merge.Together.TheVariants.{Dumps, Logs}
-use Rattle.fbl_records.proofs.merge.merge_of.Goals as goal
+use Rattle.fbl_order.proofs.TogetherLaws.{passed}
+use Rattle.fbl_order.specs.Together.{RefusesMerge}
+use Rattle.fbl_order.specs.declared.together.MergeFault.TheVariants.{Files, Order}
+use Rattle.fbl_order.specs.declared.together.Together.TheVariants.{Dumps, Logs}
+use Rattle.fbl_order.proofs.together.merge_of.Goals as goal
 
 pub returns-in_err-whole-in-Dumps-clause-refused : goal.returns-in_err-whole-in-Dumps-clause-refused
 returns-in_err-whole-in-Dumps-clause-refused c =

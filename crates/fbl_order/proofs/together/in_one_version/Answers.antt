@@ -1,10 +1,10 @@
 use Rattle.std.proofs.lemmas.List.{append-nil, append_assoc, nil_from_length}
 use Rattle.std.specs.Vec.Iter.{into_iter_items}
-use Rattle.fbl_records.specs.declared.reader.RawRecording.TheVariants as raws
-use Rattle.fbl_records.proofs.Common.{◌≡◌, ◌∙◌, ◌∷◌, ◌++◌, [], ap, map, subst, sym}
-use Rattle.fbl_records.proofs.Merges.{passed}
-use Rattle.fbl_records.specs.Merges.{AreTogether, RefusesVersions}
-use Rattle.fbl_records.proofs.merge.in_one_version.Goals as goal
+use Rattle.fbl_runs.specs.declared.recording.RawRecording.TheVariants as raws
+use Rattle.std.proofs.Common.{◌≡◌, ◌∙◌, ◌∷◌, ◌++◌, [], ap, map, subst, sym}
+use Rattle.fbl_order.proofs.TogetherLaws.{passed}
+use Rattle.fbl_order.specs.Together.{AreTogether, RefusesVersions}
+use Rattle.fbl_order.proofs.together.in_one_version.Goals as goal
 
 pub loop-recorded-init : goal.loop-recorded-init
 loop-recorded-init c = (ap (map raws.Dump) (sym c.new.ensures.items), c.into_iter-recorded-iterator.ensures.into_iter_gives.0)

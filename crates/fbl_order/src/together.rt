@@ -1,15 +1,16 @@
 //! What several files record of one run, as one: what they have together, with its events in an order that obeys the rules.
 
 ghost use Rattle.std.specs.Prelude.{◌≡◌, ◌<◌, IfErr, IfOk, List, [], ◌∷◌, ◌++◌};
-ghost use Rattle.fbl_records.specs.declared.reader.RawRecording.{RawRecording};
-ghost use Rattle.fbl_records.specs.Merges.{AreTogether, IsMergeOf, RefusesMerge, RefusesVersions, count_of};
+ghost use Rattle.fbl_runs.specs.declared.recording.RawRecording.{RawRecording};
+ghost use Rattle.fbl_order.specs.Together.{AreTogether, IsMergeOf, RefusesMerge, RefusesVersions, count_of};
 
-use crate::reader::{RawRecording, Recording};
+use crate::dumps::order_dump;
+use crate::fault::OrderFault;
+use crate::files::{FilesDiffer, union_of_dumps, union_of_logs};
+use crate::logs::order_union;
+use crate::order::Ordered;
 use fbl_dumps::RawDump;
-use fbl_order::{
-    FilesDiffer, OrderFault, Ordered, order_dump, order_union, union_of_dumps, union_of_logs,
-};
-use fbl_runs::RawLog;
+use fbl_runs::{RawLog, RawRecording, Recording};
 use std::alloc::{AllocError, AllocFailed, Global};
 use std::convert::From;
 
@@ -27,7 +28,7 @@ pub enum MergeFault {
 }
 
 impl From<FilesDiffer> for MergeFault {
-    ghost use Rattle.fbl_records.specs.declared.merge.MergeFault.TheVariants.{Files};
+    ghost use Rattle.fbl_order.specs.declared.together.MergeFault.TheVariants.{Files};
 
     ghost from_gives = { λ fault e. e ≡ Files fault };
 
@@ -37,7 +38,7 @@ impl From<FilesDiffer> for MergeFault {
 }
 
 impl From<OrderFault> for MergeFault {
-    ghost use Rattle.fbl_records.specs.declared.merge.MergeFault.TheVariants.{Order};
+    ghost use Rattle.fbl_order.specs.declared.together.MergeFault.TheVariants.{Order};
 
     ghost from_gives = { λ fault e. e ≡ Order fault };
 
@@ -47,7 +48,7 @@ impl From<OrderFault> for MergeFault {
 }
 
 impl From<AllocError> for MergeFault {
-    ghost use Rattle.fbl_records.specs.declared.merge.MergeFault.TheVariants.{Files};
+    ghost use Rattle.fbl_order.specs.declared.together.MergeFault.TheVariants.{Files};
     ghost use Rattle.fbl_order.specs.declared.files.FilesDiffer.TheVariants.{Memory};
 
     ghost from_gives = { λ _ e. e ≡ Files Memory };
@@ -58,7 +59,7 @@ impl From<AllocError> for MergeFault {
 }
 
 impl<T: Drop> From<AllocFailed<T>> for MergeFault {
-    ghost use Rattle.fbl_records.specs.declared.merge.MergeFault.TheVariants.{Files};
+    ghost use Rattle.fbl_order.specs.declared.together.MergeFault.TheVariants.{Files};
     ghost use Rattle.fbl_order.specs.declared.files.FilesDiffer.TheVariants.{Memory};
 
     ghost from_gives = { λ _ e. e ≡ Files Memory };

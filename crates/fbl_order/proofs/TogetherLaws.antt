@@ -4,11 +4,11 @@ use Rattle.std.proofs.lemmas.List.{length-map, map-append}
 use Rattle.std.specs.Prelude.{slice_get}
 use Rattle.std.specs.Result.{IsErrAnd}
 use Rattle.fbl_trace.proofs.Gets.{take-more}
-use Rattle.fbl_records.specs.declared.reader.RawRecording.{RawRecording}
-use Rattle.fbl_records.specs.declared.reader.RawRecording.TheVariants as raws
-use Rattle.fbl_records.specs.declared.merge.Together.{Together}
-use Rattle.fbl_records.specs.declared.merge.Together.TheVariants.{Dumps, Logs}
-use Rattle.fbl_records.specs.Merges.{AreTogether, IsOtherVersion, is_log}
+use Rattle.fbl_runs.specs.declared.recording.RawRecording.{RawRecording}
+use Rattle.fbl_runs.specs.declared.recording.RawRecording.TheVariants as raws
+use Rattle.fbl_order.specs.declared.together.Together.{Together}
+use Rattle.fbl_order.specs.declared.together.Together.TheVariants.{Dumps, Logs}
+use Rattle.fbl_order.specs.Together.{AreTogether, IsOtherVersion, is_log}
 
 -- a fault that is passed on
 pub passed : {X E : Type 0} (P : E → Type 0) (fault : E) (r : Result X E) → IsErrAnd r (λ e. e ≡ fault) → P fault → IfErr r P
