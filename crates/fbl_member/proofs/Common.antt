@@ -1,3 +1,4 @@
+pub use Rattle.std.specs.Prelude.{nat_lt}
 pub use Rattle.std.proofs.Common.{Ok, Err, MatchResult, Result, Bor, IfSome, List, None, Option, Some, [], ap, arith, cond, drop, false, if◌then◌else◌, length, map, refl, slice_get, slice_set, suc, sym, true, zero}
 pub use Rattle.fbl_trace.proofs.Common.{get_or, ℕ, ◌++◌, ◌+◌, ◌-◌, ◌<◌, ◌==◌, ◌∙◌, ◌∷◌, ◌≡◌, ◌≤◌, common_steps}
 pub use Rattle.std.proofs.Math.ListN.{length-set}

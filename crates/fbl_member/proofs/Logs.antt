@@ -1,5 +1,6 @@
 -- Logs of sends, which are numbered from 1.
 use Rattle.fbl_member.proofs.Common.{◌≡◌, ℕ, ◌+◌, ◌<◌, ◌≤◌, ◌==◌, List, [], ◌∷◌, ◌++◌, map, Some, refl, sym, ap, ◌∙◌, arith, length, nat_tests, numbered, starts_of, zero, suc, if◌then◌else◌, None}
+use Rattle.fbl_member.proofs.Common.{drop, false, logged_beyond, nat_lt}
 use Rattle.fbl_member.proofs.Common.{slice_get, slice_set, length-append, length-set, option_map, length-filter_map, Start, MemberRecord, logged_note, without_number, IsKept}
 
 module _ {N : Type 0} where
@@ -13,6 +14,16 @@ module _ {N : Type 0} where
 
   pub numbered-append : (before : ℕ) (xs ys : List (ℕ × N)) → numbered before (xs ++ ys) ≡ numbered before xs ++ numbered (before + length xs) ys
   numbered-append before xs ys = numbered-on before (before + length xs) xs ys refl
+
+  -- no message up to a number is beyond it
+  pub beyond-later : (before skipped next : ℕ) (log : List (ℕ × N)) (to ssn : ℕ) → next ≡ before + skipped → next ≤ ssn
+      → logged_beyond (numbered next (drop skipped log)) to ssn ≡ logged_beyond (numbered before log) to ssn
+  beyond-later before zero next log to ssn is le = (let same : next ≡ before = omega (arith, is) in rw same refl)
+  beyond-later before (suc k) next [] to ssn is le = refl
+  beyond-later before (suc k) next (s ∷ log) to ssn is le =
+      let rest = beyond-later (before + 1) k next log to ssn (omega (arith, is)) le in
+      let up : nat_lt ssn (before + 1) ≡ false = grind (arith, nat_tests, is, le) in
+      grind (arith, nat_tests, rest, up)
 
   sends-numbered : (before : ℕ) (sends : List (ℕ × N)) → map without_number (numbered before sends) ≡ sends
   sends-numbered before [] = refl

@@ -246,7 +246,8 @@ impl<S: Copy, N: Content> MemberRec<S, N> {
         ensures { IfOk result (λ v. v.items ≡ logged_beyond self.now.log to ssn) }
     {
         let mut beyond = Vec::new(*self.log.allocator());
-        for place in 0..self.log.len() {
+        // the messages up to that number stand before it in the log
+        for place in ssn as usize..self.log.len() {
             let send = self.log[place];
             let number = place as u32 + 1;
             if is_beyond(send.0, number, to, ssn) {
