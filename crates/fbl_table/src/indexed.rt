@@ -184,10 +184,7 @@ impl IndexedEntries {
         ensures entries { listed self.new ≡ noted me (listed self.old) det }
         ensures indexed { IsIndexed self.old → IsIndexed self.new }
     {
-        self.add_by_hash(Entry {
-            det,
-            known: MemberSet::empty().with(me),
-        });
+        self.add_by_hash(&det, MemberSet::empty().with(me));
     }
 
     /// Takes in another table's entries. After `Err` there are the same entries.
@@ -260,7 +257,7 @@ impl IndexedEntries {
     {
         match self.likely_place_of(det) {
             Some(place) => self.unite(det, known, place),
-            None => self.add_by_hash(Entry { det: *det, known }),
+            None => self.add_by_hash(det, known),
         }
     }
 
@@ -272,7 +269,7 @@ impl IndexedEntries {
     {
         match self.place_of(&entry.det) {
             Some(place) => self.unite(&entry.det, entry.known, place),
-            None => self.add_by_hash(entry),
+            None => self.add_by_hash(&entry.det, entry.known),
         }
     }
 
@@ -314,25 +311,26 @@ impl IndexedEntries {
         self.entries[place] = known;
     }
 
-    /// Adds the entry, with room for one more. Its determinant is looked for by its hash, once.
+    /// Adds what is known of the determinant, with room for one entry more. It is looked for by its hash, once.
     #[inline(never)]
-    fn add_by_hash(&mut self, entry: Entry)
+    fn add_by_hash(&mut self, det: &Determinant, known: MemberSet)
         requires { 0 < room self.old }
-        ensures entries { listed self.new ≡ added (listed self.old) entry }
+        ensures entries { listed self.new ≡ added (listed self.old) (record { det = det.now; known = known }) }
         ensures indexed { IsIndexed self.old → IsIndexed self.new }
         ensures room { room self.old ≤ room self.new + 1 }
     {
         // `len` says that no two of the determinants are the same
         let _distinct = self.entries.len();
-        let (place, before) = self.entries.insert_full(entry.det, entry.known).unwrap();
+        let (place, before) = self.entries.insert_full(*det, known).unwrap();
         match before {
             Some(before) => {
-                let united = before.union(entry.known);
+                let united = before.union(known);
                 self.entries[place] = united;
                 self.stale |= closes(before, united, self.limit);
             }
             None => {
-                self.likely_places.keep(&entry.det, place);
+                self.likely_places.keep(det, place);
+                let entry = Entry { det: *det, known };
                 push_place_if_open(&mut self.open_places, place, entry, self.limit);
             }
         }

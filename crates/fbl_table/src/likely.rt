@@ -57,10 +57,14 @@ impl LikelyPlaces {
                 .resize_with(receiver + 1, || Vec::new(alloc))?;
         }
         let places = &mut self.by_receiver[receiver];
-        if places.len() <= rsn {
-            places.resize(rsn + 1, 0)?;
+        if places.len() < rsn {
+            places.resize(rsn, 0)?;
         }
-        places[rsn] = place;
+        if places.len() == rsn {
+            places.push(place)?;
+        } else {
+            places[rsn] = place;
+        }
         Ok(())
     }
 }

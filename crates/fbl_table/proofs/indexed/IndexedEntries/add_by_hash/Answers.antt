@@ -10,7 +10,7 @@ module _ (c : After-unwrap-place) where
   es = c.args.self.now.entries.entries
 
   abbrev entry : Entry
-  entry = c.args.entry
+  entry = record { det = c.args.det.now; known = c.args.known }
 
   looked_up : lookup (same_determinant entry.det) es ≡ c.unwrap-place.result.1
   looked_up = sym (rw c.unwrap-place.ensures at c.insert_full.ensures.old)
@@ -38,17 +38,17 @@ returns-in-Some-clause-indexed c is =
     let found = looked_up at ∙ c.in-Some.is in
     let parts = or_parts old.stale c.closes.result in
     rw (written at, place at, c.union-united.ensures, inserted_over (es at) (entry at).det c.in-Some.before _ _ found)
-    (index-put old.limit (es at) _ c.in-Some.before _ (value_there (es at) (entry at).det c.in-Some.before found) (open_less old.limit c.in-Some.before c.args.entry.known)
+    (index-put old.limit (es at) _ c.in-Some.before _ (value_there (es at) (entry at).det c.in-Some.before found) (open_less old.limit c.in-Some.before c.args.known)
     _ (λ fresh. (rw c.union-united.ensures at c.closes.ensures) (parts fresh).1) old.open_places.items ((keeps_stale old _ (λ fresh. (parts fresh).0)).index is))
 
 pub returns-in-None-clause-entries : goal.returns-in-None-clause-entries
 returns-in-None-clause-entries c =
     let at = (goal.at.returns-in-None-clause-entries c).After-unwrap-place in
-    entries at c.in-None.is ∙ sym (added_new (listed c.args.self.now) c.args.entry (not_held-missing (es at) (entry at).det (looked_up at ∙ c.in-None.is)))
+    entries at c.in-None.is ∙ sym (added_new (listed c.args.self.now) (entry at) (not_held-missing (es at) (entry at).det (looked_up at ∙ c.in-None.is)))
 
 pub returns-in-None-clause-indexed : goal.returns-in-None-clause-indexed
 returns-in-None-clause-indexed c is =
     let at = (goal.at.returns-in-None-clause-indexed c).After-unwrap-place in
     let old = c.args.self.now in
     let last = place at ∙ place-missing (es at) (entry at).det (looked_up at ∙ c.in-None.is) ∙ sym (length-map (es at) entry_of) in
-    rw (entries at c.in-None.is, c.push_place_if_open.ensures.items, last) (index-push old.limit (listed old) c.args.entry old.open_places.items old.stale is)
+    rw (entries at c.in-None.is, c.push_place_if_open.ensures.items, last) (index-push old.limit (listed old) (entry at) old.open_places.items old.stale is)
