@@ -21,6 +21,6 @@ pub use check_text::{Checked, write_check};
 pub use forgotten::Forgotten;
 pub use lines::{dump_text, log_text};
 pub use overview::Overview;
-pub use reader::{RecordedInput, checked_input, read_checked, read_dump, read_recorded};
+pub use reader::{RecordedInput, read_checked, read_dump, read_recorded};
 pub use run_explanation::RunExplanation;
 pub use undone_text::UndoneReason;

@@ -190,7 +190,7 @@ pub fn read_recorded<R: Read>(alloc: Global, reader: &mut R) -> Result<RecordedI
 }
 
 /// What the input records, once its rules are checked, or the first fault.
-pub fn checked_input(alloc: Global, input: RecordedInput) -> Result<Recording, InputFault>
+fn checked_input(alloc: Global, input: RecordedInput) -> Result<Recording, InputFault>
     ensures parts { IfOk result (λ found. found ≡ recorded_parts input.recorded) }
     ensures rules { IfOk result ObeysRules }
     ensures fault { (bytes : List ℕ) → IsRecordedOf bytes input → IfErr result (IsNotChecked bytes) }
