@@ -246,7 +246,7 @@ impl<S: Copy, N: Content> MemberRec<S, N> {
         ensures { IfOk result (λ v. v.items ≡ logged_beyond self.now.log to ssn) }
     {
         let mut beyond = Vec::new(*self.log.allocator());
-        // the messages up to that number stand before it in the log
+        // they are numbered from 1: of the first `ssn` none is beyond it
         for place in ssn as usize..self.log.len() {
             let send = self.log[place];
             let number = place as u32 + 1;
