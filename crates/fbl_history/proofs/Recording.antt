@@ -17,8 +17,8 @@ use Rattle.fbl_runs.specs.declared.run.RawLog.{RawLog}
 use Rattle.fbl_group.proofs.Common.{nat_tests}
 use Rattle.fbl_history.proofs.Common.{◌≡◌, ◌∙◌, ℕ, ◌+◌, ◌<◌, List, [], ◌∷◌, ◌++◌, length, drop, Column, GroupRecord, Next, Ok, Settings}
 use Rattle.fbl_history.specs.Records.{IsLogFault, IsOfAnother, IsRecord, IsRecordOf, IsStopped, Makes, Recorded, Records, RecordsAll}
-use Rattle.fbl_history.specs.declared.record.RecordFault.{RecordFault}
-use Rattle.fbl_history.specs.declared.record.RecordFault.TheVariants as faults
+use Rattle.fbl_history.specs.declared.record.RecordRefusal.{RecordRefusal}
+use Rattle.fbl_history.specs.declared.record.RecordRefusal.TheVariants as faults
 
 -- ---- marks
 
@@ -60,35 +60,35 @@ makes old new event longer is = record {
 
 -- ---- faults
 
-pub stopped_weaker : (P Q : Type 0) → (P → Q) → (fault : RecordFault) → IsStopped P fault → IsStopped Q fault
+pub stopped_weaker : (P Q : Type 0) → (P → Q) → (fault : RecordRefusal) → IsStopped P fault → IsStopped Q fault
 stopped_weaker P Q f faults.Memory is = tt
 stopped_weaker P Q f faults.OtherHistory is = f is
 stopped_weaker P Q f x is = absurd is
 
-pub stopped_err : {T : Type 0} (r : Result T RecordFault) (fault : RecordFault) (P Q : Type 0) → (P → Q) → IsErrAnd r (λ e. e ≡ fault) → IsStopped P fault
+pub stopped_err : {T : Type 0} (r : Result T RecordRefusal) (fault : RecordRefusal) (P Q : Type 0) → (P → Q) → IsErrAnd r (λ e. e ≡ fault) → IsStopped P fault
     → IfErr r (IsStopped Q)
 stopped_err r fault P Q f failed is = (let e = err_from_is_err_and r failed in rw (e.1, e.2) (stopped_weaker P Q f fault is))
 
 module _ (next : Next ℕ Note) (config : Settings Note) (columns : List Column) where
-  of_another : (fault : RecordFault) → IsStopped (IsOfAnother next config columns) fault → IsRecord next config columns (Err fault)
+  of_another : (fault : RecordRefusal) → IsStopped (IsOfAnother next config columns) fault → IsRecord next config columns (Err fault)
   of_another faults.Memory is = tt
   of_another faults.OtherHistory is = is
   of_another x is = absurd is
 
   -- the history is of another group
-  pub another_ends : (r : Result RunParts RecordFault) (fault : RecordFault) → IsErrAnd r (λ e. e ≡ fault) → IsStopped (IsOfAnother next config columns) fault
+  pub another_ends : (r : Result RunParts RecordRefusal) (fault : RecordRefusal) → IsErrAnd r (λ e. e ≡ fault) → IsStopped (IsOfAnother next config columns) fault
       → IsRecord next config columns r
   another_ends r fault failed is = (let e = err_from_is_err_and r failed in rw (e.1, e.2) (of_another fault is))
 
-  no_log : (raw : RawLog) → IsRecordOf next config columns raw → (fault : RecordFault) → IsLogFault (parts_of_log raw) fault → IsRecord next config columns (Err fault)
+  no_log : (raw : RawLog) → IsRecordOf next config columns raw → (fault : RecordRefusal) → IsLogFault (parts_of_log raw) fault → IsRecord next config columns (Err fault)
   no_log raw made faults.Memory is = tt
   no_log raw made (faults.Refused breach) is = (raw, made, is)
   no_log raw made x is = absurd is
 
   -- the record is a log, or it is not
-  pub record_ends : (raw : RawLog) → IsRecordOf next config columns raw → (r : Result RunParts RecordFault) → IfOk r (λ run. IsLog run × (run ≡ parts_of_log raw))
+  pub record_ends : (raw : RawLog) → IsRecordOf next config columns raw → (r : Result RunParts RecordRefusal) → IfOk r (λ run. IsLog run × (run ≡ parts_of_log raw))
       → IfErr r (IsLogFault (parts_of_log raw)) → IsRecord next config columns r
   record_ends raw made (Ok run) well bad =
-      let is = IfOk-at_ok {T = RunParts} {E = RecordFault} (λ run. IsLog run × (run ≡ parts_of_log raw)) {r = Ok run} {x = run} refl well in
+      let is = IfOk-at_ok {T = RunParts} {E = RecordRefusal} (λ run. IsLog run × (run ≡ parts_of_log raw)) {r = Ok run} {x = run} refl well in
       (raw, made, is.1, is.0)
-  record_ends raw made (Err fault) well bad = no_log raw made fault (IfErr-at_err {T = RunParts} {E = RecordFault} (IsLogFault (parts_of_log raw)) {r = Err fault} {y = fault} refl bad)
+  record_ends raw made (Err fault) well bad = no_log raw made fault (IfErr-at_err {T = RunParts} {E = RecordRefusal} (IsLogFault (parts_of_log raw)) {r = Err fault} {y = fault} refl bad)

@@ -28,8 +28,8 @@ use Rattle.fbl_runs.specs.declared.entry.Entry.{Entry}
 use Rattle.fbl_runs.specs.declared.entry.Entry.TheVariants.{Event, Hold, LaterReceipt, Restart, Store, Tell, Told}
 use Rattle.fbl_runs.specs.declared.run.RawLog.{RawLog}
 use Rattle.fbl_runs.specs.Logs.{IsLog, IsLogBreach, RefusesLog, RunParts, parts_of_log}
-use Rattle.fbl_history.specs.declared.record.RecordFault.{RecordFault}
-use Rattle.fbl_history.specs.declared.record.RecordFault.TheVariants as faults
+use Rattle.fbl_history.specs.declared.record.RecordRefusal.{RecordRefusal}
+use Rattle.fbl_history.specs.declared.record.RecordRefusal.TheVariants as faults
 use Rattle.fbl_history.specs.declared.record.columns.Written.{Written}
 
 -- ---- entries
@@ -220,7 +220,7 @@ pub record IsRecordOf (next : Next ℕ Note) (config : Settings Note) (columns :
 -- ---- faults
 
 -- memory ran out, or this holds
-abbrev pub IsStopped : Type 0 → RecordFault → Type 0
+abbrev pub IsStopped : Type 0 → RecordRefusal → Type 0
 IsStopped Refused faults.Memory = Unit {0}
 IsStopped Refused faults.OtherHistory = Refused
 IsStopped Refused _ = ⊥
@@ -264,24 +264,24 @@ is_mark (Receipt to rsn from ssn state undone) = true
 is_mark _ = false
 
 -- a log has no room for so many restarts, or sends and receipts
-abbrev pub HasNoRoom : List Column → RecordFault → Type 0
+abbrev pub HasNoRoom : List Column → RecordRefusal → Type 0
 HasNoRoom columns faults.Restarts = 8 < sum_by restarts_of columns
 HasNoRoom columns faults.Marks = 8192 < count_by is_mark columns
 HasNoRoom columns _ = ⊥
 
 -- there is room, or this is the fault
-abbrev pub IsRoomFault : List Column → Option RecordFault → Type 0
+abbrev pub IsRoomFault : List Column → Option RecordRefusal → Type 0
 IsRoomFault columns None = (sum_by restarts_of columns ≤ 8) × (count_by is_mark columns ≤ 8192)
 IsRoomFault columns (Some fault) = HasNoRoom columns fault
 
 -- the record breaks a rule of logs. Of no record is that known
-abbrev pub IsLogFault : RunParts → RecordFault → Type 0
+abbrev pub IsLogFault : RunParts → RecordRefusal → Type 0
 IsLogFault run (faults.Refused breach) = (refusal : DumpRefusal) × RefusesLog run refusal × IsLogBreach run refusal breach
 IsLogFault run faults.Memory = Unit {0}
 IsLogFault run _ = ⊥
 
 -- the history has no record in a log, for this reason
-abbrev pub HasNoRecord : Next ℕ Note → Settings Note → List Column → RecordFault → Type 0
+abbrev pub HasNoRecord : Next ℕ Note → Settings Note → List Column → RecordRefusal → Type 0
 HasNoRecord next config columns (faults.Refused breach) =
     (raw : RawLog) × IsRecordOf next config columns raw × IsLogFault (parts_of_log raw) (faults.Refused breach)
 HasNoRecord next config columns faults.OtherHistory = IsOfAnother next config columns
@@ -289,7 +289,7 @@ HasNoRecord next config columns faults.Memory = ⊥
 HasNoRecord next config columns fault = HasNoRoom columns fault
 
 -- the answer is the record of the history, which is a log; or the history has none, for this reason; or there was no memory
-abbrev pub IsRecord : Next ℕ Note → Settings Note → List Column → Result RunParts RecordFault → Type 0
+abbrev pub IsRecord : Next ℕ Note → Settings Note → List Column → Result RunParts RecordRefusal → Type 0
 IsRecord next config columns (Ok run) = (raw : RawLog) × IsRecordOf next config columns raw × (run ≡ parts_of_log raw) × IsLog run
 IsRecord next config columns (Err faults.Memory) = Unit {0}
 IsRecord next config columns (Err fault) = HasNoRecord next config columns fault

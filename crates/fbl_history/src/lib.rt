@@ -15,5 +15,5 @@ mod turns;
 pub use column::{Column, Replay};
 pub use counts::{receipts_made, receipts_undone};
 pub use history::History;
-pub use record::{RecordFault, record_of};
+pub use record::{RecordRefusal, record_of};
 pub use shape::{ArrowKind, Glyph, GlyphKind, LineKind, ReceiptKind, Shape, Status};

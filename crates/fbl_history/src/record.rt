@@ -17,7 +17,7 @@ use thiserror::Error;
 
 /// Why a history has no record.
 #[derive(Clone, Copy, Debug, Error)]
-pub enum RecordFault {
+pub enum RecordRefusal {
     /// There is no memory.
     #[error("memory")]
     Memory,
@@ -35,14 +35,14 @@ pub enum RecordFault {
     OtherHistory,
 }
 
-impl From<AllocError> for RecordFault {
+impl From<AllocError> for RecordRefusal {
     ghost use Rattle.std.specs.Prelude.{◌≡◌};
-    ghost use Rattle.fbl_history.specs.declared.record.RecordFault.TheVariants.{Memory};
+    ghost use Rattle.fbl_history.specs.declared.record.RecordRefusal.TheVariants.{Memory};
 
     ghost from_gives = { λ _ e. e ≡ Memory };
 
-    fn from(_e: AllocError) -> RecordFault {
-        RecordFault::Memory
+    fn from(_e: AllocError) -> RecordRefusal {
+        RecordRefusal::Memory
     }
 }
 
@@ -79,27 +79,27 @@ fn has_few_restarts(columns: &[Column]) -> bool
 }
 
 /// Why a log has no room for the history, if it has none.
-fn room_fault(columns: &[Column]) -> Option<RecordFault>
+fn room_fault(columns: &[Column]) -> Option<RecordRefusal>
     ensures { IsRoomFault columns.now result }
 {
     if !has_few_restarts(columns) {
-        return Some(RecordFault::Restarts);
+        return Some(RecordRefusal::Restarts);
     }
     if columns.iter().filter(|column| is_mark(column)).count() > MOST_EVENTS as usize {
-        return Some(RecordFault::Marks);
+        return Some(RecordRefusal::Marks);
     }
     None
 }
 
 /// The record as a run, if it is a log.
-fn checked(alloc: Global, raw: RawLog) -> Result<Run, RecordFault>
+fn checked(alloc: Global, raw: RawLog) -> Result<Run, RecordRefusal>
     ensures log { IfOk result (λ run. IsLog run × (run ≡ parts_of_log raw)) }
     ensures refused { IfErr result (IsLogFault (parts_of_log raw)) }
 {
     match checked_log(alloc, raw) {
         Ok(run) => Ok(run),
-        Err((DumpRefusal::Memory, _)) => Err(RecordFault::Memory),
-        Err((_, breach)) => Err(RecordFault::Refused(breach)),
+        Err((DumpRefusal::Memory, _)) => Err(RecordRefusal::Memory),
+        Err((_, breach)) => Err(RecordRefusal::Refused(breach)),
     }
 }
 
@@ -111,7 +111,7 @@ pub fn record_of<B: Behaviour<State = u64, Note = Note>>(
     alloc: Global,
     config: Config,
     columns: &[Column],
-) -> Result<Run, RecordFault>
+) -> Result<Run, RecordRefusal>
     ensures { IsRecord B.next config columns.now result }
 {
     if let Some(fault) = room_fault(columns) {

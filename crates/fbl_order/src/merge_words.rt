@@ -1,11 +1,11 @@
 //! What is told of files that record no run together: the line of the fault, and its explanation.
 
 ghost use Rattle.std.specs.Prelude.{◌≡◌, [], IfOk, length, map};
-ghost use Rattle.fbl_order.specs.Together.{lengths_of};
+ghost use Rattle.fbl_order.specs.Recordings.{lengths_of};
 
 use crate::fault::{Obstacle, OrderFault, Stuck};
 use crate::files::{FilesDiffer, first_outsider};
-use crate::together::{MergeFault, Together};
+use crate::recordings::{MergeFault, Recordings};
 use fbl_dumps::{DumpRefusal, RawDump};
 use fbl_runs::{InFile, LogBreach, RawLog, Sources, Spot};
 use fbl_trace::{Breach, MemberSet, PairFault};
@@ -91,14 +91,14 @@ impl<'a> InputFiles<'a> {
     pub fn of(
         alloc: Global,
         names: &'a [&'a str],
-        together: &Together,
+        recordings: &Recordings,
     ) -> Result<InputFiles<'a>, AllocError>
         ensures names { IfOk result (λ files. files.names.now ≡ names.now) }
-        ensures lengths { IfOk result (λ files. files.events.items ≡ lengths_of together.now) }
+        ensures lengths { IfOk result (λ files. files.events.items ≡ lengths_of recordings.now) }
     {
-        match together {
-            Together::Dumps(dumps) => InputFiles::of_dumps(alloc, names, dumps.as_slice()),
-            Together::Logs(logs) => InputFiles::of_logs(alloc, names, logs.as_slice()),
+        match recordings {
+            Recordings::Dumps(dumps) => InputFiles::of_dumps(alloc, names, dumps.as_slice()),
+            Recordings::Logs(logs) => InputFiles::of_logs(alloc, names, logs.as_slice()),
         }
     }
 

@@ -4,7 +4,7 @@ use Rattle.std.specs.Prelude.{min}
 use Rattle.fbl_runs.proofs.Listing.{locate_all, seen_mono, seen-later, seen-other, seen-own, some_entry}
 use Rattle.fbl_runs.specs.HappenedBefore.{at}
 use Rattle.fbl_runs.specs.Moments.{Cut}
-use Rattle.fbl_pictures.specs.declared.run.crossings.Pass.{Pass}
+use Rattle.fbl_pictures.specs.declared.run.crossings.Crossings.{Crossings}
 
 -- ---- columns that are set
 
@@ -74,7 +74,7 @@ module _ (entries : List Entry) (cut : Cut) (p : ℕ) (e : Entry) (m : ℕ) (her
         subst (λ (o : Option ℕ). IsBeyond entries cut (p + 1) q o) (sym (put_kept old new m (Some p) sets q apart)) (beyond_kept q (column_in old q) (are q within) (λ none' same. absurd (apart same)))
   ]
 
-  pub pass_more : (old new : Pass) → m < 16 → HasPassed entries cut p old → new.counts ≡ set old.counts m (get_or old.counts m 0 + 1) → IsEnd entries cut (p + 1) new.end
+  pub pass_more : (old new : Crossings) → m < 16 → HasPassed entries cut p old → new.counts ≡ set old.counts m (get_or old.counts m 0 + 1) → IsEnd entries cut (p + 1) new.end
       → ((q : ℕ) → q < 16 → IsBeyond entries cut (p + 1) q (column_in new.beyond q)) → HasPassed entries cut (p + 1) new
   pass_more old new below passed is end beyond = record {
     room = ap length is ∙ length-set old.counts m (get_or old.counts m 0 + 1) ∙ passed.room;

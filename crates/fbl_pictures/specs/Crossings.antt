@@ -6,7 +6,7 @@ use Rattle.fbl_runs.specs.Entries.{entry_member}
 use Rattle.fbl_runs.specs.HappenedBefore.{Position}
 use Rattle.fbl_runs.specs.Moments.{Cut, HasCome}
 use Rattle.fbl_pictures.specs.declared.run.columns.Columns.{Columns}
-use Rattle.fbl_pictures.specs.declared.run.crossings.Pass.{Pass}
+use Rattle.fbl_pictures.specs.declared.run.crossings.Crossings.{Crossings}
 use Rattle.fbl_pictures.specs.Columns.{column_in}
 
 -- the place is behind each of the first p entries that has come
@@ -44,7 +44,7 @@ IsBeyond entries cut p member (Some place) =
     (place < p) × (seen entries place member ≡ cut member) × ((e : Entry) × (slice_get entries place ≡ Some e) × (entry_member e ≡ member))
 
 -- the pass has seen the first p entries
-pub record HasPassed (entries : List Entry) (cut : Cut) (p : ℕ) (pass : Pass) : Type 0 where
+pub record HasPassed (entries : List Entry) (cut : Cut) (p : ℕ) (pass : Crossings) : Type 0 where
   pub room : length pass.counts ≡ 16
   pub counts : (q : ℕ) → q < 16 → slice_index pass.counts q ≡ seen entries p q
   pub end : IsEnd entries cut p pass.end

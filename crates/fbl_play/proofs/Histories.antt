@@ -13,7 +13,7 @@ use Rattle.fbl_history.specs.Traces.{go_on_to, start_columns}
 use Rattle.fbl_history.specs.declared.column.Column.TheVariants.{Checkpoint}
 use Rattle.fbl_scripts.specs.declared.answer.Answer.TheVariants as answers
 use Rattle.fbl_play.specs.Steps.{CheckpointBy, DeliveryBy, IsRecovered, IsRefused, IsRunAnswer, StrikeBy}
-use Rattle.fbl_scripts.specs.declared.reason.Reason.{Reason}
+use Rattle.fbl_scripts.specs.declared.reason.RefusalReason.{RefusalReason}
 use Rattle.fbl_play.specs.Transcripts.{history, text, GoesOn}
 use Rattle.fbl_scripts.specs.declared.script.Command.TheVariants as commands
 use Rattle.fbl_threads.specs.declared.drains.DrainRefusal.TheVariants as drain
@@ -73,7 +73,7 @@ module _ (next : Next ℕ Note) (workers : ℕ) (old new : GroupRecord ℕ Note)
 
   module _ (well : SendsWell next) (sound : IsSound next old) (columns after : List Column) (told : IsHistoryOf next old columns) where
     -- a refused command adds nothing, and the group is as it was
-    still : (answer : Answer) (command refusal : List ℕ) (why : Reason) → new ≡ old → IsRefused command refusal why answer → GoesOn next new answer columns after → IsHistoryOf next new after
+    still : (answer : Answer) (command refusal : List ℕ) (why : RefusalReason) → new ≡ old → IsRefused command refusal why answer → GoesOn next new answer columns after → IsHistoryOf next new after
     still (answers.Refusal c r reason) command refusal why same is goes = rw (goes, same) told
     still _ command refusal why same is goes = absurd is
 

@@ -16,8 +16,8 @@ use Rattle.fbl_scripts.specs.declared.script.Command.{Command}
 use Rattle.fbl_scripts.specs.Scripts.{Outline, IsScriptOf, IsScriptFault}
 use Rattle.fbl_history.specs.Records.{IsRecord}
 use Rattle.fbl_history.specs.declared.column.Column.{Column}
-use Rattle.fbl_history.specs.declared.record.RecordFault.{RecordFault}
-use Rattle.fbl_history.specs.declared.record.RecordFault.TheVariants as faults
+use Rattle.fbl_history.specs.declared.record.RecordRefusal.{RecordRefusal}
+use Rattle.fbl_history.specs.declared.record.RecordRefusal.TheVariants as faults
 use Rattle.fbl_runs.specs.Logs.{RunParts}
 use Rattle.fbl_scripts.specs.declared.answer.Answer.{Answer}
 use Rattle.fbl_play.specs.Steps.{Step}
@@ -124,7 +124,7 @@ module _ {O : Type 0} (before : GroupRecord ℕ Note → Transcript → O → Co
   IsHistoryPlay workers s old new (Err e) = (has : Transcript) × PlaysScript workers s (history None) has old new (Err outputs.Memory)
 
   -- the answer is the record of a history of a run of the script, or that history has none; or there was no memory
-  abbrev pub IsRecordPlay : ℕ → Outline → O → O → Result RunParts RecordFault → Type 0
+  abbrev pub IsRecordPlay : ℕ → Outline → O → O → Result RunParts RecordRefusal → Type 0
   IsRecordPlay workers s old new (Err faults.Memory) = Unit {0}
   IsRecordPlay workers s old new result =
       (columns : List Column) × PlaysScript workers s (history None) (history (Some columns)) old new (Ok tt)

@@ -29,12 +29,12 @@ use Rattle.fbl_threads.specs.Drains.{RecordedDrains}
 use Rattle.fbl_threads.specs.Names.{drain_name}
 use Rattle.fbl_scripts.specs.declared.answer.Answer.{Answer}
 use Rattle.fbl_scripts.specs.declared.answer.Answer.TheVariants as answers
-use Rattle.fbl_scripts.specs.declared.reason.Reason.{Reason}
-use Rattle.fbl_scripts.specs.declared.reason.Reason.TheVariants.{NotDown}
+use Rattle.fbl_scripts.specs.declared.reason.RefusalReason.{RefusalReason}
+use Rattle.fbl_scripts.specs.declared.reason.RefusalReason.TheVariants.{NotDown}
 use Rattle.fbl_scripts.specs.Reasons.{checkpoint_reason, deliver_reason, no_such_member, strike_reason, IsRunReason}
 
 -- the answer is the refusal with this name of the command with that name, for this reason
-abbrev pub IsRefused : List ℕ → List ℕ → Reason → Answer → Type 0
+abbrev pub IsRefused : List ℕ → List ℕ → RefusalReason → Answer → Type 0
 IsRefused command refusal reason (answers.Refusal c r why) = (c.now ≡ command) × (r.now ≡ refusal) × (why ≡ reason)
 IsRefused command refusal reason _ = ⊥
 
@@ -96,7 +96,7 @@ IsRunAnswer plan made undone now (Ok recorded) answer =
     (recorded.drained.memory ≡ false) × (answer ≡ answers.Run recorded made now.receipts_ever undone now.undone_ever)
 IsRunAnswer plan made undone now (Err drain.Memory) answer = ⊥
 IsRunAnswer plan made undone now (Err refusal) answer =
-    (reason : Reason) × IsRunReason plan now refusal reason × IsRefused (codes "run") (drain_name refusal) reason answer
+    (reason : RefusalReason) × IsRunReason plan now refusal reason × IsRefused (codes "run") (drain_name refusal) reason answer
 
 -- how many turns each worker of a run may take
 abbrev pub turns_each : ℕ

@@ -10,8 +10,8 @@ ghost use Rattle.fbl_play.specs.Steps.{CheckpointStep, DeliverStep, HasMembers, 
 
 use fbl_group::{CheckpointRefusal, DeliverRefusal, DumpGroupRefusal, Group, RecoverRefusal};
 use fbl_scripts::{
-    Answer, Command, Plan, Reason, checkpoint_reason, deliver_reason, no_such_member, run_reason,
-    strike_reason,
+    Answer, Command, Plan, RefusalReason, checkpoint_reason, deliver_reason, no_such_member,
+    run_reason, strike_reason,
 };
 use fbl_threads::{DrainRefusal, NoGate, RecordedDrain, drain_recorded};
 use fbl_trace::{Behaviour, Determinant, Member, MemberSet, Note, Strike};
@@ -127,7 +127,7 @@ fn run_recover<B: Behaviour<State = u64, Note = Note>>(
         Err(refusal) => Ok(Answer::Refusal {
             command: "recover",
             refusal: refusal.name(),
-            reason: Reason::NotDown,
+            reason: RefusalReason::NotDown,
         }),
     }
 }

@@ -6,7 +6,7 @@ ghost use Rattle.fbl_play.specs.Plays.{IsRecordPlay, next_of};
 
 use crate::engine::history_of_script;
 use crate::observer::Observer;
-use fbl_history::{Column, RecordFault, record_of};
+use fbl_history::{Column, RecordRefusal, record_of};
 use fbl_runs::Run;
 use fbl_scripts::{BehaviourName, Script};
 use fbl_trace::{Config, Mix, Relay};
@@ -20,7 +20,7 @@ fn record_by_name(
     behaviour: BehaviourName,
     config: Config,
     columns: &[Column],
-) -> Result<Run, RecordFault>
+) -> Result<Run, RecordRefusal>
     ensures { IsRecord (next_of behaviour) config columns.now result }
 {
     match behaviour {
@@ -39,7 +39,7 @@ pub fn record_of_script<T: Threads + Wait + Sync, O: Observer>(
     script: Script,
     workers: u8,
     observer: &mut O,
-) -> Result<Run, RecordFault>
+) -> Result<Run, RecordRefusal>
     ensures { IsRecordPlay O.observes_before O.observes_after workers (outline script) observer.old observer.new result }
 {
     let config = script.config.copy()?;

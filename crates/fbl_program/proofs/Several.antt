@@ -4,12 +4,12 @@ use Rattle.std.specs.Prelude.{slice_get, take}
 use Rattle.clap.specs.Words.{Text}
 use Rattle.fbl_runs.specs.declared.recording.RawRecording.{RawRecording}
 use Rattle.fbl_runs.specs.declared.recording.RawRecording.TheVariants as raws
-use Rattle.fbl_order.specs.declared.together.MergeFault.TheVariants as faults
-use Rattle.fbl_order.specs.declared.together.Together.{Together}
-use Rattle.fbl_order.specs.declared.together.Together.TheVariants.{Dumps, Logs}
-use Rattle.fbl_order.specs.Together.{AreTogether, RefusesMerge, count_of}
+use Rattle.fbl_order.specs.declared.recordings.MergeFault.TheVariants as faults
+use Rattle.fbl_order.specs.declared.recordings.Recordings.{Recordings}
+use Rattle.fbl_order.specs.declared.recordings.Recordings.TheVariants.{Dumps, Logs}
+use Rattle.fbl_order.specs.Recordings.{AreRecordings, RefusesMerge, count_of}
 use Rattle.fbl_records.specs.Logs.{IsNotRecorded}
-use Rattle.fbl_program.specs.Jobs.{IsUnrecorded, Known, NotTogether, RecordTogether, Records}
+use Rattle.fbl_program.specs.Jobs.{IsUnrecorded, Known, NotTogether, AreRecordingsOf, Records}
 use Rattle.fbl_input.specs.declared.input_fault.InputFault.{InputFault}
 use Rattle.fbl_order.specs.declared.files.FilesDiffer.TheVariants as differ
 use Rattle.fbl_program.specs.Statuses.{fault_status}
@@ -93,19 +93,19 @@ not_empty f [] y ys is = absurd (cc)
 not_empty f (x ∷ xs) y ys is = omega arith
 
 -- what some files record together are some dumps or logs
-pub some_together : (input : Text → Known) (names : List (Bor Text)) (together : Together) → 0 < length names
-    → RecordTogether (map input (map (λ n. n.now) names)) together → 0 < count_of together
-some_together input [] together some is = absurd (omega (arith, some))
-some_together input (n ∷ ns) (Dumps dumps) some ([], zip, is) = absurd zip
-some_together input (n ∷ ns) (Dumps dumps) some (r ∷ rs, zip, is) = not_empty raws.Dump dumps.items r rs is
-some_together input (n ∷ ns) (Logs logs) some (found, zip, is) = is.0
+pub some_recordings : (input : Text → Known) (names : List (Bor Text)) (recordings : Recordings) → 0 < length names
+    → AreRecordingsOf (map input (map (λ n. n.now) names)) recordings → 0 < count_of recordings
+some_recordings input [] recordings some is = absurd (omega (arith, some))
+some_recordings input (n ∷ ns) (Dumps dumps) some ([], zip, is) = absurd zip
+some_recordings input (n ∷ ns) (Dumps dumps) some (r ∷ rs, zip, is) = not_empty raws.Dump dumps.items r rs is
+some_recordings input (n ∷ ns) (Logs logs) some (found, zip, is) = is.0
 
 -- so is what one file records
-pub one_together : (recorded : RawRecording) (together : Together) → AreTogether (recorded ∷ []) together → 0 < count_of together
-one_together recorded (Dumps dumps) is = not_empty raws.Dump dumps.items recorded [] is
-one_together recorded (Logs logs) is = is.0
+pub one_recording : (recorded : RawRecording) (recordings : Recordings) → AreRecordings (recorded ∷ []) recordings → 0 < count_of recordings
+one_recording recorded (Dumps dumps) is = not_empty raws.Dump dumps.items recorded [] is
+one_recording recorded (Logs logs) is = is.0
 
 -- memory may run out for what they are together
-pub short_of_memory : (together : Together) → RefusesMerge together (faults.Files differ.Memory)
+pub short_of_memory : (recordings : Recordings) → RefusesMerge recordings (faults.Files differ.Memory)
 short_of_memory (Dumps dumps) = inl refl
 short_of_memory (Logs logs) = inl refl

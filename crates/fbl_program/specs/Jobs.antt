@@ -6,9 +6,9 @@ use Rattle.clap.specs.Words.{Text}
 use Rattle.fbl_input.specs.declared.input_fault.InputFault.{InputFault}
 use Rattle.fbl_records.specs.Logs.{IsNotRecorded, recorded_of_input}
 use Rattle.fbl_runs.specs.Recordings.{recorded_parts}
-use Rattle.fbl_order.specs.Together.{AreTogether, RefusesVersions}
-use Rattle.fbl_order.specs.declared.together.MergeFault.{MergeFault}
-use Rattle.fbl_order.specs.declared.together.Together.{Together}
+use Rattle.fbl_order.specs.Recordings.{AreRecordings, RefusesVersions}
+use Rattle.fbl_order.specs.declared.recordings.MergeFault.{MergeFault}
+use Rattle.fbl_order.specs.declared.recordings.Recordings.{Recordings}
 use Rattle.fbl_runs.specs.declared.recording.RawRecording.{RawRecording}
 use Rattle.fbl_program.specs.declared.command_line.Misuse.{Misuse}
 use Rattle.fbl_program.specs.declared.job.Job.{Job}
@@ -34,8 +34,8 @@ abbrev pub IsUnrecorded : Known → ℕ → Type 0
 IsUnrecorded file status = IsChannelStatus status ⊎ IfSome file (λ input. (fault : InputFault) × IsNotRecorded input fault × (status ≡ fault_status fault.fault))
 
 -- the files record dumps, or logs: these, in their order
-abbrev pub RecordTogether : List Known → Together → Type 0
-RecordTogether files together = (found : List RawRecording) × AllZip Records files found × AreTogether found together
+abbrev pub AreRecordingsOf : List Known → Recordings → Type 0
+AreRecordingsOf files recordings = (found : List RawRecording) × AllZip Records files found × AreRecordings found recordings
 
 -- the first of the files that records nothing, or what they record has two versions, or memory ran out: this is the exit status
 abbrev pub NotTogether : List Known → ℕ → Type 0
@@ -69,7 +69,7 @@ module _ (input output : Text → Known) (settled : Text → Known → ℕ → �
   abbrev pub EndsSeveral : Bool → RunTask → List Text → Text → ℕ → Type 0
   EndsSeveral true task names place status = status ≡ 2
   EndsSeveral false task names place status =
-      ((together : Together) × RecordTogether (map input names) together × EndsAt place (EndsMerged task together names) status)
+      ((recordings : Recordings) × AreRecordingsOf (map input names) recordings × EndsAt place (EndsMerged task recordings names) status)
       ⊎ NotTogether (map input names) status
 
   -- several files are named, this one first: a script is in one

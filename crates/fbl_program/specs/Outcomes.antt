@@ -4,7 +4,7 @@ use Rattle.std.specs.Io.KnownBytes.{Keeps}
 use Rattle.std.specs.List.{list_any}
 use Rattle.fbl_history.specs.Records.{HasNoRecord, IsRecord}
 use Rattle.fbl_history.specs.declared.column.Column.{Column}
-use Rattle.fbl_history.specs.declared.record.RecordFault.{RecordFault}
+use Rattle.fbl_history.specs.declared.record.RecordRefusal.{RecordRefusal}
 use Rattle.fbl_input.specs.Faults.{OverInput, PutsOut, run_result}
 use Rattle.fbl_input.specs.declared.fault.RunFault.{RunFault}
 use Rattle.fbl_input.specs.declared.input_fault.InputFault.{InputFault}
@@ -24,11 +24,11 @@ use Rattle.fbl_records.specs.Lines.{audit_lines}
 use Rattle.fbl_records.specs.LogLines.{log_line}
 use Rattle.fbl_records.specs.Logs.{IsCheckedOf, IsNotChecked, IsNotRecorded, recorded_of_input}
 use Rattle.fbl_runs.specs.Recordings.{recorded_parts}
-use Rattle.fbl_order.specs.Together.{AreTogether, IsMergeOf, RefusesMerge, lengths_of}
+use Rattle.fbl_order.specs.Recordings.{AreRecordings, IsMergeOf, RefusesMerge, lengths_of}
 use Rattle.fbl_records.specs.Texts.{IsChecked, IsCheckText, says_nothing}
 use Rattle.fbl_records.specs.declared.check_text.Checked.{Checked}
-use Rattle.fbl_order.specs.declared.together.MergeFault.{MergeFault}
-use Rattle.fbl_order.specs.declared.together.Together.{Together}
+use Rattle.fbl_order.specs.declared.recordings.MergeFault.{MergeFault}
+use Rattle.fbl_order.specs.declared.recordings.Recordings.{Recordings}
 use Rattle.fbl_runs.specs.declared.recording.Recording.{Recording}
 use Rattle.fbl_runs.specs.declared.recording.Recording.TheVariants as checked
 use Rattle.fbl_runs.specs.declared.recording.RawRecording.{RawRecording}
@@ -67,7 +67,7 @@ IsRecorded workers s told =
 -- a history of the script has no record in a log
 abbrev pub HasNoLog : ℕ → Outline → Type 0
 HasNoLog workers s =
-    (columns : List Column) × (fault : RecordFault) × PlaysUnobserved workers s (history None) (history (Some columns)) (Ok tt)
+    (columns : List Column) × (fault : RecordRefusal) × PlaysUnobserved workers s (history None) (history (Some columns)) (Ok tt)
     × HasNoRecord (next_of s.behaviour) s.config columns fault
 
 -- what is done with the script, and whether all is well
@@ -140,22 +140,22 @@ abbrev pub IsRefused : MergeFault → Option (List ℕ) → Option (List ℕ) �
 IsRefused fault before after status = Keeps before after × (status ≡ merge_status fault)
 
 -- these are the files with these names in which the events of the merged run stand
-pub record AreSourcesOf (together : Together) (merged : Ordered Recording) (names : List (List ℕ)) (sources : Sources) : Type 0 where
+pub record AreSourcesOf (recordings : Recordings) (merged : Ordered Recording) (names : List (List ℕ)) (sources : Sources) : Type 0 where
   pub names_are : map (λ name. name.now) sources.names.now ≡ names
-  pub lengths : sources.lengths.now ≡ lengths_of together
+  pub lengths : sources.lengths.now ≡ lengths_of recordings
   pub places : sources.places.now ≡ merged.places.items
 
 -- what is left in the writer, and the exit status, where this is done with what the files with these names record together, if that is a run
-abbrev pub EndsMerged : RunTask → Together → List (List ℕ) → Option (List ℕ) → Option (List ℕ) → ℕ → Type 0
-EndsMerged task together names before after status =
-    ((merged : Ordered Recording) × IsMergeOf together merged × (sources : Sources) × AreSourcesOf together merged names sources
+abbrev pub EndsMerged : RunTask → Recordings → List (List ℕ) → Option (List ℕ) → Option (List ℕ) → ℕ → Type 0
+EndsMerged task recordings names before after status =
+    ((merged : Ordered Recording) × IsMergeOf recordings merged × (sources : Sources) × AreSourcesOf recordings merged names sources
     × EndsWith task merged.run sources before after status)
-    ⊎ ((fault : MergeFault) × RefusesMerge together fault × IsRefused fault before after status)
+    ⊎ ((fault : MergeFault) × RefusesMerge recordings fault × IsRefused fault before after status)
 
 -- the same of the one dump or log, unless memory runs out
 abbrev pub EndsRecorded : RunTask → RawRecording → Option (List ℕ) → Option (List ℕ) → ℕ → Type 0
 EndsRecorded task recorded before after status =
-    ((together : Together) × AreTogether (recorded ∷ []) together × EndsMerged task together [] before after status)
+    ((recordings : Recordings) × AreRecordings (recorded ∷ []) recordings × EndsMerged task recordings [] before after status)
     ⊎ (Keeps before after × (status ≡ 4))
 
 -- the fault of an input is told: nothing is written

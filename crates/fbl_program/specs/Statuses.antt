@@ -5,8 +5,8 @@ use Rattle.fbl_input.specs.declared.fault.RunFault.{RunFault}
 use Rattle.fbl_input.specs.declared.fault.RunFault.TheVariants as faults
 use Rattle.fbl_order.specs.declared.fault.OrderFault.TheVariants as orders
 use Rattle.fbl_order.specs.declared.files.FilesDiffer.TheVariants as files
-use Rattle.fbl_order.specs.declared.together.MergeFault.{MergeFault}
-use Rattle.fbl_order.specs.declared.together.MergeFault.TheVariants as merges
+use Rattle.fbl_order.specs.declared.recordings.MergeFault.{MergeFault}
+use Rattle.fbl_order.specs.declared.recordings.MergeFault.TheVariants as merges
 
 -- 3 where a read or a write failed, 4 where memory ran out, and else 2
 abbrev pub fault_status : RunFault → ℕ

@@ -1,7 +1,7 @@
 //! Jobs done: the named files are read, what is asked for is done with what they have, and the text goes to the named file.
 
 ghost use Rattle.std.specs.Prelude.{◌≡◌, ◌<◌, IfErr, IfOk, IfSome, length, map};
-ghost use Rattle.fbl_program.specs.Jobs.{EndsJob, EndsOne, EndsSeveral, IsUnrecorded, NotTogether, RecordTogether, Records, is_input_again};
+ghost use Rattle.fbl_program.specs.Jobs.{EndsJob, EndsOne, EndsSeveral, IsUnrecorded, NotTogether, AreRecordingsOf, Records, is_input_again};
 ghost use Rattle.fbl_program.specs.Outcomes.{EndsTask};
 ghost use Rattle.fbl_program.specs.declared.job.Task.TheVariants.{Run, Script};
 
@@ -13,7 +13,7 @@ use crate::status::{INPUT_FAULT, end, fail};
 use crate::streams::{Named, Streams};
 use crate::teller::{refuse_input, refuse_merge};
 use fbl_input::RunFault;
-use fbl_order::{InputFiles, Together, in_one_version};
+use fbl_order::{InputFiles, Recordings, in_one_version};
 use fbl_records::{read_checked, read_recorded};
 use fbl_runs::RawRecording;
 use fbl_scripts::read_script;
@@ -119,8 +119,8 @@ fn files_at<T: Eprint, S: Streams>(
     streams: &S,
     explain: bool,
     names: &[&str],
-) -> Result<Together, u8>
-    ensures together { IfOk result (RecordTogether (map (S.input streams.now) (map (λ name. name.now) names.now))) }
+) -> Result<Recordings, u8>
+    ensures recordings { IfOk result (AreRecordingsOf (map (S.input streams.now) (map (λ name. name.now) names.now))) }
     ensures refused { IfErr result (NotTogether (map (S.input streams.now) (map (λ name. name.now) names.now))) }
 {
     let mut files = Vec::new(alloc);

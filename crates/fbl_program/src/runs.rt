@@ -3,7 +3,7 @@
 ghost use Rattle.std.specs.Prelude.{◌≡◌, ◌<◌, [], IfOk, map, string_bytes};
 ghost use Rattle.fbl_input.specs.Faults.{PutsOut};
 ghost use Rattle.fbl_judge.specs.Audits.{AreNamed};
-ghost use Rattle.fbl_order.specs.Together.{count_of};
+ghost use Rattle.fbl_order.specs.Recordings.{count_of};
 ghost use Rattle.fbl_records.specs.Texts.{IsChecked};
 ghost use Rattle.fbl_program.specs.Outcomes.{Answers, EndsMerged, EndsRecorded, EndsWith, IsAnswer, IsAnswerTo, IsPlaceMissing, IsPlaceMissingOf, run_line, run_of};
 
@@ -16,7 +16,7 @@ use crate::teller::refuse_merge;
 use fbl_input::shapes::LONGEST;
 use fbl_input::{OutputFault, RunFault, put};
 use fbl_judge::{LostReceipt, Pasts, audit_of};
-use fbl_order::{InputFiles, Together, merge_of};
+use fbl_order::{InputFiles, Recordings, merge_of};
 use fbl_pictures::{column_count, write_run_picture};
 use fbl_records::{Checked, RunExplanation, dump_text, log_text, write_audit, write_check};
 use fbl_runs::{RawRecording, Recording, Run, Sources};
@@ -225,19 +225,19 @@ pub(crate) fn end_merged<T: Eprint, W: Write>(
     alloc: Global,
     task: RunTask<'_>,
     explain: bool,
-    together: &Together,
+    recordings: &Recordings,
     names: &[&str],
     writer: &mut Named<'_, W>,
 ) -> u8
-    requires { 0 < count_of together.now }
-    ensures { EndsMerged task.entry together.now (map (λ name. name.now) names.now)
+    requires { 0 < count_of recordings.now }
+    ensures { EndsMerged task.entry recordings.now (map (λ name. name.now) names.now)
         (W.contents writer.old.stream) (W.contents writer.new.stream) result }
 {
-    let files = match InputFiles::of(alloc, names, together) {
+    let files = match InputFiles::of(alloc, names, recordings) {
         Ok(files) => files,
         Err(_) => return fail(rt, RunFault::Memory, None),
     };
-    match merge_of(alloc, together) {
+    match merge_of(alloc, recordings) {
         Ok(merged) => {
             let sources = files.sources(merged.places.as_slice());
             end_run(rt, alloc, task, explain, &merged.run, &sources, writer)
@@ -257,8 +257,8 @@ pub(crate) fn end_recorded<T: Eprint, W: Write>(
 ) -> u8
     ensures { EndsRecorded task.entry recorded (W.contents writer.old.stream) (W.contents writer.new.stream) result }
 {
-    match Together::of(alloc, recorded) {
-        Ok(together) => end_merged(rt, alloc, task, explain, &together, &[], writer),
+    match Recordings::of(alloc, recorded) {
+        Ok(recordings) => end_merged(rt, alloc, task, explain, &recordings, &[], writer),
         Err(_) => fail(rt, RunFault::Memory, None),
     }
 }

@@ -10,7 +10,7 @@ use crate::fault::AnswerFault;
 use crate::job::ScriptTask;
 use crate::runs::write_line;
 use crate::teller::Teller;
-use fbl_history::RecordFault;
+use fbl_history::RecordRefusal;
 use fbl_input::OutputFault;
 use fbl_pictures::write_history_picture;
 use fbl_play::{history_of_script, play_script, record_of_script};
@@ -38,7 +38,7 @@ fn record<T: Eprint + Threads + Wait + Sync, W: Write>(
             write_line(rt, line.as_str(), writer)?;
             Ok(true)
         }
-        Err(RecordFault::Memory) => Err(AnswerFault::Output(OutputFault::Memory)),
+        Err(RecordRefusal::Memory) => Err(AnswerFault::Output(OutputFault::Memory)),
         Err(fault) => {
             let _ = eprintln!(rt; "fault: {fault}");
             Err(AnswerFault::Refused)

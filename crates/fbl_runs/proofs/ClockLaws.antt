@@ -9,7 +9,7 @@ use Rattle.fbl_runs.proofs.Common.{Begins, Carries, Causality, Cut, Dependence, 
 use Rattle.fbl_runs.specs.declared.links.Link.{Link}
 use Rattle.fbl_runs.specs.Clocks.{StandsAt, seen}
 use Rattle.fbl_runs.specs.Links.{AreLinks, AreOfOneLife, IsLastPlace, IsLink, IsMessageOf, IsPlaceOf}
-use Rattle.fbl_runs.specs.Precedence.{AreBelow, HasColumn, IsAmong, IsBelow, IsClock, IsJoined, IsPast, IsSourceClock, message_taken, reached_cut, sources_of}
+use Rattle.fbl_runs.specs.Precedence.{AreBelow, HasColumn, IsAmong, IsBelow, IsClock, IsJoined, IsPast, IsPredecessorClock, message_taken, reached_cut, predecessors_of}
 use Rattle.fbl_runs.specs.Rules.{AreLawful}
 use Rattle.fbl_runs.proofs.ControlLaws.{told_before}
 use Rattle.fbl_runs.proofs.LeadsLaws.{are_told, begins_before, begins_one, carried, carries_one, earlier_before, here_stands, leads_before, one_place_of, one_position, same_position, stands_somewhere, tells_one, there_at}
@@ -193,7 +193,7 @@ module _ (entries : List Entry) (links : List Link) (are : AreLinks entries link
 
   -- what the one of the place brings
   brought_last : (c : Causality) (S : Position → Type 0) (P : Position → Position → Type 0) (o : Option ℕ) (cut : Cut) → ((k i : Position) → P k i → Leads c (log_of entries) k i)
-      → IsLastPlace entries S P o → IsSourceClock c entries links o cut → IsBrought c entries links S cut
+      → IsLastPlace entries S P o → IsPredecessorClock c entries links o cut → IsBrought c entries links S cut
   brought_last c S P None cut leads last clock = brought_none c entries links S cut last clock
   brought_last c S P (Some place) cut leads last clock = brought_one c entries links S cut last.0 last.2 (λ l at_l. elim (last.3 l at_l) [
     | inl same ↦ subst (λ (x : Position). Precedes c (log_of entries) x last.0) (sym same) (itself (there_at entries place last.0 last.1).1)
@@ -201,33 +201,33 @@ module _ (entries : List Entry) (links : List Link) (are : AreLinks entries link
   ]) (clock last.0 last.1)
 
   module _ (j : Position) (e : Entry) (here : IsAt (log_of entries) j e) (link : Link) (is : IsLink entries j link) where
-    order_place : (c : Causality) → IsLastPlace entries (ByOrder c (log_of entries) j) (λ k i. ByOrder c (log_of entries) i k) (sources_of c e link).before
+    order_place : (c : Causality) → IsLastPlace entries (ByOrder c (log_of entries) j) (λ k i. ByOrder c (log_of entries) i k) (predecessors_of c e link).before
     order_place HappenedBefore = is.previous
     order_place Dependence = is.stood
 
-    message_place : (c : Causality) → IsPlaceOf entries (ByMessage c (log_of entries) j) (sources_of c e link).message
+    message_place : (c : Causality) → IsPlaceOf entries (ByMessage c (log_of entries) j) (predecessors_of c e link).message
     message_place HappenedBefore = is.message
     message_place Dependence = taken_place entries j e (receipt_in e) link.message here refl is.message
 
-    restart_place : (c : Causality) → IsPlaceOf entries (ByRestart c (log_of entries) j) (sources_of c e link).begins
+    restart_place : (c : Causality) → IsPlaceOf entries (ByRestart c (log_of entries) j) (predecessors_of c e link).begins
     restart_place HappenedBefore = is.begins
     restart_place Dependence = λ k none. none
 
     -- so its clock is found by those of what leads to it
-    pub clock_joined : (c : Causality) (number : ℕ) (base cut : Cut) → HasColumn c entries links j number → IsJoined c entries links (sources_of c e link) base
+    pub clock_joined : (c : Causality) (number : ℕ) (base cut : Cut) → HasColumn c entries links j number → IsJoined c entries links (predecessors_of c e link) base
         → ((q : ℕ) → cut q ≡ reached_cut base number (j.number + 1) q) → IsClock c entries links j cut
     clock_joined c number base cut has joined reached =
         let logs = log_of entries in
         clock_next c entries links j (ByOrder c logs j) (ByMessage c logs j) (ByRestart c logs j) number joined.0 joined.1 joined.2 cut has (own_before c j number e here has) (ways c logs j)
-        (brought_last c (ByOrder c logs j) (λ k i. ByOrder c logs i k) (sources_of c e link).before joined.0 (λ k i own. (ways c logs i k).1 (inl own)) (order_place c) joined.3)
-        (brought_last c (ByMessage c logs j) (λ k i. ⊥) (sources_of c e link).message joined.1 (λ k i none. absurd none) (message_place c) joined.4)
-        (brought_last c (ByRestart c logs j) (λ k i. ⊥) (sources_of c e link).begins joined.2 (λ k i none. absurd none) (restart_place c) joined.5)
+        (brought_last c (ByOrder c logs j) (λ k i. ByOrder c logs i k) (predecessors_of c e link).before joined.0 (λ k i own. (ways c logs i k).1 (inl own)) (order_place c) joined.3)
+        (brought_last c (ByMessage c logs j) (λ k i. ⊥) (predecessors_of c e link).message joined.1 (λ k i none. absurd none) (message_place c) joined.4)
+        (brought_last c (ByRestart c logs j) (λ k i. ⊥) (predecessors_of c e link).begins joined.2 (λ k i none. absurd none) (restart_place c) joined.5)
         (λ q. reached q ∙ ap (λ k. max k (cond (q == number) (j.number + 1) 0)) (joined.6 q))
         (λ q at_q. one_column c j q number at_q has)
 
     -- what leads to it in its member's log stands among the ones before it
-    pub before_among : (c : Causality) → IsAmong entries (sources_of c e link).before j.number
-    before_among c place i some stands = among c (sources_of c e link).before (order_place c) place i some stands where
+    pub before_among : (c : Causality) → IsAmong entries (predecessors_of c e link).before j.number
+    before_among c place i some stands = among c (predecessors_of c e link).before (order_place c) place i some stands where
       earlier : (c : Causality) (k : Position) → ByOrder c (log_of entries) j k → k.number < j.number
       earlier HappenedBefore k own = own.5
       earlier Dependence k own = own.0.5
@@ -249,11 +249,11 @@ module _ (entries : List Entry) (links : List Link) (are : AreLinks entries link
           let before = leads_before n entries lawful c x p last.0 j last.1 stands (leads last.0 last.2) in
           omega (arith, before, at_x)
 
-      pub sources_below : (c : Causality) → AreBelow p (sources_of c e link)
-      sources_below c = (
-        place_below c (ByOrder c (log_of entries) j) (λ k i. ByOrder c (log_of entries) i k) (sources_of c e link).before (λ k own. (ways c (log_of entries) j k).1 (inl own)) (order_place c),
-        place_below c (ByMessage c (log_of entries) j) (λ k i. ⊥) (sources_of c e link).message (λ k m. (ways c (log_of entries) j k).1 (inr (inl m))) (message_place c),
-        place_below c (ByRestart c (log_of entries) j) (λ k i. ⊥) (sources_of c e link).begins (λ k b. (ways c (log_of entries) j k).1 (inr (inr b))) (restart_place c),
+      pub predecessors_below : (c : Causality) → AreBelow p (predecessors_of c e link)
+      predecessors_below c = (
+        place_below c (ByOrder c (log_of entries) j) (λ k i. ByOrder c (log_of entries) i k) (predecessors_of c e link).before (λ k own. (ways c (log_of entries) j k).1 (inl own)) (order_place c),
+        place_below c (ByMessage c (log_of entries) j) (λ k i. ⊥) (predecessors_of c e link).message (λ k m. (ways c (log_of entries) j k).1 (inr (inl m))) (message_place c),
+        place_below c (ByRestart c (log_of entries) j) (λ k i. ⊥) (predecessors_of c e link).begins (λ k b. (ways c (log_of entries) j k).1 (inr (inr b))) (restart_place c),
       )
 
 -- ---- each entry has a past

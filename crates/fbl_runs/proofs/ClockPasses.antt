@@ -4,11 +4,11 @@ use Rattle.fbl_runs.proofs.Common.{nat_tests, cases_eq, cases_lt, At-push, lengt
 use Rattle.fbl_runs.proofs.Common.{Causality, Cut, Dependence, Entry, HappenedBefore, Position, Precedes, at, entry_member, log_of}
 use Rattle.fbl_runs.specs.declared.clock.Clock.{Clock}
 use Rattle.fbl_runs.specs.declared.clocks.Clocks.{Clocks}
-use Rattle.fbl_runs.specs.declared.clocks.Sources.{Sources}
+use Rattle.fbl_runs.specs.declared.clocks.Predecessors.{Predecessors}
 use Rattle.fbl_runs.specs.declared.links.Link.{Link}
 use Rattle.fbl_runs.specs.Clocks.{StandsAt, cut_of, seen}
 use Rattle.fbl_runs.specs.Links.{AreLinks}
-use Rattle.fbl_runs.specs.Precedence.{AreBelow, AreClocks, HasColumn, HasSeen, IsAmong, IsBelow, IsClock, IsEntryClock, IsJoined, IsPast, IsSourceClock, Shares, arrival_at, arrival_in, column, cut_in, kept_cut, reached_cut, sources_of}
+use Rattle.fbl_runs.specs.Precedence.{AreBelow, AreClocks, HasColumn, HasSeen, IsAmong, IsBelow, IsClock, IsEntryClock, IsJoined, IsPast, IsPredecessorClock, Shares, arrival_at, arrival_in, column, cut_in, kept_cut, reached_cut, predecessors_of}
 use Rattle.fbl_runs.proofs.ClockLaws.{before_among, clock_joined}
 use Rattle.fbl_runs.proofs.LeadsLaws.{one_position}
 use Rattle.fbl_runs.proofs.Listing.{seen-le, some_item, stands_at}
@@ -50,14 +50,14 @@ module _ (c : Causality) (entries : List Entry) (links : List Link) (are : AreLi
     (has : HasSeen c entries links p old) (e : Entry) (here : slice_get entries p ≡ Some e) (link : Link) (there : slice_get links p ≡ Some link)
     (number : ℕ) (is_number : number ≡ column c e link) (room : number < 24) (arrival : Option ℕ) (more : List Clock) (grown : new.kept.items ≡ old.kept.items ++ more)
     (within : IsBelow (length new.kept.items) arrival)
-    (clock : (count : ℕ) → IsAmong entries (sources_of c e link).before count
-    → (cut : Cut) × IsJoined c entries links (sources_of c e link) cut × ((q : ℕ) → reached_cut (kept_cut new.kept.items arrival) number count q ≡ reached_cut cut number count q))
+    (clock : (count : ℕ) → IsAmong entries (predecessors_of c e link).before count
+    → (cut : Cut) × IsJoined c entries links (predecessors_of c e link) cut × ((q : ℕ) → reached_cut (kept_cut new.kept.items arrival) number count q ≡ reached_cut cut number count q))
     (causality : new.causality ≡ old.causality) (columns : new.columns.items ≡ old.columns.items ++ number ∷ []) (arrivals : new.arrivals.items ≡ old.arrivals.items ++ arrival ∷ []) where
   this : (j : Position) → StandsAt entries p j → IsEntryClock c entries links new.kept.items j number arrival
   this j stands =
       let at_j = stands_at entries p j e stands here in
       let is = are.each p j link stands there in
-      let among : IsAmong entries (sources_of c e link).before (j.number + 1) = λ place i some at_i. (let less = before_among entries links are j e at_j link is c place i some at_i in omega (arith, less)) in
+      let among : IsAmong entries (predecessors_of c e link).before (j.number + 1) = λ place i some at_i. (let less = before_among entries links are j e at_j link is c place i some at_i in omega (arith, less)) in
       let w = clock (j.number + 1) among in
       let counted : HasColumn c entries links j number = subst (HasColumn c entries links j) (sym is_number) (has_column c entries links p j e link stands here there) in
       record {
@@ -158,16 +158,16 @@ module _ (c : Causality) (entries : List Entry) (links : List Link) (are : AreLi
       (seen_at place j.0 number.0 j.1 number.1).within
 
   -- where the clock is the one of the entry before
-  pub shared : (sources : Sources) (number count : ℕ) → Shares clocks sources number → AreBelow p sources → IsAmong entries sources.before count
-      → (cut : Cut) × IsJoined c entries links sources cut
-      × ((q : ℕ) → reached_cut (kept_cut clocks.kept.items (arrival_at clocks.arrivals.items sources.before)) number count q ≡ reached_cut cut number count q)
-  shared sources number count shares below among = by_before sources.before refl where
+  pub shared : (predecessors : Predecessors) (number count : ℕ) → Shares clocks predecessors number → AreBelow p predecessors → IsAmong entries predecessors.before count
+      → (cut : Cut) × IsJoined c entries links predecessors cut
+      × ((q : ℕ) → reached_cut (kept_cut clocks.kept.items (arrival_at clocks.arrivals.items predecessors.before)) number count q ≡ reached_cut cut number count q)
+  shared predecessors number count shares below among = by_before predecessors.before refl where
     nothing : Cut
     nothing q = 0
 
-    none_source : (o : Option ℕ) → o ≡ None → IsSourceClock c entries links o nothing
-    none_source None none = λ q. refl
-    none_source (Some place) none = absurd cc
+    none_predecessor : (o : Option ℕ) → o ≡ None → IsPredecessorClock c entries links o nothing
+    none_predecessor None none = λ q. refl
+    none_predecessor (Some place) none = absurd cc
 
     alone : (k : ℕ) → k ≡ max (max k 0) 0
     alone k = grind arith
@@ -175,12 +175,12 @@ module _ (c : Causality) (entries : List Entry) (links : List Link) (are : AreLi
     longer : (k number count less q : ℕ) → less < count → max k (cond (q == number) count 0) ≡ max (max k (cond (q == number) (less + 1) 0)) (cond (q == number) count 0)
     longer k number count less q below = grind (arith, nat_tests)
 
-    by_before : (o : Option ℕ) → sources.before ≡ o
-        → (cut : Cut) × IsJoined c entries links sources cut
-        × ((q : ℕ) → reached_cut (kept_cut clocks.kept.items (arrival_at clocks.arrivals.items sources.before)) number count q ≡ reached_cut cut number count q)
+    by_before : (o : Option ℕ) → predecessors.before ≡ o
+        → (cut : Cut) × IsJoined c entries links predecessors cut
+        × ((q : ℕ) → reached_cut (kept_cut clocks.kept.items (arrival_at clocks.arrivals.items predecessors.before)) number count q ≡ reached_cut cut number count q)
     by_before None none = (
       nothing,
-      (nothing, nothing, nothing, none_source sources.before none, none_source sources.message shares.0, none_source sources.begins shares.1, λ q. refl),
+      (nothing, nothing, nothing, none_predecessor predecessors.before none, none_predecessor predecessors.message shares.0, none_predecessor predecessors.begins shares.1, λ q. refl),
       λ q. ap (λ o. reached_cut (kept_cut clocks.kept.items (arrival_at clocks.arrivals.items o)) number count q) none,
     )
     by_before (Some place) some =
@@ -190,9 +190,9 @@ module _ (c : Causality) (entries : List Entry) (links : List Link) (are : AreLi
         let is = seen_at place j.0 number j.1 (shares.2 place some) in
         let kept = kept_cut clocks.kept.items (arrival_at clocks.arrivals.items (Some place)) in
         let cut : Cut = reached_cut kept number (j.0.number + 1) in
-        let clock : IsSourceClock c entries links (Some place) cut = λ i stands. subst (λ (k : Position). IsClock c entries links k cut) (one_position entries place j.0 i j.1 stands) is.clock in (
+        let clock : IsPredecessorClock c entries links (Some place) cut = λ i stands. subst (λ (k : Position). IsClock c entries links k cut) (one_position entries place j.0 i j.1 stands) is.clock in (
           cut,
-          (cut, nothing, nothing, subst (λ (o : Option ℕ). IsSourceClock c entries links o cut) (sym some) clock, none_source sources.message shares.0, none_source sources.begins shares.1, λ q. alone (cut q)),
+          (cut, nothing, nothing, subst (λ (o : Option ℕ). IsPredecessorClock c entries links o cut) (sym some) clock, none_predecessor predecessors.message shares.0, none_predecessor predecessors.begins shares.1, λ q. alone (cut q)),
           λ q. ap (λ o. reached_cut (kept_cut clocks.kept.items (arrival_at clocks.arrivals.items o)) number count q) some ∙ longer (kept q) number count j.0.number q (among place j.0 some j.1),
         )
 

@@ -6,7 +6,7 @@ use Rattle.fbl_runs.specs.declared.causality.Causality.TheVariants.{Dependence, 
 use Rattle.fbl_runs.specs.declared.clock.Clock.{Clock}
 use Rattle.fbl_runs.specs.declared.entry.Entry.{Entry}
 use Rattle.fbl_runs.specs.declared.clocks.Clocks.{Clocks}
-use Rattle.fbl_runs.specs.declared.clocks.Sources.{Sources}
+use Rattle.fbl_runs.specs.declared.clocks.Predecessors.{Predecessors}
 use Rattle.fbl_runs.specs.declared.links.Link.{Link}
 use Rattle.fbl_runs.specs.Clocks.{StandsAt, cut_of}
 use Rattle.fbl_runs.specs.Entries.{entry_member, log_of, receipt_in}
@@ -42,27 +42,27 @@ message_taken (Some d) message = message
 
 -- the places of what leads to an entry at once: in its member's log the last one, with a message, and from the restart that begins the life
 -- that it names
-abbrev pub sources_of : Causality → Entry → Link → Sources
-sources_of HappenedBefore e link = record { before = link.previous; message = link.message; begins = link.begins }
-sources_of Dependence e link = record { before = link.stood; message = message_taken (receipt_in e) link.message; begins = None }
+abbrev pub predecessors_of : Causality → Entry → Link → Predecessors
+predecessors_of HappenedBefore e link = record { before = link.previous; message = link.message; begins = link.begins }
+predecessors_of Dependence e link = record { before = link.stood; message = message_taken (receipt_in e) link.message; begins = None }
 
 -- the cut is the clock of the entry at the place, if there is one, and else has nothing
-abbrev pub IsSourceClock : Causality → List Entry → List Link → Option ℕ → Cut → Type 0
-IsSourceClock c entries links None cut = (q : ℕ) → cut q ≡ 0
-IsSourceClock c entries links (Some place) cut = (i : Position) → StandsAt entries place i → IsClock c entries links i cut
+abbrev pub IsPredecessorClock : Causality → List Entry → List Link → Option ℕ → Cut → Type 0
+IsPredecessorClock c entries links None cut = (q : ℕ) → cut q ≡ 0
+IsPredecessorClock c entries links (Some place) cut = (i : Position) → StandsAt entries place i → IsClock c entries links i cut
 
 -- the cut has what the clocks of these have
-abbrev pub IsJoined : Causality → List Entry → List Link → Sources → Cut → Type 0
-IsJoined c entries links sources cut =
-    (a : Cut) × (b : Cut) × (d : Cut) × IsSourceClock c entries links sources.before a × IsSourceClock c entries links sources.message b
-    × IsSourceClock c entries links sources.begins d × ((q : ℕ) → cut q ≡ max (max (a q) (b q)) (d q))
+abbrev pub IsJoined : Causality → List Entry → List Link → Predecessors → Cut → Type 0
+IsJoined c entries links predecessors cut =
+    (a : Cut) × (b : Cut) × (d : Cut) × IsPredecessorClock c entries links predecessors.before a × IsPredecessorClock c entries links predecessors.message b
+    × IsPredecessorClock c entries links predecessors.begins d × ((q : ℕ) → cut q ≡ max (max (a q) (b q)) (d q))
 
 -- these are among the first p
 abbrev pub IsBelow : ℕ → Option ℕ → Type 0
 IsBelow p o = (place : ℕ) → o ≡ Some place → place < p
 
-abbrev pub AreBelow : ℕ → Sources → Type 0
-AreBelow p sources = IsBelow p sources.before × IsBelow p sources.message × IsBelow p sources.begins
+abbrev pub AreBelow : ℕ → Predecessors → Type 0
+AreBelow p predecessors = IsBelow p predecessors.before × IsBelow p predecessors.message × IsBelow p predecessors.begins
 
 -- the entry at the place, if there is one, stands among its member's first ones, so many
 abbrev pub IsAmong : List Entry → Option ℕ → ℕ → Type 0
@@ -99,9 +99,9 @@ pub record IsEntryClock (c : Causality) (entries : List Entry) (links : List Lin
 
 -- an entry that is counted with the number has the clock that is kept of the one before it: nothing else leads to it, and that one, if there
 -- is one, is counted with the number too
-abbrev pub Shares : Clocks → Sources → ℕ → Type 0
-Shares clocks sources number =
-    (sources.message ≡ None) × (sources.begins ≡ None) × ((place : ℕ) → sources.before ≡ Some place → slice_get clocks.columns.items place ≡ Some number)
+abbrev pub Shares : Clocks → Predecessors → ℕ → Type 0
+Shares clocks predecessors number =
+    (predecessors.message ≡ None) × (predecessors.begins ≡ None) × ((place : ℕ) → predecessors.before ≡ Some place → slice_get clocks.columns.items place ≡ Some number)
 
 -- the pass has seen the first p entries: it knows their clocks
 pub record HasSeen (c : Causality) (entries : List Entry) (links : List Link) (p : ℕ) (clocks : Clocks) : Type 0 where

@@ -5,7 +5,7 @@ ghost use Rattle.fbl_runs.specs.Clocks.{StandsAt, cut_of};
 ghost use Rattle.fbl_runs.specs.Entries.{log_of};
 ghost use Rattle.fbl_runs.specs.HappenedBefore.{Position, Precedes};
 ghost use Rattle.fbl_runs.specs.Links.{AreLinks};
-ghost use Rattle.fbl_runs.specs.Precedence.{AreBelow, AreClocks, HasSeen, IsAmong, IsBelow, IsJoined, IsPast, IsSourceClock, Shares, arrival_at, column, kept_cut, reached_cut, sources_of};
+ghost use Rattle.fbl_runs.specs.Precedence.{AreBelow, AreClocks, HasSeen, IsAmong, IsBelow, IsJoined, IsPast, IsPredecessorClock, Shares, arrival_at, column, kept_cut, reached_cut, predecessors_of};
 ghost use Rattle.fbl_runs.specs.Moments.{Cut};
 ghost use Rattle.fbl_runs.specs.Rules.{AreLawful};
 ghost use Rattle.fbl_runs.specs.declared.causality.Causality.TheVariants.{HappenedBefore};
@@ -18,9 +18,9 @@ use crate::index::Index;
 use crate::links::Link;
 use std::alloc::{AllocError, Global};
 
-/// The places of the entries that lead to an entry at once.
+/// The immediate predecessors of an entry, by their places.
 #[derive(Clone, Copy)]
-pub(crate) struct Sources {
+pub(crate) struct Predecessors {
     /// The last one in its member's log.
     before: Option<usize>,
     /// The one whose message, or control message, it takes.
@@ -30,16 +30,16 @@ pub(crate) struct Sources {
 }
 
 /// What leads to the entry at once.
-fn sources_to(causality: Causality, entry: &Entry, link: &Link) -> Sources
-    ensures { result ≡ sources_of causality entry.now link.now }
+fn predecessors_of(causality: Causality, entry: &Entry, link: &Link) -> Predecessors
+    ensures { result ≡ predecessors_of causality entry.now link.now }
 {
     match causality {
-        Causality::HappenedBefore => Sources {
+        Causality::HappenedBefore => Predecessors {
             before: link.previous,
             message: link.message,
             begins: link.begins,
         },
-        Causality::Dependence => Sources {
+        Causality::Dependence => Predecessors {
             before: link.stood,
             message: match entry.receipt() {
                 Some(_) => link.message,
@@ -118,24 +118,24 @@ impl Clocks {
     }
 
     /// Whether an entry that is counted with the number has the clock that is kept of the one before it.
-    fn shares(&self, sources: &Sources, column: u8) -> bool
-        ensures { (result ≡ true) ↔ Shares self.now sources.now column }
+    fn shares(&self, predecessors: &Predecessors, column: u8) -> bool
+        ensures { (result ≡ true) ↔ Shares self.now predecessors.now column }
     {
-        if sources.message.is_some() || sources.begins.is_some() {
+        if predecessors.message.is_some() || predecessors.begins.is_some() {
             return false;
         }
-        match sources.before {
+        match predecessors.before {
             Some(before) => self.is_counted(before, column),
             None => true,
         }
     }
 
     /// The clock of the entry at the place, if there is one, and else that of nothing.
-    fn source(&self, links: &[Link], place: Option<usize>) -> Clock
+    fn predecessor_clock(&self, links: &[Link], place: Option<usize>) -> Clock
         requires { (entries : _) × (p : ℕ) × AreLinks entries links.now
             × HasSeen self.now.causality entries links.now p self.now × IsBelow p place }
         ensures { (entries : _) (p : ℕ) → AreLinks entries links.now → HasSeen self.now.causality entries links.now p self.now
-            → IsBelow p place → IsSourceClock self.now.causality entries links.now place (cut_of result) }
+            → IsBelow p place → IsPredecessorClock self.now.causality entries links.now place (cut_of result) }
     {
         match place {
             Some(place) => self.reached(place, self.columns[place], links[place].number + 1),
@@ -144,27 +144,27 @@ impl Clocks {
     }
 
     /// Joins the clock with that of the entry at the place, if there is one.
-    fn join_source(&self, clock: &mut Clock, links: &[Link], place: Option<usize>)
+    fn join_predecessor(&self, clock: &mut Clock, links: &[Link], place: Option<usize>)
         requires { (entries : _) × (p : ℕ) × AreLinks entries links.now
             × HasSeen self.now.causality entries links.now p self.now × IsBelow p place }
         ensures { (entries : _) (p : ℕ) → AreLinks entries links.now → HasSeen self.now.causality entries links.now p self.now
             → IsBelow p place
-            → (cut : Cut) × IsSourceClock self.now.causality entries links.now place cut
+            → (cut : Cut) × IsPredecessorClock self.now.causality entries links.now place cut
             × ((q : ℕ) → cut_of clock.new q ≡ max (cut_of clock.old q) (cut q)) }
     {
-        clock.join(&self.source(links, place));
+        clock.join(&self.predecessor_clock(links, place));
     }
 
     /// The clock of what leads to an entry at once.
-    fn joined(&self, links: &[Link], sources: &Sources) -> Clock
+    fn joined(&self, links: &[Link], predecessors: &Predecessors) -> Clock
         requires { (entries : _) × (p : ℕ) × AreLinks entries links.now
-            × HasSeen self.now.causality entries links.now p self.now × AreBelow p sources.now }
+            × HasSeen self.now.causality entries links.now p self.now × AreBelow p predecessors.now }
         ensures { (entries : _) (p : ℕ) → AreLinks entries links.now → HasSeen self.now.causality entries links.now p self.now
-            → AreBelow p sources.now → IsJoined self.now.causality entries links.now sources.now (cut_of result) }
+            → AreBelow p predecessors.now → IsJoined self.now.causality entries links.now predecessors.now (cut_of result) }
     {
-        let mut clock = self.source(links, sources.before);
-        self.join_source(&mut clock, links, sources.message);
-        self.join_source(&mut clock, links, sources.begins);
+        let mut clock = self.predecessor_clock(links, predecessors.before);
+        self.join_predecessor(&mut clock, links, predecessors.message);
+        self.join_predecessor(&mut clock, links, predecessors.begins);
         clock
     }
 
@@ -173,26 +173,26 @@ impl Clocks {
     fn arrive(
         &mut self,
         links: &[Link],
-        sources: &Sources,
+        predecessors: &Predecessors,
         column: u8,
     ) -> Result<Option<usize>, AllocError>
         requires { (entries : _) × (p : ℕ) × AreLinks entries links.now
-            × HasSeen self.old.causality entries links.now p self.old × AreBelow p sources.now }
+            × HasSeen self.old.causality entries links.now p self.old × AreBelow p predecessors.now }
         ensures grown { OnOk result ((more : List Clock) × (self.new.kept.items ≡ self.old.kept.items ++ more)) }
         ensures within { IfOk result (IsBelow (length self.new.kept.items)) }
         ensures clock { IfOk result (λ arrival. (entries : _) (p count : ℕ) → AreLinks entries links.now
-            → HasSeen self.old.causality entries links.now p self.old → AreBelow p sources.now → IsAmong entries sources.now.before count
-            → (cut : Cut) × IsJoined self.old.causality entries links.now sources.now cut
+            → HasSeen self.old.causality entries links.now p self.old → AreBelow p predecessors.now → IsAmong entries predecessors.now.before count
+            → (cut : Cut) × IsJoined self.old.causality entries links.now predecessors.now cut
             × ((q : ℕ) → reached_cut (kept_cut self.new.kept.items arrival) column count q ≡ reached_cut cut column count q)) }
         ensures rest { OnOk result
             ((self.new.causality ≡ self.old.causality) × (self.new.columns ≡ self.old.columns)
             × (self.new.arrivals ≡ self.old.arrivals)) }
     {
-        if self.shares(sources, column) {
-            return Ok(self.arrival(sources.before));
+        if self.shares(predecessors, column) {
+            return Ok(self.arrival(predecessors.before));
         }
         let place = self.kept.len();
-        let clock = self.joined(links, sources);
+        let clock = self.joined(links, predecessors);
         self.kept.push(clock)?;
         Ok(Some(place))
     }
@@ -208,8 +208,8 @@ impl Clocks {
         let entry = &entries[place];
         let link = &links[place];
         let column = column_of(self.causality, entry, link);
-        let sources = sources_to(self.causality, entry, link);
-        let arrival = self.arrive(links, &sources, column)?;
+        let predecessors = predecessors_of(self.causality, entry, link);
+        let arrival = self.arrive(links, &predecessors, column)?;
         self.columns.push(column)?;
         self.arrivals.push(arrival)?;
         Ok(())

@@ -18,8 +18,8 @@ use Rattle.fbl_threads.specs.declared.drains.DrainRefusal.{DrainRefusal}
 use Rattle.fbl_threads.specs.declared.drains.DrainRefusal.TheVariants as drain
 use Rattle.fbl_scripts.specs.declared.answer.Answer.{Answer}
 use Rattle.fbl_scripts.specs.declared.answer.Answer.TheVariants as answers
-use Rattle.fbl_scripts.specs.declared.reason.Reason.{Reason}
-use Rattle.fbl_scripts.specs.declared.reason.Reason.TheVariants as reasons
+use Rattle.fbl_scripts.specs.declared.reason.RefusalReason.{RefusalReason}
+use Rattle.fbl_scripts.specs.declared.reason.RefusalReason.TheVariants as reasons
 
 -- whether the command was refused
 abbrev pub is_refusal : Answer → Bool
@@ -27,29 +27,29 @@ is_refusal (answers.Refusal command refusal reason) = true
 is_refusal _ = false
 
 -- the command names these members, of which the group has not all
-abbrev pub no_such_member : GroupRecord ℕ Note → Members → Reason
+abbrev pub no_such_member : GroupRecord ℕ Note → Members → RefusalReason
 no_such_member r named = reasons.NoSuchMember (record { named = named; members = r.config.members })
 
 -- why nothing was delivered to the one member from the other
-abbrev pub deliver_reason : GroupRecord ℕ Note → ℕ → ℕ → DeliverRefusal → Reason
+abbrev pub deliver_reason : GroupRecord ℕ Note → ℕ → ℕ → DeliverRefusal → RefusalReason
 deliver_reason r to from deliver.BadMember = no_such_member r (set.insert (set.insert set.empty to) from)
 deliver_reason r to from deliver.Down = reasons.Down r.down
 deliver_reason r to from deliver.Empty = reasons.NothingInFlight from to
 deliver_reason r to from _ = reasons.Full (length r.trace) r.config.limit
 
 -- why these members were not struck
-abbrev pub strike_reason : GroupRecord ℕ Note → Members → StrikeRefusal → Reason
+abbrev pub strike_reason : GroupRecord ℕ Note → Members → StrikeRefusal → RefusalReason
 strike_reason r struck strike.BadMember = no_such_member r struck
 strike_reason r struck strike.Nobody = reasons.Nobody
 strike_reason r struck strike.TooMany = reasons.TooMany (set.union struck r.down) r.config.f
 
 -- why no checkpoint of the member was taken
-abbrev pub checkpoint_reason : GroupRecord ℕ Note → ℕ → CheckpointRefusal → Reason
+abbrev pub checkpoint_reason : GroupRecord ℕ Note → ℕ → CheckpointRefusal → RefusalReason
 checkpoint_reason r p checkpoint.BadMember = no_such_member r (set.insert set.empty p)
 checkpoint_reason r p _ = reasons.Down r.down
 
 -- why workers with this plan did not run; of a bad plan, its first bad entry and the first rule that this breaks
-abbrev pub IsRunReason : List Strike → GroupRecord ℕ Note → DrainRefusal → Reason → Type 0
+abbrev pub IsRunReason : List Strike → GroupRecord ℕ Note → DrainRefusal → RefusalReason → Type 0
 IsRunReason plan r (drain.BadPlan place) reason = (fault : PlanFault) × IsPlanFault plan r.config fault × (reason ≡ reasons.BadPlan fault)
 IsRunReason plan r drain.Down reason = reason ≡ reasons.Down r.down
 IsRunReason plan r drain.BadWorkers reason = reason ≡ reasons.BadWorkers

@@ -15,8 +15,8 @@ use Rattle.fbl_turns.specs.declared.counted.Drained.{Drained}
 use Rattle.fbl_scripts.specs.declared.answer.Answer.{Answer}
 use Rattle.fbl_scripts.specs.declared.answer.Answer.TheVariants as answers
 use Rattle.fbl_scripts.specs.declared.answer.Totals.{Totals}
-use Rattle.fbl_scripts.specs.declared.reason.Reason.{Reason}
-use Rattle.fbl_scripts.specs.declared.reason.Reason.TheVariants.{BadPlan}
+use Rattle.fbl_scripts.specs.declared.reason.RefusalReason.{RefusalReason}
+use Rattle.fbl_scripts.specs.declared.reason.RefusalReason.TheVariants.{BadPlan}
 
 -- what is said of each of so many members, from the first one on
 abbrev pub of_members : (ℕ → List ℕ) → ℕ → List ℕ
@@ -56,7 +56,7 @@ abbrev pub end_word : Drained → List ℕ
 end_word d = if d.quiet then codes "quiet" else (if d.full then codes "full" else codes "stopped")
 
 -- a refused command, by its name and the refusal's; a plan with the place of its bad entry
-abbrev pub refusal_line : List ℕ → List ℕ → Reason → List ℕ
+abbrev pub refusal_line : List ℕ → List ℕ → RefusalReason → List ℕ
 refusal_line command refusal (BadPlan fault) = line (command ∷ codes " refused " ∷ refusal ∷ codes " " ∷ decimal fault.place ∷ [])
 refusal_line command refusal reason = line (command ∷ codes " refused " ∷ refusal ∷ [])
 

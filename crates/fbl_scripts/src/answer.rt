@@ -7,7 +7,7 @@ ghost use Rattle.fbl_scripts.specs.Texts.{AreTotals, IsReport, IsText, delivery_
 ghost use Rattle.fbl_input.specs.Lines.{line};
 ghost use Rattle.fbl_input.specs.Lines.{set_words};
 
-use crate::reason::Reason;
+use crate::reason::RefusalReason;
 use fbl_base::audit::{Dump, audit_of};
 use fbl_group::{DumpGroupRefusal, Group, Receipted, Recovered, Struck};
 use fbl_input::set_text;
@@ -59,7 +59,7 @@ pub enum Answer {
     Refusal {
         command: &'static str,
         refusal: &'static str,
-        reason: Reason,
+        reason: RefusalReason,
     },
 }
 
@@ -164,12 +164,12 @@ fn refusal_text(
     alloc: Global,
     command: &str,
     refusal: &str,
-    reason: &Reason,
+    reason: &RefusalReason,
 ) -> Result<String, AllocError>
     ensures { IfOk result (λ text. string_bytes text ≡ refusal_line command.now refusal.now reason.now) }
 {
     match reason {
-        Reason::BadPlan(PlanFault { place, .. }) => {
+        RefusalReason::BadPlan(PlanFault { place, .. }) => {
             format!(in alloc; "{command} refused {refusal} {place}\n")
         }
         _ => format!(in alloc; "{command} refused {refusal}\n"),

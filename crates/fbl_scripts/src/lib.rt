@@ -12,7 +12,7 @@ mod script_reader;
 
 pub use answer::Answer;
 pub use reason::{
-    NamedMembers, Reason, checkpoint_reason, deliver_reason, no_such_member, run_reason,
+    NamedMembers, RefusalReason, checkpoint_reason, deliver_reason, no_such_member, run_reason,
     strike_reason,
 };
 pub use remark::Remark;

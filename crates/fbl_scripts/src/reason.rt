@@ -36,7 +36,7 @@ fn too_many<W: fmt::Write>(down: &MemberSet, f: &u8, to: &mut fmt::Formatter<W>)
 
 /// Why a command is refused, with the numbers of the group as it was then.
 #[derive(Clone, Copy, Debug, Error)]
-pub enum Reason {
+pub enum RefusalReason {
     /// The command names a member that the group has not.
     #[error("{0}")]
     NoSuchMember(NamedMembers),
@@ -79,10 +79,10 @@ pub enum Reason {
 pub fn no_such_member<B: Behaviour<State = u64, Note = Note>>(
     group: &Group<B>,
     named: MemberSet,
-) -> Reason
+) -> RefusalReason
     ensures { result ≡ no_member_of group.now named }
 {
-    Reason::NoSuchMember(NamedMembers {
+    RefusalReason::NoSuchMember(NamedMembers {
         named,
         members: group.config().members(),
     })
@@ -94,14 +94,14 @@ pub fn deliver_reason<B: Behaviour<State = u64, Note = Note>>(
     to: Member,
     from: Member,
     refusal: DeliverRefusal,
-) -> Reason
+) -> RefusalReason
     ensures { result ≡ deliver_reason_of group.now to from refusal }
 {
     match refusal {
         DeliverRefusal::BadMember => no_such_member(group, MemberSet::empty().with(to).with(from)),
-        DeliverRefusal::Down => Reason::Down(group.down()),
-        DeliverRefusal::Empty => Reason::NothingInFlight { from, to },
-        DeliverRefusal::Full | DeliverRefusal::Memory => Reason::Full {
+        DeliverRefusal::Down => RefusalReason::Down(group.down()),
+        DeliverRefusal::Empty => RefusalReason::NothingInFlight { from, to },
+        DeliverRefusal::Full | DeliverRefusal::Memory => RefusalReason::Full {
             events: group.trace().len(),
             limit: group.config().limit(),
         },
@@ -113,13 +113,13 @@ pub fn strike_reason<B: Behaviour<State = u64, Note = Note>>(
     group: &Group<B>,
     set: MemberSet,
     refusal: StrikeRefusal,
-) -> Reason
+) -> RefusalReason
     ensures { result ≡ strike_reason_of group.now set refusal }
 {
     match refusal {
         StrikeRefusal::BadMember => no_such_member(group, set),
-        StrikeRefusal::Nobody => Reason::Nobody,
-        StrikeRefusal::TooMany => Reason::TooMany {
+        StrikeRefusal::Nobody => RefusalReason::Nobody,
+        StrikeRefusal::TooMany => RefusalReason::TooMany {
             down: set.union(group.down()),
             f: group.config().f(),
         },
@@ -131,12 +131,12 @@ pub fn checkpoint_reason<B: Behaviour<State = u64, Note = Note>>(
     group: &Group<B>,
     member: Member,
     refusal: CheckpointRefusal,
-) -> Reason
+) -> RefusalReason
     ensures { result ≡ checkpoint_reason_of group.now member refusal }
 {
     match refusal {
         CheckpointRefusal::BadMember => no_such_member(group, MemberSet::empty().with(member)),
-        CheckpointRefusal::Down | CheckpointRefusal::Memory => Reason::Down(group.down()),
+        CheckpointRefusal::Down | CheckpointRefusal::Memory => RefusalReason::Down(group.down()),
     }
 }
 
@@ -145,19 +145,19 @@ pub fn run_reason<B: Behaviour<State = u64, Note = Note>>(
     group: &Group<B>,
     plan: &[Strike],
     refusal: &DrainRefusal,
-) -> Reason
+) -> RefusalReason
     requires { IsPlanRefused plan.now group.now.config refusal.now }
     ensures { IsRunReason plan.now group.now refusal.now result }
 {
     match refusal {
         DrainRefusal::BadPlan(_) => match plan_fault(plan, group.config()) {
-            Some(fault) => Reason::BadPlan(fault),
+            Some(fault) => RefusalReason::BadPlan(fault),
             None => unreachable!(),
         },
-        DrainRefusal::Down => Reason::Down(group.down()),
-        DrainRefusal::BadWorkers => Reason::BadWorkers,
-        DrainRefusal::NoTable | DrainRefusal::Memory => Reason::NoTable,
-        DrainRefusal::NoThread => Reason::NoThread,
-        DrainRefusal::Uneven => Reason::Uneven,
+        DrainRefusal::Down => RefusalReason::Down(group.down()),
+        DrainRefusal::BadWorkers => RefusalReason::BadWorkers,
+        DrainRefusal::NoTable | DrainRefusal::Memory => RefusalReason::NoTable,
+        DrainRefusal::NoThread => RefusalReason::NoThread,
+        DrainRefusal::Uneven => RefusalReason::Uneven,
     }
 }

@@ -98,36 +98,44 @@ fn is_gathered(alloc: Global, own: &Table, told: &Table) -> Result<bool, AllocEr
 
 /// What is done with the entry: its receiver and the member that is told of it pass it on, or tables gather it.
 #[derive(Clone, Copy)]
-enum Known {
+enum KnownHolders {
     PassedOn,
     Gathered,
 }
 
-impl Known {
+impl KnownHolders {
     /// Whether it is as expected. `Err` is to come only where memory is refused.
     fn is_worked(self, alloc: Global) -> Result<bool, AllocError> {
         let own = own_table(alloc, Member::at(1), carried().det)?;
         let told = told_table(alloc, Member::at(2), &[carried()])?;
         match self {
-            Known::PassedOn => is_passed_on(&own, &told),
-            Known::Gathered => is_gathered(alloc, &own, &told),
+            KnownHolders::PassedOn => is_passed_on(&own, &told),
+            KnownHolders::Gathered => is_gathered(alloc, &own, &told),
         }
     }
 }
 
 #[test]
 fn a_receipt_is_passed_on_until_enough_members_know_it(rt: HostRuntime) {
-    assert!(rt; Known::PassedOn.is_worked(rt.alloc()).unwrap_or(false));
+    assert!(rt;
+        KnownHolders::PassedOn
+            .is_worked(rt.alloc())
+            .unwrap_or(false)
+    );
 }
 
 #[test]
 fn tables_are_gathered_and_marked(rt: HostRuntime) {
-    assert!(rt; Known::Gathered.is_worked(rt.alloc()).unwrap_or(false));
+    assert!(rt;
+        KnownHolders::Gathered
+            .is_worked(rt.alloc())
+            .unwrap_or(false)
+    );
 }
 
 /// It holds where any one request for memory is refused, too. The gate refuses each in turn.
 #[test]
 fn without_memory(rt: HostRuntime) {
-    assert!(rt; Known::PassedOn.is_worked(rt.alloc()).unwrap_or(true));
-    assert!(rt; Known::Gathered.is_worked(rt.alloc()).unwrap_or(true));
+    assert!(rt; KnownHolders::PassedOn.is_worked(rt.alloc()).unwrap_or(true));
+    assert!(rt; KnownHolders::Gathered.is_worked(rt.alloc()).unwrap_or(true));
 }

@@ -181,7 +181,7 @@ where
     let Ok(claims) = Claims::new(alloc, group.config().members()) else {
         return (group, Err(DrainRefusal::Memory));
     };
-    let task = Task {
+    let request = DrainRequest {
         plan,
         workers,
         turns,
@@ -189,7 +189,7 @@ where
         keeps,
     };
     let blank = Blank::new(u64::from(workers));
-    run::<B, G, Brand, R>(rt, group, claims, blank, &task, records)
+    run::<B, G, Brand, R>(rt, group, claims, blank, &request, records)
 }
 
 /// Why the group is not drained, before any worker is started.
@@ -210,7 +210,7 @@ fn refusal<B: Behaviour>(group: &Group<B>, plan: &[Strike], workers: u8) -> Opti
 
 /// What workers are asked for.
 #[derive(Drop)]
-struct Task<'a, G: Gate> {
+struct DrainRequest<'a, G: Gate> {
     plan: &'a [Strike],
     workers: u8,
     turns: u32,
@@ -230,7 +230,7 @@ fn run<
     group: Group<B>,
     claims: (Claims, Pass),
     blank: Blank,
-    task: &Task<G>,
+    request: &DrainRequest<G>,
     records: Records<B::State, B::Note>,
 ) -> (
     Group<B>,
@@ -239,14 +239,14 @@ fn run<
 where
     B::State: Send,
     B::Note: Send,
-    requires origin { ((O.start (B.next.initial 0 0)) ≡ group) × (O.plan ≡ task.now.plan.now)
-        × (O.workers ≡ task.now.workers) × (O.turns ≡ task.now.turns) }
+    requires origin { ((O.start (B.next.initial 0 0)) ≡ group) × (O.plan ≡ request.now.plan.now)
+        × (O.workers ≡ request.now.workers) × (O.turns ≡ request.now.turns) }
     requires claims { (claims.1 ≡ claims.0) × (claims.0 ≡ O.claims) × (claims.0.words ≡ group.config.members) }
-    requires blank { (blank.name ≡ O.name) × (blank.parts ≡ O.parts) × (O.parts ≡ task.now.workers) }
+    requires blank { (blank.name ≡ O.name) × (blank.parts ≡ O.parts) × (O.parts ≡ request.now.workers) }
     requires records { recorded records ≡ (if O.records then Some [] else None) }
-    requires accepted { IsAccepted task.now.workers task.now.plan.now group }
+    requires accepted { IsAccepted request.now.workers request.now.plan.now group }
     requires in_flight { is_quiet group ≡ false }
-    ensures { DrainsAs B.next task.now.workers task.now.turns task.now.plan.now O.records group result.0 result.1 }
+    ensures { DrainsAs B.next request.now.workers request.now.turns request.now.plan.now O.records group result.0 result.1 }
 {
     let members = group.config().members();
     let (claims, pass) = claims;
@@ -254,12 +254,12 @@ where
         group,
         blank,
         pass,
-        task.workers,
-        task.turns,
+        request.workers,
+        request.turns,
         records,
     );
     let shared = Mutex::new(CachePadded::new(counted_group));
-    let joined = work_on(rt, &shared, &claims, members, task, unstarted);
+    let joined = work_on(rt, &shared, &claims, members, request, unstarted);
     let (group, drained, records) = shared.into_inner().into_inner().close(claims, joined);
     if let Some(refusal) = without_thread(drained.started) {
         return (group, Err(refusal));
@@ -288,7 +288,7 @@ fn work_on<
     shared: &Mutex<CachePadded<CountedGroup<B, O>>>,
     claims: &Claims,
     members: u8,
-    task: &Task<G>,
+    request: &DrainRequest<G>,
     unstarted: Unstarted<O>,
 ) -> Joined<O>
 where
@@ -297,10 +297,10 @@ where
     requires members { (2 ≤ members) × (members ≤ 16) }
     requires claims { (claims.now ≡ O.claims) × (claims.now.words ≡ members) }
     requires workers { (unstarted.workers ≡ O.workers) × (unstarted.workers ≤ 8) }
-    requires plan { task.now.plan.now ≡ O.plan }
+    requires plan { request.now.plan.now ≡ O.plan }
     requires plan_fits { IsPlan O.plan (O.start (B.next.initial 0 0)).config }
     ensures { result.workers ≡ O.workers }
 {
-    let work = Work::new(shared, claims, task.plan, task.gate, members);
+    let work = Work::new(shared, claims, request.plan, request.gate, members);
     run_all(rt, &work, unstarted)
 }

@@ -19,11 +19,11 @@ const CHANNELS: usize = 256;
 
 /// The numbers of the messages in flight on one channel.
 #[derive(Drop)]
-struct Channel {
+struct NumbersInFlight {
     numbers: VecDeque<u32>,
 }
 
-impl Model for Channel {
+impl Model for NumbersInFlight {
     ghost use Rattle.std.specs.Prelude.{List, ℕ};
 
     ghost Value = { List ℕ };
@@ -31,11 +31,11 @@ impl Model for Channel {
     ghost view = { λ c. c.numbers.items };
 }
 
-impl Channel {
-    fn new(alloc: Global) -> Channel
+impl NumbersInFlight {
+    fn new(alloc: Global) -> NumbersInFlight
         ensures { result ≡ [] }
     {
-        Channel {
+        NumbersInFlight {
             numbers: VecDeque::new(alloc),
         }
     }
@@ -64,7 +64,7 @@ impl Channel {
 pub struct Counts {
     sends: [u32; 16],
     receipts: [u32; 16],
-    channels: Vec<Channel>,
+    channels: Vec<NumbersInFlight>,
 }
 
 impl Counts {
@@ -74,7 +74,7 @@ impl Counts {
     {
         let mut channels = Vec::new(alloc);
         for _ in 0..CHANNELS {
-            channels.push(Channel::new(alloc))?;
+            channels.push(NumbersInFlight::new(alloc))?;
         }
         Ok(Counts {
             sends: [0; 16],

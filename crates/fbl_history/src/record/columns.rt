@@ -15,7 +15,7 @@ ghost use Rattle.fbl_runs.specs.declared.entry.Entry.TheVariants.{Told};
 ghost use Rattle.fbl_history.specs.Records.{AreBack, IsRecordStart, IsOfAnother, IsRecordOf, IsStopped, Receives, Records, RecordsAll, Refuses, RefusesReceipt, Restores, Saves, StopsIn, is_between, is_not_between, is_gathered_from, so_far, standing_mark};
 
 use crate::column::Column;
-use crate::record::RecordFault;
+use crate::record::RecordRefusal;
 use crate::record::entries::{
     is_not_between, next_messages, push_backs, push_events, push_receipt, push_round, push_stores,
     push_tells, push_told,
@@ -61,14 +61,14 @@ fn deliver<B: Behaviour<State = u64, Note = Note>>(
     group: &mut Group<B>,
     to: Member,
     from: Member,
-) -> Result<(), RecordFault>
+) -> Result<(), RecordRefusal>
     ensures delivered { OnOk result ((answer : Receipted ℕ) × Delivers B.next group.old group.new to from answer) }
     ensures refused { IfErr result (IsStopped (deliver_refusal B.next group.old to from ≢ None)) }
 {
     match group.deliver(to, from) {
         Ok(_) => Ok(()),
-        Err(DeliverRefusal::Memory) => Err(RecordFault::Memory),
-        Err(_) => Err(RecordFault::OtherHistory),
+        Err(DeliverRefusal::Memory) => Err(RecordRefusal::Memory),
+        Err(_) => Err(RecordRefusal::OtherHistory),
     }
 }
 
@@ -114,20 +114,20 @@ fn receive<B: Behaviour<State = u64, Note = Note>>(
     group: &mut Group<B>,
     written: &mut Written,
     receipt: &Determinant,
-) -> Result<(), RecordFault>
+) -> Result<(), RecordRefusal>
     ensures received { OnOk result (Receives B.next (so_far group.old written.old) receipt.now (so_far group.new written.new)) }
     ensures refused { IfErr result (IsStopped (RefusesReceipt B.next group.old receipt.now)) }
 {
     let (from, to) = (receipt.from, receipt.to);
     let n = group.config().members();
     if from.number() >= n || to.number() >= n {
-        return Err(RecordFault::OtherHistory);
+        return Err(RecordRefusal::OtherHistory);
     }
     let events = group.trace().len();
     let held = group.table(to).len();
     deliver(group, to, from)?;
     if !is_same(&group.trace()[events].mark(), &receipt.receipt()) {
-        return Err(RecordFault::OtherHistory);
+        return Err(RecordRefusal::OtherHistory);
     }
     tell_of_lives(written, from, to)?;
     let life = life_of(written, from);
@@ -147,13 +147,13 @@ fn receive<B: Behaviour<State = u64, Note = Note>>(
 fn strike<B: Behaviour<State = u64, Note = Note>>(
     group: &mut Group<B>,
     members: MemberSet,
-) -> Result<(), RecordFault>
+) -> Result<(), RecordRefusal>
     ensures struck { OnOk result ((answer : Struck) × Strikes B.next group.old group.new members answer) }
     ensures refused { IfErr result (IsStopped (strike_refusal group.old members ≢ None)) }
 {
     match group.strike(members) {
         Ok(_) => Ok(()),
-        Err(_) => Err(RecordFault::OtherHistory),
+        Err(_) => Err(RecordRefusal::OtherHistory),
     }
 }
 
@@ -179,14 +179,14 @@ fn begin_lives(written: &mut Written, members: MemberSet) -> Result<(), AllocErr
 /// Recovers the members that are down.
 fn bring_back<B: Behaviour<State = u64, Note = Note>>(
     group: &mut Group<B>,
-) -> Result<(), RecordFault>
+) -> Result<(), RecordRefusal>
     ensures recovered { OnOk result ((answer : Recovered) × Recovers B.next group.old group.new answer) }
     ensures refused { IfErr result (IsStopped (group.old.down ≡ set.empty)) }
 {
     match group.recover() {
         Ok(_) => Ok(()),
-        Err(RecoverRefusal::Memory) => Err(RecordFault::Memory),
-        Err(RecoverRefusal::NotDown) => Err(RecordFault::OtherHistory),
+        Err(RecoverRefusal::Memory) => Err(RecordRefusal::Memory),
+        Err(RecoverRefusal::NotDown) => Err(RecordRefusal::OtherHistory),
     }
 }
 
@@ -221,7 +221,7 @@ fn restore<B: Behaviour<State = u64, Note = Note>>(
     alloc: Global,
     group: &mut Group<B>,
     written: &mut Written,
-) -> Result<(), RecordFault>
+) -> Result<(), RecordRefusal>
     ensures restored { OnOk result (Restores B.next (so_far group.old written.old) (so_far group.new written.new)) }
     ensures refused { IfErr result (IsStopped (group.old.down ≡ set.empty)) }
 {
@@ -244,14 +244,14 @@ fn restore<B: Behaviour<State = u64, Note = Note>>(
 fn take_checkpoint<B: Behaviour<State = u64, Note = Note>>(
     group: &mut Group<B>,
     member: Member,
-) -> Result<(), RecordFault>
+) -> Result<(), RecordRefusal>
     ensures taken { OnOk result (IsCheckpoint group.old group.new member) }
     ensures refused { IfErr result (IsStopped (checkpoint_refusal group.old member ≢ None)) }
 {
     match group.checkpoint(member) {
         Ok(()) => Ok(()),
-        Err(CheckpointRefusal::Memory) => Err(RecordFault::Memory),
-        Err(_) => Err(RecordFault::OtherHistory),
+        Err(CheckpointRefusal::Memory) => Err(RecordRefusal::Memory),
+        Err(_) => Err(RecordRefusal::OtherHistory),
     }
 }
 
@@ -260,7 +260,7 @@ fn save<B: Behaviour<State = u64, Note = Note>>(
     group: &mut Group<B>,
     written: &mut Written,
     member: Member,
-) -> Result<(), RecordFault>
+) -> Result<(), RecordRefusal>
     ensures saved { OnOk result (Saves (so_far group.old written.old) member (so_far group.new written.new)) }
     ensures refused { IfErr result (IsStopped (checkpoint_refusal group.old member ≢ None)) }
 {
@@ -278,7 +278,7 @@ fn add<B: Behaviour<State = u64, Note = Note>>(
     group: &mut Group<B>,
     written: &mut Written,
     column: &Column,
-) -> Result<(), RecordFault>
+) -> Result<(), RecordRefusal>
     ensures recorded { OnOk result (Records B.next (so_far group.old written.old) column.now (so_far group.new written.new)) }
     ensures refused { IfErr result (IsStopped (Refuses B.next group.old column.now)) }
 {
@@ -312,7 +312,7 @@ fn add_all<B: Behaviour<State = u64, Note = Note>>(
     group: &mut Group<B>,
     written: &mut Written,
     columns: &[Column],
-) -> Result<(), RecordFault>
+) -> Result<(), RecordRefusal>
     ensures recorded { OnOk result (RecordsAll B.next (so_far group.old written.old) columns.now (so_far group.new written.new)) }
     ensures refused { IfErr result (IsStopped (StopsIn B.next (so_far group.old written.old) columns.now)) }
 {
@@ -388,7 +388,7 @@ pub(super) fn raw_record_of<B: Behaviour<State = u64, Note = Note>>(
     alloc: Global,
     config: Config,
     columns: &[Column],
-) -> Result<RawLog, RecordFault>
+) -> Result<RawLog, RecordRefusal>
     ensures recorded { IfOk result (IsRecordOf B.next config columns.now) }
     ensures refused { IfErr result (IsStopped (IsOfAnother B.next config columns.now)) }
 {
@@ -397,7 +397,7 @@ pub(super) fn raw_record_of<B: Behaviour<State = u64, Note = Note>>(
     let mut written = begin(alloc, &group)?;
     add_all(alloc, &mut group, &mut written, columns)?;
     if !is_trace(alloc, columns, group.trace())? {
-        return Err(RecordFault::OtherHistory);
+        return Err(RecordRefusal::OtherHistory);
     }
     Ok(RawLog {
         members,

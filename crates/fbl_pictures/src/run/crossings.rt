@@ -11,7 +11,7 @@ use fbl_trace::Member;
 
 /// What a pass over entries knows of a cut of them.
 #[derive(Drop)]
-struct Pass {
+struct Crossings {
     /// For each member's number, how many of its entries it has seen.
     counts: [usize; 16],
     /// The place behind the last entry that has come.
@@ -20,11 +20,11 @@ struct Pass {
     beyond: Columns,
 }
 
-impl Pass {
-    fn new() -> Pass
+impl Crossings {
+    fn new() -> Crossings
         ensures { (entries : _) → (cut : _) → HasPassed entries cut 0 result }
     {
-        Pass {
+        Crossings {
             counts: [0; 16],
             end: 0,
             beyond: Columns::none(),
@@ -70,7 +70,7 @@ pub(crate) fn moment_columns(members: u8, entries: &[Entry], cut: &Clock) -> Col
     requires within { (q : ℕ) → cut_of cut.now q ≤ length (log_of entries.now q) }
     ensures { AreCrossings members entries.now (cut_of cut.now) result }
 {
-    let mut pass = Pass::new();
+    let mut pass = Crossings::new();
     for place in 0..entries.len() {
         pass.add(entries, cut, place);
     }

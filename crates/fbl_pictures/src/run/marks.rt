@@ -14,12 +14,12 @@ use fbl_runs::{Clock, ControlMessage, Entry, Restart};
 use fbl_trace::{Determinant, Mark, MemberSet};
 use std::alloc::{AllocError, Global};
 
-/// What the receipts of a run are judged by.
+/// What the kinds of marks follow from.
 #[derive(Clone, Copy)]
-pub(crate) struct Receipts<'a> {
+pub(crate) struct MarkKinds<'a> {
     /// Who holds and stores what from when on.
     pub(crate) pasts: &'a Pasts<'a>,
-    /// What has come where they are judged.
+    /// What has come where receipts are judged.
     pub(crate) clock: &'a Clock,
     /// Which entries stand there.
     pub(crate) standing: &'a [bool],
@@ -42,7 +42,7 @@ fn judged_kind(f: u8, struck: MemberSet, is_stored: bool, holders: MemberSet) ->
     }
 }
 
-impl Receipts<'_> {
+impl MarkKinds<'_> {
     /// The kind of glyph of a receipt that has come.
     fn held_kind(&self, determinant: Determinant) -> GlyphKind
         ensures { IsHeld self.now.pasts.now (cut_of self.now.clock.now) self.now.lines.now.struck determinant result }

@@ -27,7 +27,7 @@ use crate::headings::{audit_words, escaped_text, heading, part_words, undone_wor
 use crate::names::push_any;
 use crate::run::arrows::{push_arrows, push_stubs, sources_of};
 use crate::run::finding::Finding;
-use crate::run::marks::Receipts;
+use crate::run::marks::MarkKinds;
 use crate::run::members::{Lines, push_members, push_moment};
 use crate::run::paths::push_paths;
 use crate::run::standing::standing_of;
@@ -169,14 +169,14 @@ fn finding_text(
     let heading = run_heading(alloc, pasts, &window, words)?;
     let lines = finding.lines(pasts);
     let standing = standing_of(alloc, pasts, &finding.moment)?;
-    let receipts = Receipts {
+    let kinds = MarkKinds {
         pasts: &*pasts,
         clock: &finding.moment,
         standing: standing.as_slice(),
         lines: &lines,
     };
     let shapes = shapes_of(alloc, pasts, &window, finding, standing.as_slice(), &lines)?;
-    let glyphs = receipts.glyphs(alloc, window.first, &entries[window.first..window.end])?;
+    let glyphs = kinds.glyphs(alloc, window.first, &entries[window.first..window.end])?;
     picture_text(
         alloc,
         heading.as_str(),

@@ -1,7 +1,7 @@
 use Rattle.std.proofs.lemmas.List.{take_all}
 use Rattle.std.proofs.lemmas.Option.{slice_get-get_or}
 use Rattle.fbl_program.proofs.Common.{◌∙◌, inl, inr, sym}
-use Rattle.fbl_order.proofs.TogetherLaws.{passed}
+use Rattle.fbl_order.proofs.RecordingLaws.{same_fault}
 use Rattle.fbl_program.proofs.Several.{item_at, pushed, read_more, read_none}
 use Rattle.fbl_program.proofs.jobs.files_at.Goals as goal
 
@@ -10,7 +10,7 @@ loop-name-init g c = rw c.new-files.ensures.items tt
 
 pub returns-in_err-recorded-clause-refused : goal.returns-in_err-recorded-clause-refused
 returns-in_err-recorded-clause-refused g c =
-    passed _ c.in_err-recorded.field-0.0 c.from_residual.result c.from_residual.ensures.1
+    same_fault _ c.in_err-recorded.field-0.0 c.from_residual.result c.from_residual.ensures.1
     (read_none (g.S.Streams.input c.args.streams.now) c.args.names.now c.loop-name.name-index _ (slice_get-get_or c.args.names.now c.loop-name.name-index _ c.loop-name-test.true)
     c.loop-name.files.items c.loop-name.invariant _ c.in_err-recorded.ensures.refused)
 
@@ -26,10 +26,10 @@ loop-name-preserved g c =
     (slice_get-get_or c.args.names.now c.loop-name.name-index _ c.loop-name-test.true) c.loop-name.files.items c.loop-name.invariant
     c.in_ok-recorded.recorded c.in_ok-recorded.ensures.recorded)
 
-pub returns-in-Ok-clause-together : goal.returns-in-Ok-clause-together
-returns-in-Ok-clause-together g c =
+pub returns-in-Ok-clause-recordings : goal.returns-in-Ok-clause-recordings
+returns-in-Ok-clause-recordings g c =
     let all = take_all c.loop-name.name-index c.args.names.now c.loop-name-test.false in
-    (c.loop-name.files.items, rw all at c.loop-name.invariant, c.in-Ok.ensures.together)
+    (c.loop-name.files.items, rw all at c.loop-name.invariant, c.in-Ok.ensures.recordings)
 
 pub returns-in-Err-clause-refused : goal.returns-in-Err-clause-refused
 returns-in-Err-clause-refused g c =

@@ -1,11 +1,11 @@
 use Rattle.fbl_order.specs.declared.files.FilesDiffer.TheVariants.{Memory}
 use Rattle.fbl_program.proofs.Common.{◌∙◌, ap, inl, inr, keeps_itself, map}
 use Rattle.fbl_program.proofs.Several.{short_of_memory}
-use Rattle.fbl_order.specs.declared.together.MergeFault.TheVariants.{Files}
+use Rattle.fbl_order.specs.declared.recordings.MergeFault.TheVariants.{Files}
 use Rattle.fbl_program.proofs.runs.end_merged.Goals as goal
 
 pub returns-in-Err : goal.returns-in-Err
-returns-in-Err g c = inr (Files Memory, short_of_memory c.args.together.now, (keeps_itself (g.W.Write.contents c.args.writer.now.stream), c.fail.ensures))
+returns-in-Err g c = inr (Files Memory, short_of_memory c.args.recordings.now, (keeps_itself (g.W.Write.contents c.args.writer.now.stream), c.fail.ensures))
 
 pub returns-in-Ok-merge_of : goal.returns-in-Ok-merge_of
 returns-in-Ok-merge_of g c =

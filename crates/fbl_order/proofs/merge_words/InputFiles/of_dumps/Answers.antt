@@ -1,7 +1,7 @@
 use Rattle.std.proofs.Common.{◌∙◌, Some, ap, length, map, rules, sym}
 use Rattle.std.proofs.lemmas.List.{take_all}
 use Rattle.std.proofs.lemmas.Option.{slice_get-get_or}
-use Rattle.fbl_order.proofs.TogetherLaws.{counted_more}
+use Rattle.fbl_order.proofs.RecordingLaws.{counted_more}
 use Rattle.fbl_order.proofs.merge_words.InputFiles.of_dumps.Goals as goal
 
 pub loop-dump-init : goal.loop-dump-init

@@ -9,11 +9,11 @@ use Rattle.fbl_runs.proofs.clocks.Clocks.arrive.Goals.{In_ok-push}
 pub returns-then-shares-clause-within : goal.returns-then-shares-clause-within
 returns-then-shares-clause-within c =
     let r = c.requires in
-    rw c.arrival.ensures (arrival_within c.args.self.now.causality r.0 c.args.links.now r.2 r.1 c.args.self.now r.3 c.args.sources.now.before r.4.0)
+    rw c.arrival.ensures (arrival_within c.args.self.now.causality r.0 c.args.links.now r.2 r.1 c.args.self.now r.3 c.args.predecessors.now.before r.4.0)
 
 pub returns-then-shares-clause-clock : goal.returns-then-shares-clause-clock
 returns-then-shares-clause-clock c entries p count are has below among =
-    rw c.arrival.ensures (shared c.args.self.now.causality entries c.args.links.now are p c.args.self.now has c.args.sources.now c.args.column count (c.shares.ensures.0 c.if-shares.true) below among)
+    rw c.arrival.ensures (shared c.args.self.now.causality entries c.args.links.now are p c.args.self.now has c.args.predecessors.now c.args.column count (c.shares.ensures.0 c.if-shares.true) below among)
 
 -- the clock is kept at the end
 last : (c : In_ok-push) → slice_get c.push.new.self.items c.len-place.result ≡ Some c.joined-clock.result

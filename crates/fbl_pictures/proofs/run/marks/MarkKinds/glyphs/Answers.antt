@@ -1,6 +1,6 @@
 use Rattle.fbl_pictures.proofs.Common.{List, Entry, [], ◌∷◌, ◌≡◌, ◌+◌, append-nil, append_assoc, arith, at_drop_all, at_drop_more, cut_of, drop, get_or, refl, subst, sym}
 use Rattle.fbl_pictures.specs.RunShapes.{AreGlyphs, IsGlyphOf}
-use Rattle.fbl_pictures.proofs.run.marks.Receipts.glyphs.Goals as goal
+use Rattle.fbl_pictures.proofs.run.marks.MarkKinds.glyphs.Goals as goal
 
 pub loop-column-preserved : goal.loop-column-preserved
 loop-column-preserved c rest are =

@@ -2,7 +2,7 @@ use Rattle.fbl_pictures.proofs.Common.{◌∙◌, ap, cut_of}
 use Rattle.fbl_history.specs.declared.shape.GlyphKind.TheVariants.{Held}
 use Rattle.fbl_runs.specs.Logs.{RunParts}
 use Rattle.fbl_pictures.specs.RunShapes.{judged_kind}
-use Rattle.fbl_pictures.proofs.run.marks.Receipts.held_kind.Goals as goal
+use Rattle.fbl_pictures.proofs.run.marks.MarkKinds.held_kind.Goals as goal
 
 pub returns : goal.returns
 returns c =

@@ -2,7 +2,7 @@
 
 ghost use Rattle.std.specs.Prelude.{◌≡◌, ◌<◌, IfErr, IfOk, List, [], ◌∷◌, ◌++◌};
 ghost use Rattle.fbl_runs.specs.declared.recording.RawRecording.{RawRecording};
-ghost use Rattle.fbl_order.specs.Together.{AreTogether, IsMergeOf, RefusesMerge, RefusesVersions, count_of};
+ghost use Rattle.fbl_order.specs.Recordings.{AreRecordings, IsMergeOf, RefusesMerge, RefusesVersions, count_of};
 
 use crate::dumps::order_dump;
 use crate::fault::OrderFault;
@@ -28,7 +28,7 @@ pub enum MergeFault {
 }
 
 impl From<FilesDiffer> for MergeFault {
-    ghost use Rattle.fbl_order.specs.declared.together.MergeFault.TheVariants.{Files};
+    ghost use Rattle.fbl_order.specs.declared.recordings.MergeFault.TheVariants.{Files};
 
     ghost from_gives = { λ fault e. e ≡ Files fault };
 
@@ -38,7 +38,7 @@ impl From<FilesDiffer> for MergeFault {
 }
 
 impl From<OrderFault> for MergeFault {
-    ghost use Rattle.fbl_order.specs.declared.together.MergeFault.TheVariants.{Order};
+    ghost use Rattle.fbl_order.specs.declared.recordings.MergeFault.TheVariants.{Order};
 
     ghost from_gives = { λ fault e. e ≡ Order fault };
 
@@ -48,7 +48,7 @@ impl From<OrderFault> for MergeFault {
 }
 
 impl From<AllocError> for MergeFault {
-    ghost use Rattle.fbl_order.specs.declared.together.MergeFault.TheVariants.{Files};
+    ghost use Rattle.fbl_order.specs.declared.recordings.MergeFault.TheVariants.{Files};
     ghost use Rattle.fbl_order.specs.declared.files.FilesDiffer.TheVariants.{Memory};
 
     ghost from_gives = { λ _ e. e ≡ Files Memory };
@@ -59,7 +59,7 @@ impl From<AllocError> for MergeFault {
 }
 
 impl<T: Drop> From<AllocFailed<T>> for MergeFault {
-    ghost use Rattle.fbl_order.specs.declared.together.MergeFault.TheVariants.{Files};
+    ghost use Rattle.fbl_order.specs.declared.recordings.MergeFault.TheVariants.{Files};
     ghost use Rattle.fbl_order.specs.declared.files.FilesDiffer.TheVariants.{Memory};
 
     ghost from_gives = { λ _ e. e ≡ Files Memory };
@@ -71,56 +71,56 @@ impl<T: Drop> From<AllocFailed<T>> for MergeFault {
 
 /// What several files record of one run, all in one version.
 #[derive(Drop)]
-pub enum Together {
+pub enum Recordings {
     /// Dumps, in the order of their files.
     Dumps(Vec<RawDump>),
     /// Logs, in the order of their files.
     Logs(Vec<RawLog>),
 }
 
-impl Together {
+impl Recordings {
     /// What one file records.
-    pub fn of(alloc: Global, recorded: RawRecording) -> Result<Together, AllocError>
-        ensures { IfOk result (AreTogether (recorded ∷ [])) }
+    pub fn of(alloc: Global, recorded: RawRecording) -> Result<Recordings, AllocError>
+        ensures { IfOk result (AreRecordings (recorded ∷ [])) }
     {
         Ok(match recorded {
             RawRecording::Dump(raw) => {
                 let mut dumps = Vec::new(alloc);
                 dumps.push(raw)?;
-                Together::Dumps(dumps)
+                Recordings::Dumps(dumps)
             }
             RawRecording::Log(raw) => {
                 let mut logs = Vec::new(alloc);
                 logs.push(raw)?;
-                Together::Logs(logs)
+                Recordings::Logs(logs)
             }
         })
     }
 
     /// These and the next one, where it is of their version.
-    fn with(self, alloc: Global, next: RawRecording) -> Result<Together, MergeFault>
-        ensures together { (found : List RawRecording) → AreTogether found self → IfOk result (AreTogether (found ++ next ∷ [])) }
-        ensures refused { (found rest : List RawRecording) → AreTogether found self
+    fn with(self, alloc: Global, next: RawRecording) -> Result<Recordings, MergeFault>
+        ensures recordings { (found : List RawRecording) → AreRecordings found self → IfOk result (AreRecordings (found ++ next ∷ [])) }
+        ensures refused { (found rest : List RawRecording) → AreRecordings found self
             → IfErr result (RefusesVersions (found ++ next ∷ rest)) }
     {
         match (self, next) {
-            (Together::Dumps(dumps), RawRecording::Dump(raw)) => {
+            (Recordings::Dumps(dumps), RawRecording::Dump(raw)) => {
                 let mut dumps = dumps;
                 dumps.push(raw)?;
-                Ok(Together::Dumps(dumps))
+                Ok(Recordings::Dumps(dumps))
             }
-            (Together::Logs(logs), RawRecording::Log(raw)) => {
+            (Recordings::Logs(logs), RawRecording::Log(raw)) => {
                 let mut logs = logs;
                 logs.push(raw)?;
-                Ok(Together::Logs(logs))
+                Ok(Recordings::Logs(logs))
             }
-            (Together::Dumps(dumps), RawRecording::Log(raw)) => {
+            (Recordings::Dumps(dumps), RawRecording::Log(raw)) => {
                 if !dumps.is_empty() {
                     return Err(MergeFault::LogAmongDumps(dumps.len()));
                 }
-                Ok(Together::of(alloc, RawRecording::Log(raw))?)
+                Ok(Recordings::of(alloc, RawRecording::Log(raw))?)
             }
-            (Together::Logs(logs), RawRecording::Dump(_)) => {
+            (Recordings::Logs(logs), RawRecording::Dump(_)) => {
                 Err(MergeFault::DumpAmongLogs(logs.len()))
             }
         }
@@ -128,32 +128,32 @@ impl Together {
 }
 
 /// What these files record, where they are of one version.
-pub fn in_one_version(alloc: Global, files: Vec<RawRecording>) -> Result<Together, MergeFault>
-    ensures together { IfOk result (AreTogether files.items) }
+pub fn in_one_version(alloc: Global, files: Vec<RawRecording>) -> Result<Recordings, MergeFault>
+    ensures recordings { IfOk result (AreRecordings files.items) }
     ensures refused { IfErr result (RefusesVersions files.items) }
 {
-    let mut together = Together::Dumps(Vec::new(alloc));
+    let mut recordings = Recordings::Dumps(Vec::new(alloc));
     for recorded in files {
-        together = together.with(alloc, recorded)?;
+        recordings = recordings.with(alloc, recorded)?;
     }
-    Ok(together)
+    Ok(recordings)
 }
 
 /// What the files have together, its events in an order in which each member's own stand as the files have them, one file's behind
 /// another's, and of logs its pieces by their lives.
-pub fn merge_of(alloc: Global, files: &Together) -> Result<Ordered<Recording>, MergeFault>
+pub fn merge_of(alloc: Global, files: &Recordings) -> Result<Ordered<Recording>, MergeFault>
     requires { 0 < count_of files.now }
     ensures merged { IfOk result (IsMergeOf files.now) }
     ensures refused { IfErr result (RefusesMerge files.now) }
 {
     match files {
-        Together::Dumps(dumps) => {
+        Recordings::Dumps(dumps) => {
             let whole = union_of_dumps(alloc, dumps.as_slice())?;
             let Ordered { run, places } = order_dump(alloc, whole)?;
             let run = Recording::Dump(run);
             Ok(Ordered { run, places })
         }
-        Together::Logs(logs) => {
+        Recordings::Logs(logs) => {
             let whole = union_of_logs(alloc, logs.as_slice())?;
             let Ordered { run, places } = order_union(alloc, whole)?;
             let run = Recording::Log(run);

@@ -1,6 +1,6 @@
 use Rattle.fbl_pictures.proofs.Common.{ℕ, Option, length, subst, sym, ◌∙◌, cut_of, IsBeyond}
 use Rattle.fbl_pictures.proofs.Crossing.{crossing_at_end, crossing_before}
-use Rattle.fbl_pictures.proofs.run.crossings.Pass.crossing.Goals as goal
+use Rattle.fbl_pictures.proofs.run.crossings.Crossings.crossing.Goals as goal
 
 pub returns-in-Some : goal.returns-in-Some
 returns-in-Some c =

@@ -1,10 +1,10 @@
 use Rattle.std.proofs.Common.{◌≡◌, ◌<◌, arith}
-use Rattle.fbl_order.proofs.TogetherLaws.{other_version}
+use Rattle.fbl_order.proofs.RecordingLaws.{other_version}
 use Rattle.std.proofs.Common.{length, rules, vec_len}
 use Rattle.std.proofs.lemmas.Bool.Decides.{nat_tests}
 use Rattle.fbl_runs.specs.declared.recording.RawRecording.TheVariants as raws
-use Rattle.fbl_order.specs.declared.together.Together.TheVariants.{Dumps, Logs}
-use Rattle.fbl_order.proofs.together.Together.with.Goals as goal
+use Rattle.fbl_order.specs.declared.recordings.Recordings.TheVariants.{Dumps, Logs}
+use Rattle.fbl_order.proofs.recordings.Recordings.with.Goals as goal
 
 pub returns-then-not-is_empty-clause-refused : goal.returns-then-not-is_empty-clause-refused
 returns-then-not-is_empty-clause-refused c =

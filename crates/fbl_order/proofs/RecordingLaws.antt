@@ -6,26 +6,26 @@ use Rattle.std.specs.Result.{IsErrAnd}
 use Rattle.fbl_trace.proofs.Gets.{take-more}
 use Rattle.fbl_runs.specs.declared.recording.RawRecording.{RawRecording}
 use Rattle.fbl_runs.specs.declared.recording.RawRecording.TheVariants as raws
-use Rattle.fbl_order.specs.declared.together.Together.{Together}
-use Rattle.fbl_order.specs.declared.together.Together.TheVariants.{Dumps, Logs}
-use Rattle.fbl_order.specs.Together.{AreTogether, IsOtherVersion, is_log}
+use Rattle.fbl_order.specs.declared.recordings.Recordings.{Recordings}
+use Rattle.fbl_order.specs.declared.recordings.Recordings.TheVariants.{Dumps, Logs}
+use Rattle.fbl_order.specs.Recordings.{AreRecordings, IsOtherVersion, is_log}
 
 -- a fault that is passed on
-pub passed : {X E : Type 0} (P : E → Type 0) (fault : E) (r : Result X E) → IsErrAnd r (λ e. e ≡ fault) → P fault → IfErr r P
-passed P fault (Ok x) same p = tt
-passed P fault (Err e) same p = subst P (sym same) p
+pub same_fault : {X E : Type 0} (P : E → Type 0) (fault : E) (r : Result X E) → IsErrAnd r (λ e. e ≡ fault) → P fault → IfErr r P
+same_fault P fault (Ok x) same p = tt
+same_fault P fault (Err e) same p = subst P (sym same) p
 
 -- there are so many dumps, and the next one is a log, or the reverse
-abbrev IsOther : Together → RawRecording → ℕ → Type 0
+abbrev IsOther : Recordings → RawRecording → ℕ → Type 0
 IsOther (Dumps dumps) (raws.Log raw) n = (n ≡ length dumps.items) × (0 < length dumps.items)
 IsOther (Logs logs) (raws.Dump raw) n = n ≡ length logs.items
-IsOther together next n = ⊥
+IsOther recordings next n = ⊥
 
 all_same : {A : Type 0} (f : A → RawRecording) (b : Bool) (xs : List A) → ((x : A) → is_log (f x) ≡ b) → map is_log (map f xs) ≡ map (λ _. b) (map f xs)
 all_same f b [] is = refl
 all_same f b (x ∷ xs) is = rw (is x, all_same f b xs is) refl
 
-pub other_version : (together : Together) (next : RawRecording) (n : ℕ) → IsOther together next n → (found rest : List RawRecording) → AreTogether found together → IsOtherVersion (found ++ next ∷ rest) (is_log next) n
+pub other_version : (recordings : Recordings) (next : RawRecording) (n : ℕ) → IsOther recordings next n → (found rest : List RawRecording) → AreRecordings found recordings → IsOtherVersion (found ++ next ∷ rest) (is_log next) n
 other_version (Dumps dumps) (raws.Log raw) n other found rest are = record {
   before = found;
   other = raws.Log raw;

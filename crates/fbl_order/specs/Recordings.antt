@@ -13,15 +13,15 @@ use Rattle.fbl_runs.specs.declared.recording.Recording.{Recording}
 use Rattle.fbl_runs.specs.declared.recording.Recording.TheVariants as checked
 use Rattle.fbl_runs.specs.declared.recording.RawRecording.{RawRecording}
 use Rattle.fbl_runs.specs.declared.recording.RawRecording.TheVariants as raws
-use Rattle.fbl_order.specs.declared.together.MergeFault.{MergeFault}
-use Rattle.fbl_order.specs.declared.together.MergeFault.TheVariants as faults
-use Rattle.fbl_order.specs.declared.together.Together.{Together}
-use Rattle.fbl_order.specs.declared.together.Together.TheVariants.{Dumps, Logs}
+use Rattle.fbl_order.specs.declared.recordings.MergeFault.{MergeFault}
+use Rattle.fbl_order.specs.declared.recordings.MergeFault.TheVariants as faults
+use Rattle.fbl_order.specs.declared.recordings.Recordings.{Recordings}
+use Rattle.fbl_order.specs.declared.recordings.Recordings.TheVariants.{Dumps, Logs}
 
 -- what was found are these dumps, or these logs, of which there is one, in their order
-abbrev pub AreTogether : List RawRecording → Together → Type 0
-AreTogether found (Dumps dumps) = found ≡ map raws.Dump dumps.items
-AreTogether found (Logs logs) = (0 < length logs.items) × (found ≡ map raws.Log logs.items)
+abbrev pub AreRecordings : List RawRecording → Recordings → Type 0
+AreRecordings found (Dumps dumps) = found ≡ map raws.Dump dumps.items
+AreRecordings found (Logs logs) = (0 < length logs.items) × (found ≡ map raws.Log logs.items)
 
 -- whether it is a log
 abbrev pub is_log : RawRecording → Bool
@@ -47,12 +47,12 @@ RefusesVersions found (faults.Files files.Memory) = Unit {0}
 RefusesVersions found fault = ⊥
 
 -- how many events or entries each of them has
-abbrev pub lengths_of : Together → List ℕ
+abbrev pub lengths_of : Recordings → List ℕ
 lengths_of (Dumps dumps) = map (λ dump. length dump.events.items) dumps.items
 lengths_of (Logs logs) = map (λ log. length log.entries.items) logs.items
 
 -- how many dumps or logs there are
-abbrev pub count_of : Together → ℕ
+abbrev pub count_of : Recordings → ℕ
 count_of (Dumps dumps) = length dumps.items
 count_of (Logs logs) = length logs.items
 
@@ -67,20 +67,20 @@ pub record IsMergedDump (whole dump : Parts) (places : List ℕ) : Type 0 where
   pub answers : DumpsAnswerAlike whole dump
 
 -- the same of what the files have together; of logs each member's pieces follow by their lives before
-abbrev pub IsMerged : Together → Recording → List ℕ → Type 0
+abbrev pub IsMerged : Recordings → Recording → List ℕ → Type 0
 IsMerged (Dumps dumps) (checked.Dump dump) places = (whole : Parts) × IsUnionOfDumps dumps.items whole × IsMergedDump whole dump places
 IsMerged (Logs logs) (checked.Log log) places =
     (whole : RunParts) × (given : List ℕ) × IsUnionOfLogs logs.items whole given × IsOrderGiven whole given log places
-IsMerged together run places = ⊥
+IsMerged recordings run places = ⊥
 
-abbrev pub IsMergeOf : Together → Ordered Recording → Type 0
-IsMergeOf together merged = IsMerged together merged.run merged.places.items
+abbrev pub IsMergeOf : Recordings → Ordered Recording → Type 0
+IsMergeOf recordings merged = IsMerged recordings merged.run merged.places.items
 
 -- the files differ; or what they have together has no order, or breaks another rule; or memory ran out
-abbrev pub RefusesMerge : Together → MergeFault → Type 0
+abbrev pub RefusesMerge : Recordings → MergeFault → Type 0
 RefusesMerge (Dumps dumps) (faults.Files fault) = RefusesFiles dump_group dumps.items fault
 RefusesMerge (Logs logs) (faults.Files fault) = RefusesFiles log_group logs.items fault
 RefusesMerge (Dumps dumps) (faults.Order fault) = (whole : Parts) × IsUnionOfDumps dumps.items whole × RefusesUnordered whole fault
 RefusesMerge (Logs logs) (faults.Order fault) =
     (whole : RunParts) × (given : List ℕ) × IsUnionOfLogs logs.items whole given × RefusesGiven whole given fault
-RefusesMerge together fault = ⊥
+RefusesMerge recordings fault = ⊥

@@ -3,10 +3,10 @@ use Rattle.std.proofs.Common.{rules, vec_len}
 use Rattle.std.proofs.lemmas.Option.{slice_get-get_or}
 use Rattle.fbl_runs.specs.declared.links.Link.{Link}
 use Rattle.fbl_runs.specs.Clocks.{cut_of}
-use Rattle.fbl_runs.specs.Precedence.{IsSourceClock}
+use Rattle.fbl_runs.specs.Precedence.{IsPredecessorClock}
 use Rattle.fbl_runs.proofs.ClockPasses.{clock_at, number_within, source_room}
-use Rattle.fbl_runs.proofs.clocks.Clocks.source.Goals as goal
-use Rattle.fbl_runs.proofs.clocks.Clocks.source.Goals.{After-index}
+use Rattle.fbl_runs.proofs.clocks.Clocks.predecessor_clock.Goals as goal
+use Rattle.fbl_runs.proofs.clocks.Clocks.predecessor_clock.Goals.{After-index}
 
 -- the place was seen
 below : (c : After-index) → c.in-Some.place < length c.args.self.now.columns.items
@@ -48,6 +48,6 @@ reached-requires c =
 pub returns-in-Some : goal.returns-in-Some
 returns-in-Some c entries p are has below =
     let c2 = (goal.at.returns-in-Some c).After-index in
-    subst (λ (o : Option ℕ). IsSourceClock c.args.self.now.causality entries c.args.links.now o (cut_of c.reached.result)) (sym c.in-Some.is)
+    subst (λ (o : Option ℕ). IsPredecessorClock c.args.self.now.causality entries c.args.links.now o (cut_of c.reached.result)) (sym c.in-Some.is)
     (λ i stands. clock_at c.args.self.now.causality entries c.args.links.now are p c.args.self.now has c.in-Some.place i c.index.result.now (get_or c.args.links.now c.in-Some.place no_link)
     c.reached.result stands (counted c2) (linked c2) c.reached.ensures)

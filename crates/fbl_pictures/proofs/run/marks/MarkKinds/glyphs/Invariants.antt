@@ -1,7 +1,7 @@
 -- the marks so far, and those of the entries to come, are the marks of all
 use Rattle.fbl_pictures.proofs.Common.{List, ◌++◌, Glyph, cut_of, drop}
 use Rattle.fbl_pictures.specs.RunShapes.{AreGlyphs}
-use Rattle.fbl_pictures.proofs.run.marks.Receipts.glyphs.Given as goal
+use Rattle.fbl_pictures.proofs.run.marks.MarkKinds.glyphs.Given as goal
 
 abbrev pub invariant-loop-column : goal.invariant-loop-column
 invariant-loop-column l =

@@ -2,7 +2,7 @@ use Rattle.fbl_pictures.proofs.Common.{◌∙◌, ap, cut_of, entry_member, not,
 use Rattle.std.specs.Prelude.{Bool}
 use Rattle.fbl_pictures.specs.Columns.{has_come}
 use Rattle.fbl_pictures.specs.RunShapes.{IsKind, is_undone}
-use Rattle.fbl_pictures.proofs.run.marks.Receipts.push_glyph.Goals as goal
+use Rattle.fbl_pictures.proofs.run.marks.MarkKinds.push_glyph.Goals as goal
 
 pub returns : goal.returns
 returns c =

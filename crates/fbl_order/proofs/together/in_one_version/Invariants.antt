@@ -1,7 +1,0 @@
-use Rattle.std.proofs.Common.{◌≡◌, ◌++◌}
-use Rattle.std.specs.Vec.Iter.{into_iter_items}
-use Rattle.fbl_order.specs.Together.{AreTogether}
-use Rattle.fbl_order.proofs.together.in_one_version.Given as goal
-
-abbrev pub invariant-loop-recorded : goal.invariant-loop-recorded
-invariant-loop-recorded l = AreTogether l.yielded l.together × (l.yielded ++ into_iter_items l.recorded-iterator ≡ l.fn.files.items)
