@@ -18,8 +18,8 @@ use Rattle.std.specs.List.{Contains, cons_option, filter, filter_map}
 use Rattle.std.proofs.lemmas.Option.{get_or_from_slice_get}
 use Rattle.std.specs.FinSet as set
 use Rattle.fbl_trace.proofs.Gets.{Apart, Apart-filter_map, Apart-later}
-use Rattle.fbl_dumps.specs.Dumps.{IsDump, Parts}
-use Rattle.fbl_dumps.specs.Losses.{IsDumpOrphan, IsHeldOutside, IsLost, is_held_outside, lost_determinants}
+use Rattle.fbl_trace.specs.Dumps.{IsDump, Parts}
+use Rattle.fbl_trace.specs.Losses.{IsDumpOrphan, IsHeldOutside, IsLost, is_held_outside, lost_determinants}
 use Rattle.fbl_trace.proofs.PrecedenceLaws.{Has-first, Has-last}
 use Rattle.fbl_trace.specs.MemberSets.{Members}
 use Rattle.fbl_trace.specs.Precedence as base

@@ -1,12 +1,12 @@
 -- Whether a member outside the strike set holds a determinant, by the test.
 use Rattle.std.proofs.Common.{ℕ, Bool, not, ◌&&◌, refl}
-use Rattle.fbl_dumps.proofs.Common.{Decides, arith, nat_tests, nat_cmp, Any-from_list_any, list_any-from_Any, and_parts, Parts}
+use Rattle.fbl_trace.proofs.Common.{Decides, arith, nat_tests, nat_cmp, Any-from_list_any, list_any-from_Any, and_parts, Parts}
 use Rattle.std.proofs.lemmas.Bool.{not-true}
 use Rattle.std.specs.FinSet as set
 use Rattle.fbl_trace.proofs.RulesLaws.{Decides-same_determinant}
 use Rattle.fbl_trace.specs.Events.{same_determinant}
 use Rattle.fbl_trace.specs.declared.trace.Determinant.{Determinant}
-use Rattle.fbl_dumps.specs.Losses.{IsHeldOutside, is_held_outside}
+use Rattle.fbl_trace.specs.Losses.{IsHeldOutside, is_held_outside}
 
 abbrev holds_it : set.FinSet nat_cmp → Determinant → ℕ × Determinant → Bool
 holds_it strike d h = not (set.contains strike h.0) && same_determinant h.1 d

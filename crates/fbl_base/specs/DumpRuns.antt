@@ -3,8 +3,8 @@ use Rattle.std.specs.Prelude.{ℕ, ◌↔◌, List, map}
 use Rattle.fbl_trace.specs.declared.trace.Determinant.{Determinant}
 use Rattle.fbl_judge.specs.declared.audit.LostReceipt.{LostReceipt}
 use Rattle.fbl_trace.specs.MemberSets.{Members}
-use Rattle.fbl_dumps.specs.Dumps.{IsDump, Parts}
-use Rattle.fbl_dumps.specs.Losses.{IsDumpOrphan}
+use Rattle.fbl_trace.specs.Dumps.{IsDump, Parts}
+use Rattle.fbl_trace.specs.Losses.{IsDumpOrphan}
 use Rattle.fbl_runs.specs.Logs.{run_of, run_of_dump}
 use Rattle.fbl_runs.specs.Runs.{IsSafe, MayBeLost}
 

@@ -7,13 +7,13 @@
 
 ghost use Rattle.std.specs.Prelude.{◌≡◌, ◌↔◌, ℕ, true, IfOk};
 ghost use Rattle.std.specs.FinSet as set;
-ghost use Rattle.fbl_dumps.specs.Losses.{IsDumpOrphan, lost_determinants};
+ghost use Rattle.fbl_trace.specs.Losses.{IsDumpOrphan, lost_determinants};
 ghost use Rattle.fbl_base.specs.DumpRuns.{DumpLaw, determinants};
 
-pub use fbl_dumps::{Dump, check_dump, checked_dump};
 use fbl_judge::Pasts;
 pub use fbl_judge::{Audit, LostReceipt};
 use fbl_runs::Run;
+pub use fbl_trace::{Dump, check_dump, checked_dump};
 use fbl_trace::{Determinant, MemberSet};
 use std::alloc::{AllocError, Global};
 

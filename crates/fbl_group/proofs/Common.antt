@@ -10,8 +10,8 @@ pub use Rattle.std.proofs.lemmas.Fn.{filter_same}
 pub use Rattle.std.proofs.lemmas.List.{at_drop_more, get_or-set_other, get_or-set_same, get_or_default, get_or_past, length-map, length-set, map-append, set-get_or, length-take, map_more, take_all}
 pub use Rattle.std.proofs.lemmas.List.Sums.{AllPass-from_list_all, count_by_more_no, count_by_more_yes, fold-append, list_all-from_AllPass, sum_by-cons, count_by-le-length}
 pub use Rattle.std.specs.FinSet.{contains, empty_of_len, len-empty}
-pub use Rattle.fbl_dumps.specs.Losses.{IsDumpOrphan}
-pub use Rattle.fbl_dumps.specs.Dumps.{Parts}
+pub use Rattle.fbl_trace.specs.Losses.{IsDumpOrphan}
+pub use Rattle.fbl_trace.specs.Dumps.{Parts}
 pub use Rattle.fbl_trace.specs.Steps.{SendsAllowed, SendsWell}
 pub use Rattle.fbl_trace.specs.declared.outcome.Outcome.{Outcome}
 pub use Rattle.fbl_trace.specs.declared.trace.Determinant.{Determinant}

@@ -2,8 +2,8 @@
 
 ghost use Rattle.std.specs.Prelude.{◌≡◌, ℕ, ◌≤◌, ◌++◌, IfOk, IfErr, OnOk, length, map};
 ghost use Rattle.std.specs.FinSet as set;
-ghost use Rattle.fbl_dumps.specs.Dumps.{parts_of};
-ghost use Rattle.fbl_dumps.specs.Losses.{IsDumpOrphan};
+ghost use Rattle.fbl_trace.specs.Dumps.{parts_of};
+ghost use Rattle.fbl_trace.specs.Losses.{IsDumpOrphan};
 ghost use Rattle.fbl_trace.specs.Events.{mark_of};
 ghost use Rattle.fbl_trace.specs.MemberSets.{AllBelow};
 ghost use Rattle.fbl_law.specs.Knowledge.{Includes, IsDown};
@@ -13,10 +13,9 @@ ghost use Rattle.fbl_group.specs.Readers.{IsDumpRefusal};
 
 use crate::group::Group;
 use crate::refusals::DumpGroupRefusal;
-use fbl_dumps::{Dump, RawDump};
 use fbl_member::MemberRec;
 use fbl_table::Table;
-use fbl_trace::{Behaviour, Content, Determinant, Event, Mark, Member, MemberSet};
+use fbl_trace::{Behaviour, Content, Determinant, Dump, Event, Mark, Member, MemberSet, RawDump};
 use std::alloc::{AllocError, Global};
 
 impl<B: Behaviour> Group<B> {

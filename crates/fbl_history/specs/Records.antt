@@ -12,7 +12,7 @@ use Rattle.fbl_trace.specs.Events.{mark_of, receipt_of}
 use Rattle.fbl_trace.specs.Fold.{Next}
 use Rattle.fbl_trace.specs.MemberSets.{Members, members_where}
 use Rattle.fbl_table.specs.declared.entry.Entry.{Entry as TableEntry}
-use Rattle.fbl_dumps.specs.declared.refusal.DumpRefusal.{DumpRefusal}
+use Rattle.fbl_trace.specs.declared.dump.refusal.DumpRefusal.{DumpRefusal}
 use Rattle.fbl_law.specs.Groups.{GroupRecord, member, member_checkpoint}
 use Rattle.fbl_law.specs.GroupSteps.{IsCheckpoint, IsGroupStart}
 use Rattle.fbl_group.specs.Checkpoints.{checkpoint_refusal}

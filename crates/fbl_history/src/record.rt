@@ -9,9 +9,8 @@ mod entries;
 
 use crate::column::Column;
 use crate::record::columns::raw_record_of;
-use fbl_dumps::DumpRefusal;
 use fbl_runs::{LogBreach, MOST_RESTARTS, RawLog, Run, checked_log};
-use fbl_trace::{Behaviour, Config, MOST_EVENTS, Note};
+use fbl_trace::{Behaviour, Config, DumpRefusal, MOST_EVENTS, Note};
 use std::alloc::{AllocError, Global};
 use thiserror::Error;
 

@@ -8,8 +8,8 @@ use Rattle.fbl_input.specs.declared.input_fault.InputFault.{InputFault}
 use Rattle.fbl_input.specs.declared.output.OutputFault.{OutputFault}
 use Rattle.fbl_input.specs.declared.output.OutputFault.TheVariants as outputs
 use Rattle.fbl_input.specs.Shapes.{longest}
-use Rattle.fbl_dumps.specs.declared.refusal.DumpRefusal.{DumpRefusal}
-use Rattle.fbl_dumps.specs.declared.refusal.DumpRefusal.TheVariants as dump
+use Rattle.fbl_trace.specs.declared.dump.refusal.DumpRefusal.{DumpRefusal}
+use Rattle.fbl_trace.specs.declared.dump.refusal.DumpRefusal.TheVariants as dump
 use Rattle.fbl_runs.specs.declared.fault.LogBreach.{LogBreach}
 use Rattle.fbl_trace.specs.declared.config.ConfigRefusal.{ConfigRefusal}
 use Rattle.fbl_trace.specs.declared.config.ConfigRefusal.TheVariants as config

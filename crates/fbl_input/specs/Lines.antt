@@ -22,3 +22,11 @@ set_words s = with_commas (member_list s)
 abbrev pub line : List (List ℕ) → List ℕ
 line [] = 10 ∷ []
 line (piece ∷ pieces) = piece ++ line pieces
+
+-- how many receipts are lost
+abbrev pub lost_line : ℕ → List ℕ
+lost_line lost = line (codes "lost " ∷ decimal lost ∷ [])
+
+-- who is an orphan
+abbrev pub orphans_line : set.FinSet nat_cmp → List ℕ
+orphans_line orphans = line (codes "orphans " ∷ set_words orphans ∷ [])

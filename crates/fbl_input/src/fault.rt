@@ -6,8 +6,7 @@ ghost use Rattle.fbl_input.specs.declared.fault.RunFault.TheVariants.{Memory};
 use crate::input_fault::InputFault;
 use crate::key::Key;
 use crate::output::OutputFault;
-use fbl_dumps::DumpRefusal;
-use fbl_trace::ConfigRefusal;
+use fbl_trace::{ConfigRefusal, DumpRefusal};
 use std::alloc::{AllocError, AllocFailed};
 use thiserror::Error;
 

@@ -28,7 +28,7 @@ pub use Rattle.fbl_trace.proofs.RulesLaws.{receipt-number, filter_all, in_flight
 pub use Rattle.fbl_trace.proofs.RulesLaws.{eqb-self, in_flight-sent, is_sent, receipts-step, sends-step, sent-before, is_receipt, Decides-same_determinant}
 pub use Rattle.fbl_trace.proofs.PrecedenceLaws.{one_place, one_send, Earlier-front, Has-append, Has-filter, Has-first, Has-last, Precedes-entered, Precedes-filter, Precedes-front, Precedes-within}
 pub use Rattle.fbl_trace.proofs.Sets.{len-within, some_member, some_outside}
-pub use Rattle.fbl_dumps.specs.Dumps.{HeldAt}
+pub use Rattle.fbl_trace.specs.Dumps.{HeldAt}
 pub use Rattle.fbl_trace.specs.Configs.{IsConfig, Settings, StartAllowed}
 pub use Rattle.fbl_trace.specs.Fold.{Action, Lawful, Logged, Next, Progress, action_of, actions_of, advanced, after_notes, begun, note_of, notes_of, numbered, responses, sent}
 pub use Rattle.fbl_trace.specs.MemberSets.{AllBelow, Members, contains-members_where, contains-union, contains-insert_other, contains-insert_same, members_where}

@@ -13,8 +13,8 @@ use Rattle.fbl_table.specs.Tables.{is_held}
 use Rattle.fbl_law.specs.Knowledge.{Includes, Knowledge, table, Names, Holds, IsHolder, IsRecorded, IsDown}
 use Rattle.fbl_law.specs.Groups.{GroupRecord, member, marks, knowledge, receipts, is_recorded, IsSound}
 use Rattle.fbl_trace.specs.Fold.{Next}
-use Rattle.fbl_dumps.specs.Dumps.{Parts, IsDump}
-use Rattle.fbl_dumps.specs.Losses.{IsDumpOrphan}
+use Rattle.fbl_trace.specs.Dumps.{Parts, IsDump}
+use Rattle.fbl_trace.specs.Losses.{IsDumpOrphan}
 use Rattle.fbl_table.specs.declared.entry.Entry.{Entry}
 use Rattle.fbl_member.specs.Members.{MemberRecord}
 

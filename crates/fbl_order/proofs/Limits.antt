@@ -4,7 +4,7 @@ use Rattle.fbl_order.proofs.Fronts.{none-from_many}
 use Rattle.fbl_order.proofs.Marks.{is_restart-is, marks-before, restarts-more, weight}
 use Rattle.fbl_order.proofs.Common.{true, cond, is_some, ◌+◌}
 use Rattle.std.proofs.lemmas.List.Sums.{sum_by-take-le}
-use Rattle.fbl_dumps.specs.declared.refusal.DumpRefusal.TheVariants.{BadEvent}
+use Rattle.fbl_trace.specs.declared.dump.refusal.DumpRefusal.TheVariants.{BadEvent}
 use Rattle.fbl_trace.specs.declared.fault.Breach.TheVariants as breach
 use Rattle.fbl_runs.specs.Rules.{is_restart}
 use Rattle.fbl_runs.specs.declared.entry.Restart as restart

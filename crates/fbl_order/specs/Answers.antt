@@ -6,8 +6,8 @@ use Rattle.fbl_trace.specs.declared.trace.Determinant.{Determinant}
 use Rattle.fbl_trace.specs.declared.trace.Mark.{Mark}
 use Rattle.fbl_trace.specs.Precedence.{Depends, Precedes}
 use Rattle.fbl_trace.specs.Rules.{WellFormed}
-use Rattle.fbl_dumps.specs.Dumps.{IsDump, Parts}
-use Rattle.fbl_dumps.specs.Losses.{IsDumpOrphan, lost_determinants}
+use Rattle.fbl_trace.specs.Dumps.{IsDump, Parts}
+use Rattle.fbl_trace.specs.Losses.{IsDumpOrphan, lost_determinants}
 use Rattle.fbl_runs.specs.declared.entry.Entry.{Entry}
 use Rattle.fbl_runs.specs.HappenedBefore.{Position}
 use Rattle.fbl_runs.specs.Logs.{IsLog, RunParts, run_of, run_of_dump}

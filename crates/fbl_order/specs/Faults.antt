@@ -2,11 +2,11 @@
 use Rattle.std.specs.Prelude.{ℕ, ◌≡◌, ◌≢◌, ◌≤◌, ◌+◌, ◌-◌, ◌⊎◌, Bool, true, false, List, length, Some, drop, map, slice_get, slice_index_or, take, AllPairs}
 use Rattle.fbl_trace.specs.declared.fault.Breach.{Breach}
 use Rattle.fbl_trace.specs.declared.fault.Breach.TheVariants as breach
-use Rattle.fbl_dumps.specs.declared.refusal.DumpRefusal.{DumpRefusal}
-use Rattle.fbl_dumps.specs.declared.refusal.DumpRefusal.TheVariants.{BadEvent, BadF, BadMembers, Memory}
+use Rattle.fbl_trace.specs.declared.dump.refusal.DumpRefusal.{DumpRefusal}
+use Rattle.fbl_trace.specs.declared.dump.refusal.DumpRefusal.TheVariants.{BadEvent, BadF, BadMembers, Memory}
 use Rattle.fbl_trace.specs.declared.fault.EventRule.TheVariants.{TooMany, NothingInFlight}
 use Rattle.fbl_trace.specs.declared.trace.Mark.{Mark}
-use Rattle.fbl_dumps.specs.Dumps.{Parts, RefusesDump, IsDumpBreach}
+use Rattle.fbl_trace.specs.Dumps.{Parts, RefusesDump, IsDumpBreach}
 use Rattle.fbl_trace.specs.Breaches.{BreaksEvent}
 use Rattle.fbl_trace.specs.Configs.{BreaksGroup, FAllowed, IsFirstBreach, MembersAllowed}
 use Rattle.fbl_trace.specs.declared.config.GroupRule.TheVariants as group_rule

@@ -3,8 +3,8 @@ use Rattle.std.specs.Prelude.{ℕ, ◌≡◌, ◌≢◌, ◌⊎◌, List, Some, 
 use Rattle.std.specs.List.{list_any}
 use Rattle.std.specs.FinSet as set
 use Rattle.std.specs.Ordering.{nat_cmp}
-use Rattle.fbl_dumps.specs.declared.raw_dump.RawDump.{RawDump}
-use Rattle.fbl_dumps.specs.Dumps.{Parts}
+use Rattle.fbl_trace.specs.declared.dump.raw_dump.RawDump.{RawDump}
+use Rattle.fbl_trace.specs.Dumps.{Parts}
 use Rattle.fbl_runs.specs.declared.run.RawLog.{RawLog}
 use Rattle.fbl_runs.specs.Logs.{RunParts}
 use Rattle.fbl_trace.specs.Breaches.{IsLeastOutside}

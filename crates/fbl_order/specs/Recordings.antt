@@ -1,6 +1,6 @@
 -- What comes of several dumps, or of several logs: one run of all their events, in an order.
 use Rattle.std.specs.Prelude.{◌≡◌, ℕ, ◌<◌, Bool, false, true, not, List, ◌∷◌, ◌++◌, length, map}
-use Rattle.fbl_dumps.specs.Dumps.{Parts, IsDump}
+use Rattle.fbl_trace.specs.Dumps.{Parts, IsDump}
 use Rattle.fbl_trace.specs.Rules.{WellFormed}
 use Rattle.fbl_order.specs.declared.files.FilesDiffer.TheVariants as files
 use Rattle.fbl_order.specs.declared.order.Ordered.{Ordered}

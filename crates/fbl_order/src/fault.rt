@@ -1,8 +1,7 @@
 //! Why what is recorded of a run has no order.
 
-use fbl_dumps::DumpRefusal;
 use fbl_runs::{ControlRule, Entry, LifeRule, LogBreach};
-use fbl_trace::{Breach, EventRule};
+use fbl_trace::{Breach, DumpRefusal, EventRule};
 use std::alloc::AllocError;
 use std::convert::From;
 use thiserror::Error;
@@ -56,7 +55,7 @@ pub enum OrderFault {
 impl From<AllocError> for OrderFault {
     ghost use Rattle.std.specs.Prelude.{◌≡◌};
     ghost use Rattle.fbl_trace.specs.declared.fault.Breach.TheVariants as breach;
-    ghost use Rattle.fbl_dumps.specs.declared.refusal.DumpRefusal.TheVariants.{Memory};
+    ghost use Rattle.fbl_trace.specs.declared.dump.refusal.DumpRefusal.TheVariants.{Memory};
     ghost use Rattle.fbl_runs.specs.declared.fault.LogBreach.TheVariants.{Trace};
     ghost use Rattle.fbl_order.specs.declared.fault.OrderFault.TheVariants.{Refused};
 

@@ -1,16 +1,15 @@
 //! What several files record of one run, as the members of a group write one each.
 
 ghost use Rattle.std.specs.Prelude.{◌≡◌, ◌<◌, ℕ, IfErr, IfOk, MatchOption, length};
-ghost use Rattle.fbl_dumps.specs.Dumps.{parts_of};
+ghost use Rattle.fbl_trace.specs.Dumps.{parts_of};
 ghost use Rattle.fbl_runs.specs.Logs.{parts_of_log};
 ghost use Rattle.fbl_order.specs.Files.{Agrees, AgreesAt, Differs, IsFirstOther, IsFirstOutside, IsUnion, IsUnionOfDumps, IsUnionOfLogs, IsWithinAt, RefusesFiles, dump_group, log_group};
 ghost use Rattle.fbl_order.specs.Pieces.{entries_of};
 
 use crate::order::{Ordered, items_at};
 use crate::pieces::{lives_of, places_by_life};
-use fbl_dumps::RawDump;
 use fbl_runs::{Entry, RawLog};
-use fbl_trace::{MemberSet, Outsider};
+use fbl_trace::{MemberSet, Outsider, RawDump};
 use std::alloc::{AllocError, Global};
 use std::convert::From;
 use thiserror::Error;

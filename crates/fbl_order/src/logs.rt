@@ -10,9 +10,8 @@ ghost use Rattle.fbl_order.specs.Orders.{ArePlaces, IsOrderOfEntries, StandInOrd
 use crate::fault::{Obstacle, OrderFault, Stuck};
 use crate::merge::Merge;
 use crate::order::{Ordered, group_refusal, items_at, merge_in_order};
-use fbl_dumps::DumpRefusal;
 use fbl_runs::{LifeFault, LogBreach, RawLog, RecordFault, Run, checked_log};
-use fbl_trace::{Breach, EventFault};
+use fbl_trace::{Breach, DumpRefusal, EventFault};
 use std::alloc::Global;
 
 /// The place at which what has the number was given.

@@ -6,9 +6,8 @@ ghost use Rattle.fbl_order.specs.Recordings.{lengths_of};
 use crate::fault::{Obstacle, OrderFault, Stuck};
 use crate::files::{FilesDiffer, first_outsider};
 use crate::recordings::{MergeFault, Recordings};
-use fbl_dumps::{DumpRefusal, RawDump};
 use fbl_runs::{InFile, LogBreach, RawLog, Sources, Spot};
-use fbl_trace::{Breach, MemberSet, PairFault};
+use fbl_trace::{Breach, DumpRefusal, MemberSet, PairFault, RawDump};
 use std::alloc::{AllocError, Global};
 use std::fmt;
 

@@ -10,9 +10,8 @@ ghost use Rattle.fbl_order.specs.Orders.{items_at};
 
 use crate::fault::OrderFault;
 use crate::merge::{Merge, have_lives};
-use fbl_dumps::DumpRefusal;
 use fbl_runs::{Entry, LifeFault, LifeRule, LogBreach, MOST_RESTARTS};
-use fbl_trace::{Breach, EventFault, EventRule, GroupRule, MOST_EVENTS, group_breach};
+use fbl_trace::{Breach, DumpRefusal, EventFault, EventRule, GroupRule, MOST_EVENTS, group_breach};
 use std::alloc::{AllocError, Global};
 
 /// A dump or a log whose events or entries were put in an order.

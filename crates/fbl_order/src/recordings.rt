@@ -9,8 +9,8 @@ use crate::fault::OrderFault;
 use crate::files::{FilesDiffer, union_of_dumps, union_of_logs};
 use crate::logs::order_union;
 use crate::order::Ordered;
-use fbl_dumps::RawDump;
 use fbl_runs::{RawLog, RawRecording, Recording};
+use fbl_trace::RawDump;
 use std::alloc::{AllocError, AllocFailed, Global};
 use std::convert::From;
 

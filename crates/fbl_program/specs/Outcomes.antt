@@ -20,13 +20,13 @@ use Rattle.fbl_play.specs.Plays.{PlaysUnobserved, next_of}
 use Rattle.fbl_scripts.specs.Reasons.{is_refusal}
 use Rattle.fbl_play.specs.Transcripts.{history, text}
 use Rattle.fbl_records.specs.DumpLines.{dump_line}
-use Rattle.fbl_records.specs.Lines.{audit_lines}
+use Rattle.fbl_verdicts.specs.Lines.{audit_lines}
 use Rattle.fbl_records.specs.LogLines.{log_line}
 use Rattle.fbl_records.specs.Logs.{IsCheckedOf, IsNotChecked, IsNotRecorded, recorded_of_input}
 use Rattle.fbl_runs.specs.Recordings.{recorded_parts}
 use Rattle.fbl_order.specs.Recordings.{AreRecordings, IsMergeOf, RefusesMerge, lengths_of}
-use Rattle.fbl_records.specs.Texts.{IsChecked, IsCheckText, says_nothing}
-use Rattle.fbl_records.specs.declared.check_text.Checked.{Checked}
+use Rattle.fbl_verdicts.specs.Texts.{IsChecked, IsCheckText, says_nothing}
+use Rattle.fbl_verdicts.specs.declared.check_text.Checked.{Checked}
 use Rattle.fbl_order.specs.declared.recordings.MergeFault.{MergeFault}
 use Rattle.fbl_order.specs.declared.recordings.Recordings.{Recordings}
 use Rattle.fbl_runs.specs.declared.recording.Recording.{Recording}

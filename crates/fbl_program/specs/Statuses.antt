@@ -1,6 +1,6 @@
 -- The exit statuses of the program.
 use Rattle.std.specs.Prelude.{◌≡◌, ◌≤◌, ◌⊎◌, ℕ, Bool, true, false, Result, Ok, Err}
-use Rattle.fbl_dumps.specs.declared.refusal.DumpRefusal.TheVariants as dump
+use Rattle.fbl_trace.specs.declared.dump.refusal.DumpRefusal.TheVariants as dump
 use Rattle.fbl_input.specs.declared.fault.RunFault.{RunFault}
 use Rattle.fbl_input.specs.declared.fault.RunFault.TheVariants as faults
 use Rattle.fbl_order.specs.declared.fault.OrderFault.TheVariants as orders

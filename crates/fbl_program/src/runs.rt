@@ -4,7 +4,7 @@ ghost use Rattle.std.specs.Prelude.{◌≡◌, ◌<◌, [], IfOk, map, string_by
 ghost use Rattle.fbl_input.specs.Faults.{PutsOut};
 ghost use Rattle.fbl_judge.specs.Audits.{AreNamed};
 ghost use Rattle.fbl_order.specs.Recordings.{count_of};
-ghost use Rattle.fbl_records.specs.Texts.{IsChecked};
+ghost use Rattle.fbl_verdicts.specs.Texts.{IsChecked};
 ghost use Rattle.fbl_program.specs.Outcomes.{Answers, EndsMerged, EndsRecorded, EndsWith, IsAnswer, IsAnswerTo, IsPlaceMissing, IsPlaceMissingOf, run_line, run_of};
 
 use crate::around::place_asked;
@@ -18,8 +18,9 @@ use fbl_input::{OutputFault, RunFault, put};
 use fbl_judge::{LostReceipt, Pasts, audit_of};
 use fbl_order::{InputFiles, Recordings, merge_of};
 use fbl_pictures::{column_count, write_run_picture};
-use fbl_records::{Checked, RunExplanation, dump_text, log_text, write_audit, write_check};
+use fbl_records::{dump_text, log_text};
 use fbl_runs::{RawRecording, Recording, Run, Sources};
+use fbl_verdicts::{Checked, RunExplanation, write_audit, write_check};
 use std::alloc::{AllocError, Global};
 use std::io::Write;
 

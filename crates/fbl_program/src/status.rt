@@ -5,9 +5,9 @@ ghost use Rattle.fbl_input.specs.Faults.{run_result};
 ghost use Rattle.fbl_program.specs.Statuses.{fault_status, merge_status, status_after};
 
 use crate::streams::Failure;
-use fbl_dumps::DumpRefusal;
 use fbl_input::{OutputFault, RunFault};
 use fbl_order::{FilesDiffer, MergeFault, OrderFault};
+use fbl_trace::DumpRefusal;
 use std::fmt;
 
 /// Everything was done, and all is well.

@@ -5,11 +5,4 @@ pub mod Records
 pub mod Values
 pub mod DumpValues
 pub mod LogValues
-pub mod Cuts
 pub mod TokenLaws
-pub mod ForgottenLaws
-pub mod UndoneLaws
-pub mod OverviewLaws
-pub mod InFlightLaws
-pub mod Sayings
-pub mod Zips

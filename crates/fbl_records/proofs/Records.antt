@@ -13,10 +13,10 @@ use Rattle.fbl_input.specs.declared.key.Key.TheVariants as keys
 use Rattle.fbl_input.specs.declared.input_kind.InputKind.TheVariants as kinds
 use Rattle.std.specs.Prelude.{Vec}
 use Rattle.std.specs.declared.alloc.Global.{Global}
-use Rattle.fbl_dumps.specs.Dumps.{IsDumpBreach, RefusesDump, parts_of}
-use Rattle.fbl_dumps.specs.declared.raw_dump.RawDump.{RawDump}
-use Rattle.fbl_dumps.specs.declared.refusal.DumpRefusal.{DumpRefusal}
-use Rattle.fbl_dumps.specs.declared.refusal.DumpRefusal.TheVariants as dump
+use Rattle.fbl_trace.specs.Dumps.{IsDumpBreach, RefusesDump, parts_of}
+use Rattle.fbl_trace.specs.declared.dump.raw_dump.RawDump.{RawDump}
+use Rattle.fbl_trace.specs.declared.dump.refusal.DumpRefusal.{DumpRefusal}
+use Rattle.fbl_trace.specs.declared.dump.refusal.DumpRefusal.TheVariants as dump
 use Rattle.fbl_input.specs.Faults.{dump_fault}
 use Rattle.fbl_runs.specs.declared.fault.LogBreach.TheVariants.{Trace}
 use Rattle.fbl_trace.specs.declared.fault.Breach.{Breach}

@@ -13,7 +13,7 @@ use Rattle.fbl_trace.specs.declared.trace.Mark.{Mark}
 use Rattle.fbl_trace.specs.declared.trace.Mark.TheVariants.{Send, Receipt}
 use Rattle.fbl_runs.specs.declared.entry.Entry.{Entry}
 use Rattle.fbl_runs.specs.declared.entry.Entry.TheVariants.{Event, Hold, LaterReceipt, Restart, Store, Tell, Told}
-use Rattle.fbl_dumps.specs.Dumps.{Parts}
+use Rattle.fbl_trace.specs.Dumps.{Parts}
 use Rattle.fbl_trace.specs.MemberSets.{member_list}
 use Rattle.fbl_input.specs.declared.key.Key.TheVariants as keys
 use Rattle.fbl_input.specs.Shapes.{all_shaped, json_of, longest, name_of}

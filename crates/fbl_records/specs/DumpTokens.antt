@@ -6,8 +6,8 @@ use Rattle.serde_json.specs.Data.{Data, Members, unsigned, object}
 use Rattle.serde_json.specs.Find.{get_member}
 use Rattle.serde_json.specs.Read.{number_of, of_items, of_json, of_members}
 use Rattle.serde_json.specs.View.{items_of}
-use Rattle.fbl_dumps.specs.Dumps.{parts_of}
-use Rattle.fbl_dumps.specs.declared.raw_dump.RawDump.{RawDump}
+use Rattle.fbl_trace.specs.Dumps.{parts_of}
+use Rattle.fbl_trace.specs.declared.dump.raw_dump.RawDump.{RawDump}
 use Rattle.fbl_input.specs.declared.input_kind.InputKind.TheVariants as kinds
 use Rattle.fbl_input.specs.declared.key.Key.{Key}
 use Rattle.fbl_input.specs.declared.key.Key.TheVariants as keys

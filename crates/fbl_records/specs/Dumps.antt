@@ -2,8 +2,8 @@
 use Rattle.std.specs.Prelude.{◌≡◌, ℕ, List, Option, Some, is_some, Result, Ok, Err, if◌then◌else◌}
 use Rattle.serde_json.specs.Data.{Data}
 use Rattle.serde_json.specs.Find.{as_object}
-use Rattle.fbl_dumps.specs.declared.refusal.DumpRefusal.TheVariants as dump
-use Rattle.fbl_dumps.specs.Dumps.{Parts, IsDump, IsDumpBreach, RefusesDump}
+use Rattle.fbl_trace.specs.declared.dump.refusal.DumpRefusal.TheVariants as dump
+use Rattle.fbl_trace.specs.Dumps.{Parts, IsDump, IsDumpBreach, RefusesDump}
 use Rattle.fbl_input.specs.declared.key.Key.TheVariants as keys
 use Rattle.fbl_input.specs.declared.fault.RunFault.{RunFault}
 use Rattle.fbl_input.specs.declared.fault.RunFault.TheVariants as faults

@@ -1,12 +1,6 @@
 pub mod Dumps
 pub mod DumpLines
 pub mod DumpTokens
-pub mod Lines
 pub mod EventLines
 pub mod Logs
 pub mod LogLines
-pub mod Texts
-pub mod Forgotten
-pub mod UndoneReasons
-pub mod Overviews
-pub mod RunExplanations

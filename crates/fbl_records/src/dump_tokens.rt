@@ -4,7 +4,7 @@ ghost use Rattle.std.specs.Prelude.{◌≡◌, ◌∷◌, List, Ok, Some, true, 
 ghost use Rattle.json.specs.Token.{begin_array};
 ghost use Rattle.json.specs.Json.{after_end_array};
 ghost use Rattle.serde_json.specs.Data.{Data, Members, object, put};
-ghost use Rattle.fbl_dumps.specs.Dumps.{parts_of};
+ghost use Rattle.fbl_trace.specs.Dumps.{parts_of};
 ghost use Rattle.fbl_input.specs.Items.{receipt_named, send_from};
 ghost use Rattle.fbl_input.specs.Shapes.{byte_shape, count_shape, list_of, member_shape, number_within, set_shape};
 ghost use Rattle.fbl_records.specs.Dumps.{parts_of_data};
@@ -12,9 +12,8 @@ ghost use Rattle.fbl_records.specs.DumpTokens.{AreFieldsOf, AreNext, IsDumpText,
 ghost use Rattle.fbl_runs.specs.declared.entry.Entry.TheVariants.{Event};
 
 use fast_float::Numeral;
-use fbl_dumps::RawDump;
 use fbl_input::Key;
-use fbl_trace::{Determinant, Mark, Member, MemberSet};
+use fbl_trace::{Determinant, Mark, Member, MemberSet, RawDump};
 use json::{Reader, Scratch, Token};
 use std::alloc::{AllocError, Global};
 

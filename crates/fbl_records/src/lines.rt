@@ -10,9 +10,8 @@ ghost use Rattle.fbl_input.specs.Shapes.{list_of};
 ghost use Rattle.fbl_records.specs.DumpLines.{Appends, AppendsTokens, AreReadBack, IsDumpRead, IsLineOf, IsReadBack, IsSpelled, dump_data, dump_line, ReadsBack, event_data, list_data, number_data};
 ghost use Rattle.fbl_records.specs.LogLines.{IsLogRead, LogReadsBack, log_data, log_line};
 
-use fbl_dumps::Dump;
 use fbl_runs::{Entry, Restart, Run};
-use fbl_trace::{Determinant, Mark, Member, MemberSet};
+use fbl_trace::{Determinant, Dump, Mark, Member, MemberSet};
 use json::Writer;
 use std::alloc::{AllocError, Global};
 

@@ -2,7 +2,7 @@
 
 ghost use Rattle.std.specs.Prelude.{◌≡◌, ◌≤◌, ℕ, List, length, IfOk, IfErr, IfSome};
 ghost use Rattle.serde_json.specs.View.{view};
-ghost use Rattle.fbl_dumps.specs.Dumps.{IsDump, parts_of};
+ghost use Rattle.fbl_trace.specs.Dumps.{IsDump, parts_of};
 ghost use Rattle.fbl_input.specs.Shapes.{Gives, longest};
 ghost use Rattle.fbl_runs.specs.Logs.{IsLog, parts_of_log};
 ghost use Rattle.fbl_records.specs.Dumps.{IsDumpOf, IsNoDump, parts_of_data, parts_of_input};
@@ -13,14 +13,13 @@ ghost use Rattle.fbl_runs.specs.declared.recording.Recording.TheVariants as part
 use crate::dump_tokens::dump_in_tokens;
 use crate::event_lines::{JsonText, json_text};
 use crate::log_version::{LogVersionShape, log_version_in};
-use fbl_dumps::{Dump, RawDump, checked_dump};
 use fbl_input::items::{EntryShape, EventShape, PairShape};
 use fbl_input::shapes::{
     ByteShape, SetShape, no_other_key, object_in, value_field, value_in, values_field,
 };
 use fbl_input::{InputFault, InputKind, Key, RunFault, read_input};
 use fbl_runs::{Entry, LogBreach, RawLog, RawRecording, Recording, Run, checked_log};
-use fbl_trace::{Determinant, Mark, Member, MemberSet};
+use fbl_trace::{Determinant, Dump, Mark, Member, MemberSet, RawDump, checked_dump};
 use serde_json::Value;
 use std::alloc::Global;
 use std::io::Read;

@@ -2,8 +2,8 @@
 use Rattle.std.specs.Option.{is_some}
 use Rattle.fbl_runs.proofs.Common.{Bool, Option, None, true, false, ℕ, zero, suc, ◌≡◌, ◌<◌, ◌≤◌, ◌+◌, ◌↔◌, ◌⊎◌, inl, inr, List, [], ◌∷◌, ◌++◌, length, Some, slice_get, refl, sym, ap, subst, ◌∙◌, arith, take, append-nil, take-more, filter_map, filter_map-append, length-append}
 use Rattle.fbl_runs.proofs.Common.{cases_lt, slice_get_within, receipt_of, Determinant, Mark, Send, Receipt, Entry, Event, LaterReceipt, Restart, Tell, Told, entry_member, log_of, mark_in, marks, recorded_in, at, IsKnownTo, HappenedBefore}
-use Rattle.fbl_dumps.specs.Dumps.{IsDump, Parts}
-use Rattle.fbl_dumps.proofs.DumpLaws.{member_below}
+use Rattle.fbl_trace.specs.Dumps.{IsDump, Parts}
+use Rattle.fbl_trace.proofs.DumpLaws.{member_below}
 use Rattle.std.proofs.Common.{map}
 use Rattle.std.specs.List.{list_any}
 use Rattle.fbl_trace.specs.Configs.{FAllowed, MembersAllowed}
@@ -13,7 +13,7 @@ use Rattle.fbl_runs.specs.declared.fault.RecordRule.TheVariants.{NotBefore, Outs
 use Rattle.fbl_runs.specs.Clocks.{seen}
 use Rattle.fbl_runs.specs.ControlMessages.{MayBeTold}
 use Rattle.fbl_runs.specs.Lawful.{BreaksAt, IsKnownAt, ObeysAt, records}
-use Rattle.fbl_dumps.specs.declared.refusal.DumpRefusal.{DumpRefusal}
+use Rattle.fbl_trace.specs.declared.dump.refusal.DumpRefusal.{DumpRefusal}
 use Rattle.fbl_trace.specs.Configs.{IsFirstBreach}
 use Rattle.fbl_runs.specs.declared.fault.LogBreach.{LogBreach}
 use Rattle.fbl_runs.specs.declared.fault.RecordFault.{RecordFault}

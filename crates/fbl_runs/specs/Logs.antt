@@ -1,13 +1,13 @@
 -- Recorded runs, from dumps and from logs, and the rules that they obey.
 use Rattle.std.specs.Prelude.{ℕ, ◌≡◌, ◌⊎◌, ◌++◌, Bool, true, false, List, [], Some, map}
 use Rattle.fbl_trace.specs.declared.trace.Determinant.{Determinant}
-use Rattle.fbl_dumps.specs.Dumps.{Parts, IsDump, RefusesDump, IsDumpBreach}
+use Rattle.fbl_trace.specs.Dumps.{Parts, IsDump, RefusesDump, IsDumpBreach}
 use Rattle.fbl_trace.specs.Breaches.{IsEventFault}
 use Rattle.fbl_trace.specs.Configs.{FAllowed, IsFirstBreach, MembersAllowed}
 use Rattle.fbl_trace.specs.MemberSets.{AllBelow, Members}
 use Rattle.fbl_trace.specs.declared.fault.Breach.TheVariants as breach
-use Rattle.fbl_dumps.specs.declared.refusal.DumpRefusal.{DumpRefusal}
-use Rattle.fbl_dumps.specs.declared.refusal.DumpRefusal.TheVariants.{BadEvent, BadF, BadHeld, BadMembers, BadStrike, Memory}
+use Rattle.fbl_trace.specs.declared.dump.refusal.DumpRefusal.{DumpRefusal}
+use Rattle.fbl_trace.specs.declared.dump.refusal.DumpRefusal.TheVariants.{BadEvent, BadF, BadHeld, BadMembers, BadStrike, Memory}
 use Rattle.fbl_runs.specs.declared.entry.Entry.{Entry}
 use Rattle.fbl_runs.specs.declared.entry.Entry.TheVariants.{Event, Hold}
 use Rattle.fbl_runs.specs.declared.fault.LogBreach.{LogBreach}

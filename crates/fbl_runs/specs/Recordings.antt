@@ -1,5 +1,5 @@
 -- What is recorded of a run: a dump or a log.
-use Rattle.fbl_dumps.specs.Dumps.{IsDump, parts_of}
+use Rattle.fbl_trace.specs.Dumps.{IsDump, parts_of}
 use Rattle.fbl_runs.specs.Logs.{IsLog, parts_of_log}
 use Rattle.fbl_runs.specs.declared.recording.RawRecording.{RawRecording}
 use Rattle.fbl_runs.specs.declared.recording.RawRecording.TheVariants as raws

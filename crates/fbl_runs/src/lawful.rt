@@ -1,7 +1,7 @@
 //! Which entries may stand in a log.
 
 ghost use Rattle.std.specs.Prelude.{◌≡◌, ◌<◌, ◌+◌, ◌≤◌, ◌↔◌, ℕ, IfOk, IfSome, MatchOption, Some, false, length, slice_get, take, true};
-ghost use Rattle.fbl_dumps.specs.Dumps.{IsDump, RefusesDump, IsDumpBreach};
+ghost use Rattle.fbl_trace.specs.Dumps.{IsDump, RefusesDump, IsDumpBreach};
 ghost use Rattle.fbl_runs.specs.Entries.{marks};
 ghost use Rattle.fbl_runs.specs.declared.causality.Causality.TheVariants.{HappenedBefore};
 ghost use Rattle.fbl_runs.specs.Lawful.{BreaksAt, IsEventPlace, IsFirstBad, IsKnownAt, ObeysAt, records};
@@ -19,8 +19,10 @@ use crate::index::Index;
 use crate::life_rules::first_life_fault;
 use crate::receipts::ReceiptPlaces;
 use crate::run::RawLog;
-use fbl_dumps::{DumpRefusal, RawDump, checked_dump};
-use fbl_trace::{Breach, EventFault, GroupRule, MOST_PAIRS, Mark, Outsider, group_breach};
+use fbl_trace::{
+    Breach, DumpRefusal, EventFault, GroupRule, MOST_PAIRS, Mark, Outsider, RawDump, checked_dump,
+    group_breach,
+};
 use std::alloc::{AllocError, Global};
 
 /// The sends and receipts, in order.

@@ -1,7 +1,7 @@
 //! What is recorded of a run: its end, in a dump, or the run itself, in a log.
 
 use crate::run::{RawLog, Run};
-use fbl_dumps::{Dump, RawDump};
+use fbl_trace::{Dump, RawDump};
 
 /// What is recorded of a run. It may break the rules of its kind.
 #[derive(Drop)]

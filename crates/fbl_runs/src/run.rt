@@ -8,8 +8,7 @@ use crate::entry::Entry;
 use crate::fault::LogBreach;
 use crate::judged::Judged;
 use crate::lawful::refusal;
-use fbl_dumps::{Dump, DumpRefusal};
-use fbl_trace::{Determinant, Mark, Member, MemberSet};
+use fbl_trace::{Determinant, Dump, DumpRefusal, Mark, Member, MemberSet};
 use std::alloc::{AllocError, Global};
 use std::marker::Model;
 

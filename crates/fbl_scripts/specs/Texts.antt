@@ -2,13 +2,13 @@
 use Rattle.std.specs.Prelude.{◌≡◌, ℕ, zero, suc, ◌↔◌, true, List, [], ◌∷◌, ◌++◌, length, codes, decimal, if◌then◌else◌}
 use Rattle.std.specs.FinSet as set
 use Rattle.fbl_trace.specs.declared.trace.Note.{Note}
-use Rattle.fbl_dumps.specs.Losses.{IsDumpOrphan, lost_determinants}
+use Rattle.fbl_trace.specs.Losses.{IsDumpOrphan, lost_determinants}
 use Rattle.fbl_group.specs.declared.answers.Receipted.{Receipted}
 use Rattle.fbl_group.specs.declared.answers.Recovered.{Recovered}
 use Rattle.fbl_law.specs.Groups.{GroupRecord, member, messages_in_flight}
 use Rattle.fbl_law.specs.Promises.{dump_of}
 use Rattle.fbl_records.specs.DumpLines.{dump_line}
-use Rattle.fbl_records.specs.Lines.{lost_line, orphans_line}
+use Rattle.fbl_input.specs.Lines.{lost_line, orphans_line}
 use Rattle.fbl_input.specs.Lines.{line}
 use Rattle.fbl_input.specs.Lines.{set_words}
 use Rattle.fbl_turns.specs.declared.counted.Drained.{Drained}

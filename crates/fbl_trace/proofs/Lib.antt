@@ -4,3 +4,4 @@ pub mod RulesLaws
 pub mod PrecedenceLaws
 pub mod LawfulLaws
 pub mod Sets
+pub mod DumpLaws

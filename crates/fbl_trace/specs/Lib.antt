@@ -9,3 +9,5 @@ pub mod Precedence
 pub mod Rules
 pub mod MemberSets
 pub mod Breaches
+pub mod Dumps
+pub mod Losses

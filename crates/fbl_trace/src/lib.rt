@@ -1,9 +1,10 @@
-//! Types, behaviours and the rules of a trace.
+//! Types, behaviours, the rules of a trace, and dumps of traces.
 #![tactic(auto)]
 
 mod behaviour;
 mod config;
 mod content;
+mod dump;
 mod fault;
 pub mod laws;
 mod limits;
@@ -19,6 +20,7 @@ mod trace;
 pub use behaviour::{Behaviour, Mix, Relay};
 pub use config::{Config, ConfigRefusal, GroupRule, group_breach};
 pub use content::{Content, Exact};
+pub use dump::{Dump, DumpRefusal, RawDump, check_dump, checked_dump};
 pub use fault::{
     Breach, EntryRule, EventFault, EventRule, Outsider, PairFault, PairRule, PlanFault, StartRule,
 };

@@ -1,4 +1,4 @@
-use Rattle.fbl_dumps.specs.Dumps.{parts_of}
+use Rattle.fbl_trace.specs.Dumps.{parts_of}
 use Rattle.fbl_runs.specs.Logs.{parts_of_log}
 use Rattle.fbl_order.proofs.RecordingLaws.{same_fault}
 use Rattle.fbl_order.specs.Recordings.{RefusesMerge}

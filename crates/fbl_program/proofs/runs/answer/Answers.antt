@@ -1,6 +1,6 @@
-use Rattle.fbl_records.specs.Lines.{audit_lines}
-use Rattle.fbl_records.specs.Texts.{IsCheckText, IsChecked, says_nothing}
-use Rattle.fbl_records.specs.declared.check_text.Checked.{Checked}
+use Rattle.fbl_verdicts.specs.Lines.{audit_lines}
+use Rattle.fbl_verdicts.specs.Texts.{IsCheckText, IsChecked, says_nothing}
+use Rattle.fbl_verdicts.specs.declared.check_text.Checked.{Checked}
 use Rattle.fbl_pictures.specs.RunPictures.{IsRunPicture}
 use Rattle.std.proofs.Common.{map}
 use Rattle.fbl_program.proofs.Common.{◌≡◌, Audit, Check, Draw, IsAnswerTo, IsPlaceMissing, refl, true}

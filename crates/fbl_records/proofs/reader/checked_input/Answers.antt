@@ -1,5 +1,5 @@
 use Rattle.std.proofs.Common.{ap, ◌∙◌, Ok}
-use Rattle.fbl_dumps.specs.Dumps.{parts_of}
+use Rattle.fbl_trace.specs.Dumps.{parts_of}
 use Rattle.fbl_runs.specs.Logs.{parts_of_log}
 use Rattle.fbl_input.proofs.Unread.{is_passed}
 use Rattle.fbl_records.specs.Logs.{IsNotChecked}

@@ -1,4 +1,4 @@
-use Rattle.fbl_dumps.specs.Dumps.{parts_of}
+use Rattle.fbl_trace.specs.Dumps.{parts_of}
 use Rattle.fbl_records.proofs.Records.{dump_refusal}
 use Rattle.fbl_records.proofs.reader.dump_of.Goals as goal
 

@@ -1,6 +1,6 @@
 use Rattle.fbl_runs.proofs.Common.{arith, true, sym, subst, inl, inr, refl, ℕ, List, Entry}
 use Rattle.fbl_trace.specs.MemberSets.{AllBelow}
-use Rattle.fbl_dumps.specs.declared.refusal.DumpRefusal.TheVariants.{BadEvent, BadStrike}
+use Rattle.fbl_trace.specs.declared.dump.refusal.DumpRefusal.TheVariants.{BadEvent, BadStrike}
 use Rattle.fbl_runs.specs.declared.fault.LogBreach.TheVariants.{Life, Record}
 use Rattle.fbl_runs.specs.Lawful.{IsFirstBad, ObeysAt}
 use Rattle.fbl_runs.specs.Logs.{parts_of_log}

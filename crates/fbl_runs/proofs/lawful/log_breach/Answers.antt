@@ -1,12 +1,12 @@
 use Rattle.fbl_runs.proofs.Common.{ℕ, false, ◌≡◌, ◌≤◌, Option, Some, None, arith, inl, length, refl, marks, slice_get_within}
 use Rattle.std.proofs.Common.{MatchOption}
 use Rattle.std.specs.Option.{unwrap_or}
-use Rattle.fbl_dumps.specs.Dumps.{RefusesDump, IsDumpBreach}
+use Rattle.fbl_trace.specs.Dumps.{RefusesDump, IsDumpBreach}
 use Rattle.fbl_trace.specs.declared.fault.Breach.{Breach}
 use Rattle.fbl_trace.specs.declared.fault.Breach.TheVariants as breach
 use Rattle.fbl_trace.specs.declared.fault.EventFault.{EventFault}
-use Rattle.fbl_dumps.specs.declared.refusal.DumpRefusal.{DumpRefusal}
-use Rattle.fbl_dumps.specs.declared.refusal.DumpRefusal.TheVariants.{BadEvent, BadHeld}
+use Rattle.fbl_trace.specs.declared.dump.refusal.DumpRefusal.{DumpRefusal}
+use Rattle.fbl_trace.specs.declared.dump.refusal.DumpRefusal.TheVariants.{BadEvent, BadHeld}
 use Rattle.fbl_runs.specs.Lawful.{IsEventPlace}
 use Rattle.fbl_runs.specs.Logs.{IsBreachBy, RunParts, RefusesPlain, parts_of_log, trace_of}
 use Rattle.fbl_runs.specs.declared.fault.LogBreach.TheVariants.{Trace}

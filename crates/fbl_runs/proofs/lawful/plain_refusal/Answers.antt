@@ -1,5 +1,5 @@
 use Rattle.fbl_runs.proofs.Common.{false, sym, subst, inl, inr, refl, ℕ, List, Entry}
-use Rattle.fbl_dumps.specs.declared.refusal.DumpRefusal.TheVariants.{BadEvent}
+use Rattle.fbl_trace.specs.declared.dump.refusal.DumpRefusal.TheVariants.{BadEvent}
 use Rattle.fbl_runs.specs.declared.fault.LogBreach.TheVariants.{Record}
 use Rattle.fbl_runs.specs.ControlMessages.{AreTold, IsFirstUntold}
 use Rattle.fbl_runs.specs.Lawful.{IsFirstBad, ObeysAt}

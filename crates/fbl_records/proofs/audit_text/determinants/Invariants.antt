@@ -1,5 +1,0 @@
-use Rattle.fbl_records.proofs.Common.{◌≡◌, map, take}
-use Rattle.fbl_records.proofs.audit_text.determinants.Given as goal
-
-abbrev pub invariant-loop-receipt : goal.invariant-loop-receipt
-invariant-loop-receipt l = l.determinants.items ≡ map (λ r. r.determinant) (take l.receipt-index l.lost)

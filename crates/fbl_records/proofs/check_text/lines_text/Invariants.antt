@@ -1,6 +1,0 @@
-use Rattle.fbl_records.proofs.Common.{take, string_bytes}
-use Rattle.fbl_records.specs.Texts.{AreCheckLines}
-use Rattle.fbl_records.proofs.check_text.lines_text.Given as goal
-
-abbrev pub invariant-loop-one : goal.invariant-loop-one
-invariant-loop-one l = AreCheckLines l.sources (take l.one-index l.said) (string_bytes l.text)

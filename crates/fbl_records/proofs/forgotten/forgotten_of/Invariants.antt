@@ -1,5 +1,0 @@
-use Rattle.fbl_records.proofs.ForgottenLaws.{AreFound}
-use Rattle.fbl_records.proofs.forgotten.forgotten_of.Given as goal
-
-abbrev pub invariant-loop-restart : goal.invariant-loop-restart
-invariant-loop-restart l = AreFound l.pasts.entries l.reason l.all l.restart-index l.restarts.items

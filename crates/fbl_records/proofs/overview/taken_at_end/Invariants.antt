@@ -1,5 +1,0 @@
-use Rattle.fbl_records.proofs.InFlightLaws.{AreTakenBelow}
-use Rattle.fbl_records.proofs.overview.taken_at_end.Given as goal
-
-abbrev pub invariant-loop-place : goal.invariant-loop-place
-invariant-loop-place l = AreTakenBelow l.pasts.entries l.place l.taken.items

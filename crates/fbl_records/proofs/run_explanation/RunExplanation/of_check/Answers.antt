@@ -1,5 +1,0 @@
-use Rattle.fbl_records.proofs.Sayings.{all_said}
-use Rattle.fbl_records.proofs.run_explanation.RunExplanation.of_check.Goals as goal
-
-pub unsafe_reasons-requires : goal.unsafe_reasons-requires
-unsafe_reasons-requires c = rw c.as_slice.ensures.value (all_said _ _ _ _ c.requires.says)
