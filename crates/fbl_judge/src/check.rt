@@ -327,7 +327,8 @@ fn first_in_view(
 fn first_candidate(pasts: &Pasts<'_>, place: usize, determinant: &Determinant) -> Option<Candidate>
     requires run { IsRun pasts.now }
     requires receipt { IsReceiptHere pasts.now.entries place determinant.now }
-    ensures { (i : Position) → StandsAt pasts.now.entries place i → IsFirstAmong (run_of pasts.now) i determinant.now IsAny result }
+    ensures { (i : Position) → StandsAt pasts.now.entries place i
+        → IsFirstAmong (run_of pasts.now) i determinant.now IsAny result }
 {
     let mut first = None;
     for view in pasts.views() {

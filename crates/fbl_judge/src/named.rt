@@ -237,7 +237,8 @@ fn named_by(pasts: &Pasts<'_>, receipt: usize, member: Member, moment: &Clock) -
     requires { receipt < length pasts.now.entries }
     ensures { (i : Position) → StandsAt pasts.now.entries receipt i
         → MatchOption result (¬ (DependsAt (log_of pasts.now.entries) (cut_of moment.now) i member))
-        (λ place. (k : Position) × StandsAt pasts.now.entries place k × IsNamed (run_of pasts.now) i member (cut_of moment.now) k) }
+        (λ place. (k : Position) × StandsAt pasts.now.entries place k
+        × IsNamed (run_of pasts.now) i member (cut_of moment.now) k) }
 {
     // the run obeys its rules: what happened before an entry is listed before it
     let _run = pasts.run();
@@ -258,7 +259,8 @@ pub(crate) fn named_place(
     moment: &Clock,
 ) -> usize
     requires receipt { receipt < length pasts.now.entries }
-    requires depends { (i : Position) → StandsAt pasts.now.entries receipt i → DependsAt (log_of pasts.now.entries) (cut_of moment.now) i member }
+    requires depends { (i : Position) → StandsAt pasts.now.entries receipt i
+        → DependsAt (log_of pasts.now.entries) (cut_of moment.now) i member }
     ensures { (i : Position) → StandsAt pasts.now.entries receipt i
         → (k : Position) × StandsAt pasts.now.entries result k × IsNamed (run_of pasts.now) i member (cut_of moment.now) k }
 {

@@ -76,10 +76,12 @@ fn reason_at(
     requires place { receipt.now.place < length pasts.now.entries }
     requires within { (q : ℕ) → cut_of receipt.now.moment q ≤ length (log_of pasts.now.entries q) }
     ensures receipt { IfOk result
-        (λ reason. (reason.place ≡ receipt.now.place) × (reason.determinant ≡ receipt.now.determinant) × (reason.at ≡ receipt.now.at)
+        (λ reason. (reason.place ≡ receipt.now.place) × (reason.determinant ≡ receipt.now.determinant)
+        × (reason.at ≡ receipt.now.at)
         × (reason.strike ≡ receipt.now.strike)) }
     ensures reason { (i : Position) → StandsAt pasts.now.entries receipt.now.place i
-        → IfOk result (IsReasonAt pasts.now i (cut_of receipt.now.moment) (DependsIn pasts.now i (cut_of receipt.now.moment) receipt.now.shown)) }
+        → IfOk result (IsReasonAt pasts.now i (cut_of receipt.now.moment)
+        (DependsIn pasts.now i (cut_of receipt.now.moment) receipt.now.shown)) }
 {
     let UnsafeReceipt {
         place,

@@ -105,7 +105,8 @@ impl KnownTrace {
     /// Takes in the entry, the next one, which breaks no rule.
     fn add(&mut self, n: u8, entry: &Entry) -> Result<(), AllocError>
         requires members { n ≤ 16 }
-        requires may { (before : List Entry) × KnowsTrace before self.old × Obeys false n before × MayCome false n before entry.now }
+        requires may { (before : List Entry) × KnowsTrace before self.old × Obeys false n before
+            × MayCome false n before entry.now }
         ensures { OnOk result
             ((before : List Entry) → KnowsTrace before self.old → KnowsTrace (before ++ entry.now ∷ []) self.new) }
     {
@@ -143,9 +144,11 @@ impl Known {
     /// Takes in the entry, the next one, which breaks no rule and has so many others before it.
     pub(crate) fn add(&mut self, n: u8, entry: &Entry, number: usize) -> Result<(), AllocError>
         requires members { n ≤ 16 }
-        requires may { (lived : Bool) × (before : List Entry) × Knows lived before self.old × Obeys lived n before × MayCome lived n before entry.now }
+        requires may { (lived : Bool) × (before : List Entry) × Knows lived before self.old × Obeys lived n before
+            × MayCome lived n before entry.now }
         ensures { OnOk result
-            ((lived : Bool) (before : List Entry) → Knows lived before self.old → MayCome lived n before entry.now → number ≡ length before
+            ((lived : Bool) (before : List Entry) → Knows lived before self.old → MayCome lived n before entry.now
+            → number ≡ length before
             → Knows lived (before ++ entry.now ∷ []) self.new) }
     {
         match self {

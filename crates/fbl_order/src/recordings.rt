@@ -99,7 +99,8 @@ impl Recordings {
 
     /// These and the next one, where it is of their version.
     fn with(self, alloc: Global, next: RawRecording) -> Result<Recordings, MergeFault>
-        ensures recordings { (found : List RawRecording) → AreRecordings found self → IfOk result (AreRecordings (found ++ next ∷ [])) }
+        ensures recordings { (found : List RawRecording) → AreRecordings found self
+            → IfOk result (AreRecordings (found ++ next ∷ [])) }
         ensures refused { (found rest : List RawRecording) → AreRecordings found self
             → IfErr result (RefusesVersions (found ++ next ∷ rest)) }
     {

@@ -106,7 +106,8 @@ impl TokenShape<(Member, Determinant)> for PairTokens {
 }
 
 fn next_send(reader: &mut Reader<'_>) -> Option<Mark>
-    ensures { IfSome result (λ event. (ds : List Data) × AreNext 124 reader.old ds reader.new × (send_from ds ≡ Some (Event event))) }
+    ensures { IfSome result (λ event. (ds : List Data) × AreNext 124 reader.old ds reader.new
+        × (send_from ds ≡ Some (Event event))) }
 {
     let from = next_member(reader)?;
     let ssn = next_count(reader)?;
@@ -116,7 +117,8 @@ fn next_send(reader: &mut Reader<'_>) -> Option<Mark>
 }
 
 fn next_receipt(reader: &mut Reader<'_>) -> Option<Mark>
-    ensures { IfSome result (λ event. (ds : List Data) × AreNext 124 reader.old ds reader.new × (receipt_named ds ≡ Some (Event event))) }
+    ensures { IfSome result (λ event. (ds : List Data) × AreNext 124 reader.old ds reader.new
+        × (receipt_named ds ≡ Some (Event event))) }
 {
     let to = next_member(reader)?;
     let rsn = next_count(reader)?;
@@ -259,7 +261,8 @@ impl Fields {
 
 /// The fields of the object that comes next, if they are those of a dump.
 fn next_fields(alloc: Global, reader: &mut Reader<'_>) -> Result<Option<Fields>, AllocError>
-    ensures { IfOk result (λ found. IfSome found (λ fields. (ms : Members) × IsNext 127 reader.old (object ms) reader.new × AreFieldsOf ms fields)) }
+    ensures { IfOk result (λ found. IfSome found (λ fields. (ms : Members)
+        × IsNext 127 reader.old (object ms) reader.new × AreFieldsOf ms fields)) }
 {
     let mut fields = Fields {
         members: None,

@@ -251,7 +251,8 @@ fn write_field<T: Copy, F: Form<T>>(
     name: &str,
     items: &[T],
 ) -> Result<(), AllocError>
-    ensures written { OnOk result (AppendsTokens (key name.now ∷ json_tokens (outline (list_data (map F.form items.now)))) out.old out.new) }
+    ensures written { OnOk result (AppendsTokens
+        (key name.now ∷ json_tokens (outline (list_data (map F.form items.now)))) out.old out.new) }
     ensures reads_back { OnOk result (IsReadBack (λ xs. list_data (map F.form xs)) (list_of F.shape) (suc F.depth) items.now) }
 {
     out.key(name)?;

@@ -88,7 +88,8 @@ impl Clocks {
     fn kept(&self, place: usize) -> Option<&Clock>
         ensures { MatchOption result
             ((q : ℕ) → kept_cut self.now.kept.items (arrival_at self.now.arrivals.items (Some place)) q ≡ 0)
-            (λ clock. (q : ℕ) → kept_cut self.now.kept.items (arrival_at self.now.arrivals.items (Some place)) q ≡ cut_of clock.now q) }
+            (λ clock. (q : ℕ) → kept_cut self.now.kept.items (arrival_at self.now.arrivals.items (Some place)) q
+            ≡ cut_of clock.now q) }
     {
         self.kept.get(self.arrival(Some(place))?)
     }
@@ -181,7 +182,8 @@ impl Clocks {
         ensures grown { OnOk result ((more : List Clock) × (self.new.kept.items ≡ self.old.kept.items ++ more)) }
         ensures within { IfOk result (IsBelow (length self.new.kept.items)) }
         ensures clock { IfOk result (λ arrival. (entries : _) (p count : ℕ) → AreLinks entries links.now
-            → HasSeen self.old.causality entries links.now p self.old → AreBelow p predecessors.now → IsAmong entries predecessors.now.before count
+            → HasSeen self.old.causality entries links.now p self.old → AreBelow p predecessors.now
+            → IsAmong entries predecessors.now.before count
             → (cut : Cut) × IsJoined self.old.causality entries links.now predecessors.now cut
             × ((q : ℕ) → reached_cut (kept_cut self.new.kept.items arrival) column count q ≡ reached_cut cut column count q)) }
         ensures rest { OnOk result
@@ -239,7 +241,8 @@ impl Clocks {
     pub fn precedes(&self, index: &Index<'_>, first: usize, second: usize) -> bool
         requires first { first < length index.now }
         requires second { second < length index.now }
-        ensures { (c : _) (i j : Position) → AreClocks c index.now self.now → StandsAt index.now first i → StandsAt index.now second j
+        ensures { (c : _) (i j : Position) → AreClocks c index.now self.now → StandsAt index.now first i
+            → StandsAt index.now second j
             → (result ≡ true) ↔ Precedes c (log_of index.now) i j }
     {
         let Some(column) = self.columns.get(first) else {

@@ -80,7 +80,8 @@ fn receipts_among(events: &[StandingEvent]) -> usize
 
 /// The member's events that stand.
 fn standing(lives: &Lives, member: Member) -> &[StandingEvent]
-    ensures { (before : _) → HasLived before lives.now → AreEvents (log_of before member) (standing (log_of before member)) result.now }
+    ensures { (before : _) → HasLived before lives.now
+        → AreEvents (log_of before member) (standing (log_of before member)) result.now }
 {
     lives.logs[member.number() as usize].standing.as_slice()
 }

@@ -93,7 +93,8 @@ fn last_standing(log: &KnownLog) -> Option<usize>
 /// What leads to the entry at once: the last one that the lives have.
 fn link_to(lives: &Lives, entry: &Entry) -> Link
     requires { (before : List _) × HasLived before lives.now × (1 ≤ length (log_of before (entry_member entry.now))) }
-    ensures new { (n : _) (entries : _) (place : _) (j : _) → AreLawful n entries → StandsAt entries place j → slice_get entries place ≡ Some entry.now
+    ensures new { (n : _) (entries : _) (place : _) (j : _) → AreLawful n entries → StandsAt entries place j
+        → slice_get entries place ≡ Some entry.now
         → HasLived (take (place + 1) entries) lives.now → IsNewLink entries lives.now.lives.items j result }
     ensures undone { result.undone ≡ None }
 {

@@ -151,7 +151,8 @@ impl Lives {
             → HasLived (before ++ entry.now ∷ []) self.new) }
         ensures kept { OnOk result
             ((n : _) (before : List _) → HasLived before self.old → IsLawful n before entry.now → place ≡ length before
-            → (number member life : ℕ) → IsLifeAt self.old.lives.items number member life → IsLifeAt self.new.lives.items number member life) }
+            → (number member life : ℕ) → IsLifeAt self.old.lives.items number member life
+            → IsLifeAt self.new.lives.items number member life) }
     {
         let at = entry.member().number() as usize;
         let number = self.logs[at].add(entry, place)?;
@@ -193,7 +194,8 @@ impl Lives {
         ensures lives { OnOk result
             ((log : _) → slice_get self.old.logs.items restart.member ≡ Some log
             → (sends : _) × (sends.items ≡ filter (λ e. is_send e.entry) log.standing.items)
-            × (self.new.lives.items ≡ self.old.lives.items ++ record { member = restart.member; life = restart.life; restart = Some number; sends = sends } ∷ [])
+            × (self.new.lives.items ≡ self.old.lives.items
+            ++ record { member = restart.member; life = restart.life; restart = Some number; sends = sends } ∷ [])
             × (self.new.logs.items ≡ slice_set self.old.logs.items restart.member (record log { life = length self.old.lives.items }))) }
         ensures tells { OnOk result (self.new.tells ≡ self.old.tells) }
     {

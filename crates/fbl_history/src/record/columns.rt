@@ -96,7 +96,8 @@ fn is_same(mark: &Mark, other: &Mark) -> bool
 
 /// The one member is told what is untold of the other.
 fn tell_of_lives(written: &mut Written, from: Member, to: Member) -> Result<(), AllocError>
-    ensures told { OnOk result (written.new.entries.items ≡ written.old.entries.items ++ map Told (filter (is_between from to) written.old.untold.items)) }
+    ensures told { OnOk result (written.new.entries.items ≡ written.old.entries.items
+        ++ map Told (filter (is_between from to) written.old.untold.items)) }
     ensures untold { OnOk result (written.new.untold.items ≡ filter (is_not_between from to) written.old.untold.items) }
     ensures lives { written.new.lives ≡ written.old.lives }
     ensures saved { written.new.saved ≡ written.old.saved }

@@ -255,7 +255,8 @@ pub(super) fn push_backs<B: Behaviour<State = u64, Note = Note>>(
     lives: &[u32; 16],
     members: MemberSet,
 ) -> Result<(), AllocError>
-    ensures { OnOk result (entries.new.items ≡ entries.old.items ++ restart_entries group.now lives.now members group.now.config.members) }
+    ensures { OnOk result (entries.new.items ≡ entries.old.items
+        ++ restart_entries group.now lives.now members group.now.config.members) }
 {
     for number in 0..group.config().members() {
         let member = Member::at(number);
